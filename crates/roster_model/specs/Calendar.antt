@@ -1,0 +1,89 @@
+-- Instants, periods, and the days round a month. An instant is a number of minutes since
+-- 1970-01-01T00:00Z. The calendar is the Gregorian one, as `jiff` has it.
+use Rattle.std.specs.Prelude.{ℕ, ◌+◌, ◌-◌, ◌*◌, Bool, ◌&&◌, if◌then◌else◌, List, map, Option, Some, None, pos, unsigned_abs, min, max, nat_le, codes}
+use Rattle.std.specs.List.{range_with_len}
+use Rattle.std.specs.Int.{is_in_range}
+use Rattle.jiff_core.specs.Calendar.{days_in_month, days_from_civil}
+use Rattle.roster_model.specs.Form.{has_shape, number_at}
+
+-- days since 1 January 1970, for a date not before it
+abbrev pub day_number : ℕ → ℕ → ℕ → ℕ
+day_number year month day = unsigned_abs (days_from_civil (pos year) month day)
+
+-- a day of the calendar
+abbrev pub is_real_date : ℕ → ℕ → ℕ → Bool
+is_real_date year month day =
+    is_in_range 1 12 month && is_in_range 1 (days_in_month (pos year) month) day
+
+-- `YYYY-MM-DDTHH:MMZ`: a real date of the years 1970 to 9998, from 00:00 to 23:59
+unfoldable pub is_instant : List ℕ → Bool
+is_instant text =
+    has_shape (codes "0000-00-00T00:00Z") text && is_in_range 1970 9998 (number_at text 0 4)
+    && is_real_date (number_at text 0 4) (number_at text 5 7) (number_at text 8 10)
+    && nat_le (number_at text 11 13) 23
+    && nat_le (number_at text 14 16) 59
+
+-- the instant that the text spells, if it does
+unfoldable pub instant_of : List ℕ → Option ℕ
+instant_of text =
+    if is_instant text then Some
+    (day_number (number_at text 0 4) (number_at text 5 7) (number_at text 8 10) * 1440
+    + number_at text 11 13 * 60
+    + number_at text 14 16)
+    else None
+
+-- a month of a year
+pub record Period : Type 0 where
+  pub year : ℕ
+  pub month : ℕ
+
+-- `YYYY-MM`: a month of the years 1971 to 9997
+unfoldable pub period_of : List ℕ → Option Period
+period_of text =
+    if has_shape (codes "0000-00") text && is_in_range 1971 9997 (number_at text 0 4)
+    && is_in_range 1 12 (number_at text 5 7)
+    then Some (record { year = number_at text 0 4; month = number_at text 5 7 }) else None
+
+-- The window of a book reaches from 35 days before the month's first day to 14 days after its last.
+abbrev pub days_before : ℕ
+days_before = 35
+
+abbrev pub days_after : ℕ
+days_after = 14
+
+abbrev pub days_of_month : Period → ℕ
+days_of_month period = days_in_month (pos period.year) period.month
+
+-- the days of the window, N
+abbrev pub days_of_window : Period → ℕ
+days_of_window period = days_before + days_of_month period + days_after
+
+-- the day number of the window's first day, which is day 0 of the window
+abbrev pub first_day : Period → ℕ
+first_day period = day_number period.year period.month 1 - days_before
+
+-- The days of a window as a base's clocks show them. Day i reaches from `mid` at i to `mid` at
+-- i + 1, so `mid` has one instant more than the window has days. `eight` and `ten` are the instants
+-- of 08:00 and 22:00, between which no night lies. (Local day: ORO.FTL.105.)
+pub record Days : Type 0 where
+  pub month_days : ℕ
+  pub mid : List ℕ
+  pub eight : List ℕ
+  pub ten : List ℕ
+
+-- the instants of one minute of the day on each of n days, at UTC
+abbrev pub utc_instants : ℕ → ℕ → ℕ → List ℕ
+utc_instants minute day n = map (λ d. d * 1440 + minute) (range_with_len day n)
+
+-- the days of a base whose clocks show UTC
+unfoldable pub utc_days : Period → Days
+utc_days period = record {
+  month_days = days_of_month period;
+  mid = utc_instants 0 (first_day period) (days_of_window period + 1);
+  eight = utc_instants 480 (first_day period) (days_of_window period);
+  ten = utc_instants 1320 (first_day period) (days_of_window period);
+}
+
+-- the minutes that the interval from a to b shares with the one from c to d
+abbrev pub common : ℕ → ℕ → ℕ → ℕ → ℕ
+common a b c d = min b d - max a c

@@ -1,0 +1,10 @@
+pub mod Form
+pub mod Calendar
+pub mod Zone
+pub mod Book
+pub mod Faults
+pub mod Rules
+pub mod Rosters
+pub mod Sums
+pub mod Texts
+pub mod Answer
