@@ -1,0 +1,121 @@
+-- Dates, and the numbers of their days.
+use Rattle.std.proofs.Common.{◌≡◌, ◌∙◌, ℕ, ◌+◌, ◌<◌, ◌≤◌, true, false, ℤ, pos, neg_ℤ, ◌≤ℤ◌, ap, arith, to_z, of_z, w8, w16, w32, inl, inr, Result, Ok, Err, Some}
+use Rattle.std.specs.Result.{result_ok}
+use Rattle.std.proofs.lemmas.Bool.{and_from, and_parts, le-leb, leb-true, cases_Bool, cases_lt}
+use Rattle.std.proofs.lemmas.Int.{ints}
+use Rattle.std.specs.Int.{is_in_range}
+use Rattle.jiff_core.proofs.CalendarLemmas.{day_count-epoch, days_from_civil-day_count, day_count-day_of_year, day_count-later_year}
+use Rattle.jiff_core.proofs.SignedLemmas.{signed_arith}
+use Rattle.jiff_core.specs.Calendar.{IsDate, IsEpochDay, days_in_month, days_from_civil, day_count}
+use Rattle.jiff_core.specs.Date.{IsYmd, epoch_day}
+use Rattle.jiff_core.specs.declared.civil.date.Date.{Date}
+use Rattle.roster_model.specs.Calendar.{is_real_date, day_number}
+
+is_between : (low high n : ℕ) → pos low ≤ℤ pos n → pos n ≤ℤ pos high → is_in_range low high n ≡ true
+is_between low high n above below = and_from _ _ (le-leb low n (omega (arith, ints))) (le-leb n high (omega (arith, ints)))
+
+-- what `jiff` has as a date is a day of the calendar
+pub is_real_from_date : (year month day : ℕ) → IsDate (pos year) (pos month) (pos day) → is_real_date year month day ≡ true
+is_real_from_date year month day is =
+    and_from _ _ (is_between 1 12 month is.1.0 is.1.1) (is_between 1 (days_in_month (pos year) month) day is.2.0 is.2.1)
+
+at_least : (low n : ℕ) → low ≤ n → pos low ≤ℤ pos n
+at_least low n h = omega (arith, ints)
+
+negative_below : (n : ℕ) → neg_ℤ (pos 9999) ≤ℤ pos n
+negative_below n = omega (arith, ints)
+
+-- and the other way
+pub date_from_is_real : (year month day : ℕ) → year ≤ 9998 → is_real_date year month day ≡ true → IsDate (pos year) (pos month) (pos day)
+date_from_is_real year month day last is =
+    let parts = and_parts (is_in_range 1 12 month) (is_in_range 1 (days_in_month (pos year) month) day) is in
+    let months = and_parts _ _ parts.0 in
+    let days = and_parts _ _ parts.1 in (
+      (negative_below year, at_least year 9999 (omega arith)),
+      (at_least 1 month (leb-true 1 month months.0), at_least month 12 (leb-true month 12 months.1)),
+      (at_least 1 day (leb-true 1 day days.0), at_least day (days_in_month (pos year) month) (leb-true day _ days.1)),
+    )
+
+-- what `jiff` refuses isn't
+pub unreal_from_refused : (year month day : ℕ) → year ≤ 9998 → (IsDate (pos year) (pos month) (pos day) → ⊥) → is_real_date year month day ≡ false
+unreal_from_refused year month day last not =
+    elim (cases_Bool (is_real_date year month day)) [
+      | inl is ↦ absurd (not (date_from_is_real year month day last is))
+      | inr is_not ↦ is_not
+    ]
+
+-- the days up to the first of a year, from 1970 on
+first_count : (year : ℕ) → 1970 ≤ year → 4_371_953 ≤ day_count (pos year) 1 1
+first_count year from =
+    elim (cases_lt 1970 year) [
+      | inl later ↦
+          let more = day_count-later_year (pos 1970) (pos year) (omega (arith, ints)) (omega (arith, ints)) in
+          omega (arith, day_count-epoch, more)
+      | inr early ↦
+          let same : year ≡ 1970 = omega arith in
+          rw (same, day_count-epoch) (omega arith)
+    ]
+
+-- no day of 1970 or later has a number below 0
+pub day_from_1970 : (year month day : ℕ) → 1970 ≤ year → 1 ≤ day → pos 0 ≤ℤ days_from_civil (pos year) month day
+day_from_1970 year month day from first =
+    let count = first_count year from in
+    let in_year = day_count-day_of_year (pos year) month day first in
+    let number = days_from_civil-day_count (pos year) month day in
+    omega (arith, signed_arith)
+
+-- so the number that a clause speaks of is the one that `jiff` has
+pub day_number_is : (year month day : ℕ) → 1970 ≤ year → 1 ≤ day → days_from_civil (pos year) month day ≡ pos (day_number year month day)
+day_number_is year month day from first =
+    let above = day_from_1970 year month day from first in
+    omega (arith, ints)
+
+-- a date that has been made of three numbers, and its day number
+pub day_of_date : (date : Date) (year month day : ℕ) (n : ℤ) → 1970 ≤ year → IsYmd (pos year) (pos month) (pos day) date → n ≡ epoch_day date → n ≡ pos (day_number year month day)
+day_of_date date year month day n from is same =
+    let months : date.month ≡ month = cc is.1 in
+    let days : date.day ≡ day = cc is.2 in
+    let there : n ≡ days_from_civil (pos year) month day = same ∙ rw (is.0, months, days) in
+    there ∙ day_number_is year month day from (omega (arith, date.day_in.0))
+
+-- what `ok` keeps
+pub Ok-from_ok : {T E : Type 0} (r : Result T E) (x : T) → Some x ≡ result_ok r → r ≡ Ok x
+Ok-from_ok (Ok y) x e = cc
+Ok-from_ok (Err d) x e = cc
+
+-- a number below 10000 in a signed type
+pub year_in_i16 : (n : ℕ) → n ≤ 9998 → to_z w16 n ≡ pos n
+year_in_i16 n h = omega (arith, ints)
+
+pub two_digits_in_i8 : (n : ℕ) → n < 100 → to_z w8 n ≡ pos n
+two_digits_in_i8 n h = omega (arith, ints)
+
+-- the day number of a date that was made of three unsigned numbers, in a signed type
+pub day_of_parts : (date plain : Date) (year month day : ℕ) (n : ℤ) → 1970 ≤ year → year ≤ 9998 → month < 100 → day < 100
+    → IsYmd (to_z w16 year) (to_z w8 month) (to_z w8 day) date → plain ≡ date → n ≡ epoch_day plain
+    → IsEpochDay n → to_z w32 (of_z w32 n) ≡ pos (day_number year month day)
+day_of_parts date plain year month day n from to month_fits day_fits is same is_day range =
+    let parts : IsYmd (pos year) (pos month) (pos day) date =
+    rw (← year_in_i16 year to, ← two_digits_in_i8 month month_fits, ← two_digits_in_i8 day day_fits) is in
+    let number = day_of_date date year month day n from parts (is_day ∙ ap epoch_day same) in
+    omega (arith, ints, range.0, range.1)
+
+-- the last day of 9999 is the last day that there is
+pub day_bound : (n : ℤ) (day : ℕ) → to_z w32 (of_z w32 n) ≡ pos day → IsEpochDay n → day ≤ 2_932_896
+day_bound n day same range = omega (arith, ints, range.0, range.1)
+
+-- a year later there are 365 days before it
+pub day_from_1971 : (year month day : ℕ) → 1971 ≤ year → 1 ≤ day → 365 ≤ day_number year month day
+day_from_1971 year month day from first =
+    let more : day_count (pos 1970) 1 1 + 365 ≤ day_count (pos year) 1 1 = day_count-later_year (pos 1970) (pos year) (omega (arith, ints)) (omega (arith, ints)) in
+    let in_year = day_count-day_of_year (pos year) month day first in
+    let number = days_from_civil-day_count (pos year) month day in
+    let same = day_number_is year month day (omega arith) first in
+    omega (arith, ints, day_count-epoch)
+
+-- the first of a month, by its number in a signed type
+pub first_of_month : (first plain : Date) (year month : ℕ) (n : ℤ) → 1971 ≤ year → IsYmd (pos year) (pos month) (pos 1) first
+    → plain ≡ first → n ≡ epoch_day plain → IsEpochDay n → to_z w32 (of_z w32 n) ≡ pos (day_number year month 1)
+first_of_month first plain year month n from parts same is_day range =
+    let number = day_of_date first year month 1 n (omega arith) parts (is_day ∙ ap epoch_day same) in
+    omega (arith, ints, range.0, range.1)

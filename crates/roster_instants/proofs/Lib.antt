@@ -1,0 +1,4 @@
+pub mod TextLemmas
+pub mod CalendarLemmas
+pub mod DayLemmas
+pub mod WindowLemmas

@@ -1,0 +1,19 @@
+//! Instants, months, and the days round a month as a base's clocks show them, on `jiff`.
+//!
+//! `read_minute` and `Period::read` read exactly the texts that `roster_model`'s calendar gives an
+//! instant or a month, `common` is the time that two intervals share, and `BaseDays::build` makes
+//! the table of local days that a zone text stands for, or refuses the text. Only the table takes
+//! memory.
+#![tactic(auto)]
+
+mod days;
+mod minute;
+mod period;
+mod text;
+
+pub use days::{BaseDays, ZoneFault};
+pub use minute::{Minute, common, read_minute};
+pub use period::Period;
+
+#[cfg(test)]
+mod tests;

@@ -1,0 +1,89 @@
+ghost use Rattle.std.specs.Prelude.{◌≡◌, ◌+◌, ◌*◌, ◌≤◌, ◌<◌, pos, ℕ, true, false, MatchOption};
+ghost use Rattle.std.specs.Int.{is_in_range};
+ghost use Rattle.roster_model.specs.Calendar.{common as minutes_in_common, day_number, is_real_date, instant_of};
+
+use crate::text::{has_shape, is_in_range, number_at};
+use jiff::civil::Date;
+use std::marker::Model;
+
+/// An instant: whole minutes since 1970-01-01T00:00Z, from 0 to 5000000000, which the type keeps.
+#[derive(Clone, Copy, Debug, Drop, PartialEq, Eq, PartialOrd, Ord)]
+pub struct Minute {
+    minutes: i64,
+}
+
+impl Model for Minute {
+    ghost use Rattle.std.specs.Prelude.{ℕ, ◌≤◌, ◌≤ℤ◌, pos, unsigned_abs};
+
+    ghost Value = { ℕ };
+
+    ghost view = { λ m. unsigned_abs m.minutes };
+
+    ghost invariant = { λ m. (pos 0 ≤ℤ m.minutes) × (m.minutes ≤ℤ pos 5_000_000_000) };
+
+    ghost inverse = { λ n. record { minutes = pos n } };
+}
+
+impl Minute {
+    /// The instant of a minute of the day, from 0 to 1439, on the day with this number at UTC, which
+    /// may lie some days past the year 9999.
+    pub(crate) fn on_day(day: u32, minute: u32) -> Minute
+        requires last { day ≤ 3_000_000 }
+        requires within { minute < 1440 }
+        ensures { result ≡ day * 1440 + minute }
+    {
+        Minute {
+            minutes: (u64::from(day) * 1440 + u64::from(minute)) as i64,
+        }
+    }
+
+    /// The minutes since 1970-01-01T00:00Z.
+    pub fn get(self) -> i64
+        ensures value { result ≡ pos self }
+        ensures bound { self ≤ 5_000_000_000 }
+    {
+        self.minutes
+    }
+}
+
+/// The minutes, from 0, that the interval from `a` to `b` shares with the one from `c` to `d`.
+pub fn common(a: Minute, b: Minute, c: Minute, d: Minute) -> i64
+    requires first { a ≤ b }
+    requires second { c ≤ d }
+    ensures { result ≡ pos (minutes_in_common a b c d) }
+{
+    let from = a.get().max(c.get());
+    let to = b.get().min(d.get());
+    (to - from).max(0)
+}
+
+/// The day number of a date of the years 1970 to 9998, from 0 for 1970-01-01, if the calendar has
+/// the date.
+fn day_number(year: u16, month: u16, day: u16) -> Option<u32>
+    requires from { 1970 ≤ year }
+    requires to { year ≤ 9998 }
+    requires month_fits { month < 100 }
+    requires day_fits { day < 100 }
+    ensures { MatchOption result (is_real_date year month day ≡ false)
+        (λ n. (is_real_date year month day ≡ true) × (n ≡ day_number year month day) × (n ≤ 2_932_896)) }
+{
+    let date = Date::new(year as i16, month as i8, day as i8).ok()?;
+    Some(date.to_plain().to_unix_epoch_day() as u32)
+}
+
+/// The instant that a text `YYYY-MM-DDTHH:MMZ` spells, of the years 1970 to 9998.
+pub fn read_minute(text: &[u8]) -> Option<Minute>
+    ensures { result ≡ instant_of text.now }
+{
+    if !has_shape(b"0000-00-00T00:00Z", text) {
+        return None;
+    }
+    let year = number_at(text, 0, 4);
+    let hour = number_at(text, 11, 13);
+    let minute = number_at(text, 14, 16);
+    if !is_in_range(1970, 9998, year) || hour > 23 || minute > 59 {
+        return None;
+    }
+    let day = day_number(year, number_at(text, 5, 7), number_at(text, 8, 10))?;
+    Some(Minute::on_day(day, u32::from(hour * 60 + minute)))
+}
