@@ -1,0 +1,49 @@
+-- What the reading of a book says of the bytes that a reader has left.
+use Rattle.std.specs.Prelude.{◌≡◌, ◌+◌, ⊤, true, false, ℕ, List, ◌++◌, length, Option, Some, None, if◌then◌else◌, option_map}
+use Rattle.csv.specs.Machine.{ends_at_end}
+use Rattle.csv.specs.Reading.{Ready, default_config, has_failed, is_flexible, reader_config, reader_state, reader_trim, records_from, source_of}
+use Rattle.csv.specs.declared.parser.State.{State}
+use Rattle.csv.specs.declared.reader.Reader.{Reader}
+use Rattle.csv.specs.declared.reader.Trim.TheVariants as trim
+use Rattle.roster_book.specs.declared.fault.BookFault.{BookFault}
+use Rattle.roster_book.specs.declared.fault.BookFault.TheVariants.{At, Device, Memory}
+use Rattle.roster_book.specs.declared.reading.Stop.{Stop}
+use Rattle.roster_book.specs.declared.reading.Stop.TheVariants as stop
+use Rattle.roster_model.specs.Book.{Record, Command}
+use Rattle.roster_model.specs.Faults.{first_fault}
+
+-- where the fault is a record's, it is the first fault of the records
+abbrev pub TellsFirst : Command → List Record → BookFault → Type 0
+TellsFirst command rows (At row code) = first_fault command rows ≡ Some (record { row = row; code = code })
+TellsFirst command rows Device = ⊤
+TellsFirst command rows Memory = ⊤
+
+-- the same of a stop, before it is known whether the reader or memory failed
+abbrev pub StopsAtFirst : Command → List Record → Stop → Type 0
+StopsAtFirst command rows (stop.At row code) = first_fault command rows ≡ Some (record { row = row; code = code })
+StopsAtFirst command rows stop.Unread = ⊤
+
+-- ---- the records of a reader
+
+-- the reader works, takes no record for a header row, and takes records of any length
+pub record IsOpen {R : Type 0} (rows : Reader R) : Type 0 where
+  pub config : reader_config rows ≡ default_config
+  pub trim : reader_trim rows ≡ trim.None
+  pub ready : Ready rows
+  pub flexible : is_flexible rows ≡ true
+  pub working : has_failed rows ≡ false
+
+-- the records of known bytes, for a machine that stands between two records
+abbrev pub records_between : State → Option (List ℕ) → Option (List Record)
+records_between s bytes =
+    if ends_at_end s then None else option_map (λ known. records_from default_config (length known + 1) s known) bytes
+
+-- the records that a reader between two records has still to give, where its bytes are known
+abbrev pub records_left : {R : Type 0} → (R → Option (List ℕ)) → Reader R → Option (List Record)
+records_left remaining rows = records_between (reader_state rows) (source_of remaining rows)
+
+-- all records are those seen and then those left, where they are known
+abbrev pub AreSeen : Option (List Record) → List Record → Option (List Record) → Type 0
+AreSeen None seen left = ⊤
+AreSeen (Some all) seen None = ⊥
+AreSeen (Some all) seen (Some left) = all ≡ seen ++ left

@@ -1,0 +1,105 @@
+//! The forms of a record's fields.
+
+ghost use Rattle.std.specs.Prelude.{◌≡◌, true, unsigned_abs, option_map, if◌then◌else◌, Some, None};
+ghost use Rattle.std.specs.Char.{is_ascii_digit, is_ascii_graphic};
+ghost use Rattle.std.specs.List.{list_all};
+ghost use Rattle.std.specs.Str.{IsAscii};
+ghost use Rattle.csv.specs.Records.{fields_of};
+ghost use Rattle.roster_model.specs.Form as form;
+ghost use Rattle.roster_model.specs.Book as book;
+ghost use Rattle.roster_model.specs.Faults.{is_amount};
+
+use csv::ByteRecord;
+use std::str;
+
+/// The field at a place from 0, or no bytes where there is none.
+#[tactic(auto, using(crate::proofs::Fields::field_at_is))]
+pub(crate) fn field(row: &ByteRecord, i: usize) -> &[u8]
+    ensures { result.now ≡ book.field (fields_of row.now) i }
+{
+    row.get(i).unwrap_or(&[])
+}
+
+fn has_identifier_bytes(text: &[u8]) -> bool
+    ensures { result ≡ list_all form.is_identifier_byte text.now }
+{
+    text.iter()
+        .all(|c| c.is_ascii_alphanumeric() || *c == b'_' || *c == b'-')
+}
+
+/// Whether the text is 1 to 16 ASCII letters, digits, `_` and `-`, the first a letter or a digit.
+#[tactic(auto, unfolding(roster_model::specs::Form::is_identifier))]
+pub(crate) fn is_identifier(text: &[u8]) -> bool
+    ensures { result ≡ form.is_identifier text.now }
+{
+    (1..=16).contains(&text.len()) && text[0].is_ascii_alphanumeric() && has_identifier_bytes(text)
+}
+
+fn has_digits(text: &[u8]) -> bool
+    ensures { result ≡ list_all is_ascii_digit text.now }
+{
+    text.iter().all(|c| c.is_ascii_digit())
+}
+
+// What follows a minus, or the whole text.
+fn unsigned_part(text: &[u8]) -> &[u8]
+    ensures { result.now ≡ form.unsigned_part text.now }
+{
+    if text.starts_with(b"-") {
+        &text[1..]
+    } else {
+        text
+    }
+}
+
+/// Whether the text is a minus, which may be left out, and 1 to 12 digits.
+#[tactic(auto, unfolding(roster_model::specs::Form::is_number))]
+pub(crate) fn is_number(text: &[u8]) -> bool
+    ensures { result ≡ form.is_number text.now }
+{
+    let digits = unsigned_part(text);
+    (1..=12).contains(&digits.len()) && has_digits(digits)
+}
+
+// The bytes as text, which ASCII is.
+fn ascii(bytes: &[u8]) -> Option<&str>
+    ensures { IsAscii bytes.now → option_map (λ s. s.now) result ≡ Some bytes.now }
+{
+    str::from_utf8(bytes).ok()
+}
+
+// The number that the text spells, if it is of the form.
+fn number(text: &[u8]) -> Option<i64>
+    ensures { result ≡ (if form.is_number text.now then Some (form.number_of text.now) else None) }
+{
+    if !is_number(text) {
+        return None;
+    }
+    ascii(text)?.parse().ok()
+}
+
+/// The number that a text of the form spells, if it is from 0 to `most`.
+pub(crate) fn amount(text: &[u8], most: u32) -> Option<u32>
+    ensures { form.is_number text.now ≡ true → result ≡ (if is_amount most (form.number_of text.now) then Some (unsigned_abs (form.number_of text.now)) else None) }
+{
+    let number = u32::try_from(number(text)?).ok()?;
+    (number <= most).then_some(number)
+}
+
+fn has_graphic_bytes(text: &[u8]) -> bool
+    ensures { result ≡ list_all is_ascii_graphic text.now }
+{
+    text.iter().all(|c| c.is_ascii_graphic())
+}
+
+/// The text, if it is 1 to 64 visible ASCII bytes.
+#[tactic(auto, unfolding(roster_model::specs::Form::is_zone_text))]
+pub(crate) fn zone_text(text: &[u8]) -> Option<&str>
+    ensures { option_map (λ s. s.now) result ≡ (if form.is_zone_text text.now then Some text.now else None) }
+{
+    if (1..=64).contains(&text.len()) && has_graphic_bytes(text) {
+        ascii(text)
+    } else {
+        None
+    }
+}

@@ -1,0 +1,94 @@
+use super::*;
+use std::io;
+use std::test::*;
+
+// Gives its text byte by byte, and an error in place of the byte at `cut`.
+#[derive(Drop)]
+struct Cut<'a> {
+    text: &'a [u8],
+    at: usize,
+    cut: usize,
+}
+
+impl<'a> Read for Cut<'a> {
+    fn read(&mut self, buf: &mut [u8]) -> io::Result<usize> {
+        if self.at == self.cut {
+            return Err(io::Error::from(io::ErrorKind::BrokenPipe));
+        }
+        match (self.text.get(self.at), buf.first_mut()) {
+            (Some(byte), Some(place)) => {
+                *place = *byte;
+                self.at = self.at.saturating_add(1);
+                Ok(1)
+            }
+            _ => Ok(0),
+        }
+    }
+}
+
+#[test]
+fn a_month_alone_is_a_book(rt: HostRuntime) {
+    let mut reader = Watched::new(&b"period,2024-03\n"[..]);
+    match read_book(rt.alloc(), &mut reader, Command::Solve) {
+        Ok(book) => {
+            assert_eq!(rt; book.problem.persons().len(), 0);
+            assert_eq!(rt; book.problem.pairings().len(), 0);
+        }
+        Err(fault) => assert!(rt; false, "{fault}"),
+    }
+    assert!(rt; !reader.failed());
+}
+
+#[test]
+fn the_first_fault_is_told_by_record_and_code(rt: HostRuntime) {
+    let cases: [(&[u8], usize, u8); 9] = [
+        (b"", 1, 1),
+        (b"\n\r\n", 1, 1),
+        (b"crew\nperiod,2024-03\n", 1, 1),
+        (b"\n\nperiod,2024-13\n", 1, 4),
+        (b"\"period", 1, 3),
+        (b"period,2024-03\nbase\njump\n", 2, 3),
+        (b"period,2024-03\n\nperiod,2024-03\n", 2, 6),
+        (b"\xef\xbb\xbfperiod,2024-03\njump", 2, 2),
+        (b"period,2024-03\nbase,AMS,UTC0\npairing,P1,AMS,5\n", 3, 14),
+    ];
+    for (text, row, code) in cases {
+        let mut reader = Watched::new(text);
+        match read_book(rt.alloc(), &mut reader, Command::Solve) {
+            Err(
+                BookFault::At {
+                    row: at,
+                    code: told,
+                },
+            ) => {
+                assert_eq!(rt; at, row, "{text:?}");
+                assert_eq!(rt; told, code, "{text:?}");
+            }
+            Err(fault) => assert!(rt; false, "{text:?}: {fault}"),
+            Ok(_) => assert!(rt; false, "{text:?}: a book"),
+        }
+    }
+}
+
+#[test]
+fn a_reader_that_fails_is_told_wherever_it_fails(rt: HostRuntime) {
+    let text = b"period,2024-03\nbase,AMS,UTC0\n";
+    for cut in 0..text.len() + 1 {
+        let mut reader = Watched::new(Cut { text, at: 0, cut });
+        let outcome = read_book(rt.alloc(), &mut reader, Command::Solve);
+        assert!(rt; matches!(outcome, Err(BookFault::Device)), "at {cut}");
+        assert!(rt; reader.failed(), "at {cut}");
+    }
+}
+
+#[test]
+fn a_fault_is_told_before_the_reader_fails(rt: HostRuntime) {
+    let text = b"jump\nperiod,2024-03\n";
+    let mut reader = Watched::new(Cut {
+        text,
+        at: 0,
+        cut: 7,
+    });
+    let outcome = read_book(rt.alloc(), &mut reader, Command::Solve);
+    assert!(rt; matches!(outcome, Err(BookFault::At { row: 1, code: 1 })));
+}

@@ -1,0 +1,47 @@
+ghost use Rattle.std.specs.Prelude.{◌≡◌, length};
+
+use std::marker::Model;
+
+/// One number for each pairing in book order: the place of the person who flies it, or the number of
+/// persons where it is left open.
+#[derive(Debug, Drop)]
+pub struct Places {
+    places: Vec<u16>,
+}
+
+impl Model for Places {
+    ghost use Rattle.std.specs.Prelude.{List, ℕ};
+
+    ghost Value = { List ℕ };
+
+    ghost view = { λ p. p.places.items };
+}
+
+impl Places {
+    /// The numbers in the vector.
+    pub fn new(places: Vec<u16>) -> Places
+        ensures { result ≡ places.items }
+    {
+        Places { places }
+    }
+
+    pub fn as_slice(&self) -> &[u16]
+        ensures { result.now ≡ self.now }
+    {
+        &self.places
+    }
+
+    /// Gives the vector back.
+    pub fn into_vec(self) -> Vec<u16>
+        ensures { result.items ≡ self }
+    {
+        self.places
+    }
+}
+
+/// A roster, with what it costs.
+#[derive(Debug, Drop)]
+pub struct Roster {
+    pub places: Places,
+    pub cost: i64,
+}

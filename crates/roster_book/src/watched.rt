@@ -1,0 +1,96 @@
+ghost use Rattle.std.specs.Prelude.{◌≡◌, ◌<◌, ◌==◌, ◌||◌, ◌&&◌, nat_lt, true, false, length, IfOk, OnOk, OnErr};
+ghost use Rattle.std.specs.Io.{ReadsAtMost, WritesAtMost};
+ghost use Rattle.std.specs.Io.KnownBytes.{Keeps, ReadConsumes, WriteAppends};
+
+use std::io;
+use std::io::{Read, Write};
+
+/// A reader or writer that remembers whether it has failed.
+///
+/// It has failed where the one inside answered an error, or took none of some bytes. It then stays so.
+#[derive(Debug, Drop)]
+pub struct Watched<D> {
+    inner: D,
+    failed: bool,
+}
+
+impl<D> Watched<D> {
+    ghost use Rattle.roster_book.specs.Watch.{inner_of, has_failed};
+
+    /// A reader or writer that hasn't failed yet.
+    pub fn new(inner: D) -> Watched<D>
+        ensures inner { inner_of result ≡ inner }
+        ensures open { has_failed result ≡ false }
+    {
+        Watched {
+            inner,
+            failed: false,
+        }
+    }
+
+    /// The reader or writer inside.
+    pub fn inner(&self) -> &D
+        ensures { result.now ≡ inner_of self.now }
+    {
+        &self.inner
+    }
+
+    /// Whether it has failed.
+    pub fn failed(&self) -> bool
+        ensures { result ≡ has_failed self.now }
+    {
+        self.failed
+    }
+}
+
+impl<R: Read> Read for Watched<R> {
+    ghost use Rattle.roster_book.specs.Watch.{has_failed};
+
+    ghost remaining = { λ w. R.remaining w.inner };
+
+    fn read(&mut self, buf: &mut [u8]) -> io::Result<usize>
+        ensures bound { ReadsAtMost result buf.new }
+        ensures bytes { ReadConsumes (R.remaining self.old.inner) (R.remaining self.new.inner) result buf.new }
+        ensures goes { OnOk result (has_failed self.new ≡ has_failed self.old) }
+        ensures fails { OnErr result (has_failed self.new ≡ true) }
+    {
+        let outcome = self.inner.read(buf);
+        if outcome.is_err() {
+            self.failed = true;
+        }
+        outcome
+    }
+}
+
+impl<W: Write> Write for Watched<W> {
+    ghost use Rattle.roster_book.specs.Watch.{has_failed};
+
+    ghost contents = { λ w. W.contents w.inner };
+
+    fn write(&mut self, buf: &[u8]) -> io::Result<usize>
+        ensures bound { WritesAtMost result buf.now }
+        ensures bytes { WriteAppends (W.contents self.old.inner) (W.contents self.new.inner) result buf.now }
+        ensures goes { IfOk result (λ n. has_failed self.new ≡ (has_failed self.old || (n == 0) && nat_lt 0 (length buf.now))) }
+        ensures fails { OnErr result (has_failed self.new ≡ true) }
+    {
+        let outcome = self.inner.write(buf);
+        match &outcome {
+            Ok(0) if !buf.is_empty() => self.failed = true,
+            Ok(_) => {}
+            Err(_) => self.failed = true,
+        }
+        outcome
+    }
+
+    fn flush(&mut self) -> io::Result<()>
+        ensures bytes { Keeps (W.contents self.old.inner) (W.contents self.new.inner) }
+        ensures goes { OnOk result (has_failed self.new ≡ has_failed self.old) }
+        ensures fails { OnErr result (has_failed self.new ≡ true) }
+    {
+        let outcome = self.inner.flush();
+        if outcome.is_err() {
+            self.failed = true;
+        }
+        outcome
+    }
+}
