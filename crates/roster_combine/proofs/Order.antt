@@ -1,0 +1,153 @@
+-- Keys of rosters are in a total order.
+use Rattle.std.proofs.Common.{◌≡◌, ℕ, ◌<◌, Bool, true, false, not, ◌||◌, ◌&&◌, T, ltb, eqb, Some, nat_cmp, int_cmp, is_lt, Ordering, Less, Equal, Greater, ◌⊎◌, List, [], ◌∷◌, ℤ, ◌<ℤ◌, int_lt, int_eq, refl, sym, ap, ap₂, ◌∙◌, subst, inl, inr, arith}
+use Rattle.std.specs.Int.Signed.{lt_z_yes}
+use Rattle.std.proofs.lemmas.Bool.{false≢true, ltb-true, lt-ltb, eqb-true, eq-eqb, or_cases, or_left, or_right, and_parts, and_from, cases_order, false_from_ne_true}
+use Rattle.std.proofs.lemmas.Bool.Decides.{Decides-int_eq, nat_tests}
+use Rattle.std.proofs.lemmas.Cmp.{same_from_slice_cmp_tested, int_ranked}
+use Rattle.std.specs.Ordering.{is_some_and, MatchOrdering}
+use Rattle.std.specs.Cmp.Lexicographic.{slice_partial_cmp}
+use Rattle.std.proofs.lemmas.Int.{ints}
+use Rattle.roster_model.specs.Rosters.{Key, places_le, key_le}
+
+-- ---- the lists
+
+heads : (x y : ℕ) (xs ys : List ℕ) → places_le (x ∷ xs) (y ∷ ys) ≡ true → (x < y) ⊎ ((x ≡ y) × (places_le xs ys ≡ true))
+heads x y xs ys h =
+    elim (or_cases (ltb x y) _ h) [
+      | inl less ↦ inl (ltb-true x y less)
+      | inr same ↦ let parts = and_parts (eqb x y) _ same in inr (eqb-true x y parts.0, parts.1)
+    ]
+
+by_less : (x y : ℕ) (xs ys : List ℕ) → x < y → places_le (x ∷ xs) (y ∷ ys) ≡ true
+by_less x y xs ys h = or_left (ltb x y) _ (lt-ltb x y h)
+
+by_rest : (x y : ℕ) (xs ys : List ℕ) → x ≡ y → places_le xs ys ≡ true → places_le (x ∷ xs) (y ∷ ys) ≡ true
+by_rest x y xs ys e h = or_right (ltb x y) _ (and_from _ _ (eq-eqb x y e) h)
+
+pub places_le-refl : (xs : List ℕ) → places_le xs xs ≡ true
+places_le-refl [] = refl
+places_le-refl (x ∷ xs) = by_rest x x xs xs refl (places_le-refl xs)
+
+pub places_le-trans : (xs ys zs : List ℕ) → places_le xs ys ≡ true → places_le ys zs ≡ true → places_le xs zs ≡ true
+places_le-trans [] ys zs h g = refl
+places_le-trans (x ∷ xs) [] zs h g = absurd (false≢true h)
+places_le-trans (x ∷ xs) (y ∷ ys) [] h g = absurd (false≢true g)
+places_le-trans (x ∷ xs) (y ∷ ys) (z ∷ zs) h g =
+    elim (heads x y xs ys h) [
+      | inl less ↦ by_less x z xs zs (elim (heads y z ys zs g) [ inl more ↦ omega arith | inr same ↦ omega (arith, same.0) ])
+      | inr same ↦ elim (heads y z ys zs g) [
+        | inl more ↦ by_less x z xs zs (omega (arith, same.0))
+        | inr also ↦ by_rest x z xs zs (same.0 ∙ also.0) (places_le-trans xs ys zs same.1 also.1)
+      ]
+    ]
+
+pub places_le-antisym : (xs ys : List ℕ) → places_le xs ys ≡ true → places_le ys xs ≡ true → xs ≡ ys
+places_le-antisym [] [] h g = refl
+places_le-antisym [] (y ∷ ys) h g = absurd (false≢true g)
+places_le-antisym (x ∷ xs) [] h g = absurd (false≢true h)
+places_le-antisym (x ∷ xs) (y ∷ ys) h g =
+    elim (heads x y xs ys h) [
+      | inl less ↦ absurd (elim (heads y x ys xs g) [ inl more ↦ omega arith | inr same ↦ omega (arith, same.0) ])
+      | inr same ↦ elim (heads y x ys xs g) [
+        | inl more ↦ absurd (omega (arith, same.0))
+        | inr also ↦ ap₂ (λ a rest. a ∷ rest) same.0 (places_le-antisym xs ys same.1 also.1)
+      ]
+    ]
+
+pub places_le-total : (xs ys : List ℕ) → (places_le xs ys ≡ true) ⊎ (places_le ys xs ≡ true)
+places_le-total [] ys = inl refl
+places_le-total (x ∷ xs) [] = inr refl
+places_le-total (x ∷ xs) (y ∷ ys) =
+    elim (cases_order x y) [
+      | inl same ↦ elim (places_le-total xs ys) [
+        | inl h ↦ inl (by_rest x y xs ys same h)
+        | inr h ↦ inr (by_rest y x ys xs (sym same) h)
+      ]
+      | inr apart ↦ elim apart [
+        | inl less ↦ inl (by_less x y xs ys less)
+        | inr more ↦ inr (by_less y x ys xs more)
+      ]
+    ]
+
+-- ---- the keys
+
+is_so : (b : Bool) → T b → b ≡ true
+is_so true h = refl
+is_so false h = absurd h
+
+less_cost : (a b : ℤ) → int_lt a b ≡ true → a <ℤ b
+less_cost a b h = lt_z_yes (subst T (sym h) tt)
+
+key_cases : (a b : Key) → key_le a b ≡ true → (a.cost <ℤ b.cost) ⊎ ((a.cost ≡ b.cost) × (places_le a.places b.places ≡ true))
+key_cases a b h =
+    elim (or_cases (int_lt a.cost b.cost) _ h) [
+      | inl less ↦ inl (less_cost a.cost b.cost less)
+      | inr same ↦ let parts = and_parts (int_eq a.cost b.cost) _ same in inr ((Decides-int_eq a.cost b.cost).0 parts.0, parts.1)
+    ]
+
+by_cost : (a b : Key) → a.cost <ℤ b.cost → key_le a b ≡ true
+by_cost a b h = or_left (int_lt a.cost b.cost) _ (is_so _ h.lt)
+
+by_places : (a b : Key) → a.cost ≡ b.cost → places_le a.places b.places ≡ true → key_le a b ≡ true
+by_places a b e h = or_right (int_lt a.cost b.cost) _ (and_from _ _ ((Decides-int_eq a.cost b.cost).1 e) h)
+
+pub key_le-refl : (a : Key) → key_le a a ≡ true
+key_le-refl a = by_places a a refl (places_le-refl a.places)
+
+pub key_le-trans : (a b c : Key) → key_le a b ≡ true → key_le b c ≡ true → key_le a c ≡ true
+key_le-trans a b c h g =
+    elim (key_cases a b h) [
+      | inl less ↦ by_cost a c (elim (key_cases b c g) [ inl more ↦ omega (arith, ints) | inr same ↦ subst (λ z. a.cost <ℤ z) same.0 less ])
+      | inr same ↦ elim (key_cases b c g) [
+        | inl more ↦ by_cost a c (subst (λ z. z <ℤ c.cost) (sym same.0) more)
+        | inr also ↦ by_places a c (same.0 ∙ also.0) (places_le-trans a.places b.places c.places same.1 also.1)
+      ]
+    ]
+
+pub key_le-antisym : (a b : Key) → key_le a b ≡ true → key_le b a ≡ true → a.places ≡ b.places
+key_le-antisym a b h g =
+    elim (key_cases a b h) [
+      | inl less ↦ absurd (elim (key_cases b a g) [ inl more ↦ omega (arith, ints) | inr same ↦ omega (arith, ints, same.0) ])
+      | inr same ↦ elim (key_cases b a g) [
+        | inl more ↦ absurd (omega (arith, ints, same.0))
+        | inr also ↦ places_le-antisym a.places b.places same.1 also.1
+      ]
+    ]
+
+ranked_costs : (x y : ℤ) (r : Ordering) → MatchOrdering r (x <ℤ y) (x ≡ y) (y <ℤ x) → (x ≡ y) ⊎ ((x <ℤ y) ⊎ (y <ℤ x))
+ranked_costs x y Less h = inr (inl h)
+ranked_costs x y Equal h = inl h
+ranked_costs x y Greater h = inr (inr h)
+
+costs_order : (x y : ℤ) → (x ≡ y) ⊎ ((x <ℤ y) ⊎ (y <ℤ x))
+costs_order x y = ranked_costs x y (int_cmp x y) (int_ranked x y (int_cmp x y) refl)
+
+pub key_le-total : (a b : Key) → (key_le a b ≡ true) ⊎ (key_le b a ≡ true)
+key_le-total a b =
+    elim (costs_order a.cost b.cost) [
+      | inl same ↦ elim (places_le-total a.places b.places) [
+        | inl h ↦ inl (by_places a b same h)
+        | inr h ↦ inr (by_places b a (sym same) h)
+      ]
+      | inr apart ↦ elim apart [
+        | inl less ↦ inl (by_cost a b less)
+        | inr more ↦ inr (by_cost b a more)
+      ]
+    ]
+
+-- of two keys the one that isn't the lesser is after the other
+pub key_le-other : (a b : Key) → key_le a b ≡ false → key_le b a ≡ true
+key_le-other a b h = elim (key_le-total a b) [ inl g ↦ absurd (false≢true (sym h ∙ g)) | inr g ↦ g ]
+
+-- ---- the tests of the code
+
+-- `<` on the lists
+pub places_lt : (xs ys : List ℕ) (r : Bool) → r ≡ is_some_and is_lt (slice_partial_cmp (λ x y. Some (nat_cmp x y)) xs ys) → r ≡ not (places_le ys xs)
+places_lt = same_from_slice_cmp_tested nat_cmp is_lt (λ xs ys. not (places_le ys xs)) refl (λ _ _. refl) (λ _ _. refl) (λ x y xs ys o h. grind (arith, nat_tests))
+
+-- at equal costs the lists decide
+pub key_le-at_one_cost : (a b : Key) → a.cost ≡ b.cost → key_le a b ≡ places_le a.places b.places
+key_le-at_one_cost a b e =
+    let not_less : int_lt a.cost b.cost ≡ false = false_from_ne_true _ (λ less. let h = less_cost a.cost b.cost less in omega (arith, ints, h, e)) in
+    ap (λ t. t || int_eq a.cost b.cost && places_le a.places b.places) not_less
+    ∙ ap (λ t. t && places_le a.places b.places) ((Decides-int_eq a.cost b.cost).1 e)

@@ -1,0 +1,5 @@
+use Rattle.roster_combine.proofs.Open.{all_open_legal}
+use Rattle.roster_combine.proofs.laws.all_open_is_legal.Goals as goal
+
+pub returns : goal.returns
+returns c = all_open_legal

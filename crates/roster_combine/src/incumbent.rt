@@ -1,0 +1,93 @@
+//! The best roster that a search has met.
+
+ghost use Rattle.std.specs.Prelude.{◌≡◌, ◌≤◌, All, IfOk, length, not, replicate};
+ghost use Rattle.roster_model.specs.Rosters.{key_le, key_of};
+ghost use Rattle.roster_combine.specs.Settled.{IsHeld, Settles};
+
+use crate::rosters::{cost_of, is_legal_roster, open_number};
+use roster_book::{Places, Problem, Roster};
+use std::alloc::{AllocError, Global};
+use std::marker::Model;
+
+/// The best legal roster met so far, with its cost.
+#[derive(Debug, Drop)]
+pub(crate) struct Incumbent {
+    cost: i64,
+    places: Vec<u16>,
+}
+
+impl Model for Incumbent {
+    ghost use Rattle.roster_model.specs.Rosters.{Key};
+
+    ghost Value = { Key };
+
+    ghost view = { λ i. record { cost = i.cost; places = i.places.items } };
+}
+
+impl Incumbent {
+    /// The roster that leaves all open.
+    pub(crate) fn all_open(alloc: Global, problem: &Problem) -> Result<Incumbent, AllocError>
+        ensures held { IfOk result (IsHeld problem.now) }
+        ensures open { IfOk result (λ best. best.places
+            ≡ replicate (length problem.now.pairings) (length problem.now.persons)) }
+    {
+        let places = vec![in alloc; open_number(problem); problem.pairings().len()]?;
+        let cost = cost_of(problem, &places);
+        Ok(Incumbent { cost, places })
+    }
+
+    /// Takes the places if they are a legal roster whose key is before this one's.
+    pub(crate) fn offer(&mut self, problem: &Problem, places: &[u16])
+        requires covers { length places.now ≡ length problem.now.pairings }
+        requires numbers { All (λ x. x ≤ length problem.now.persons) places.now }
+        requires held { IsHeld problem.now self.old }
+        ensures { Settles problem.now (λ others. others ≡ places.now) self.old self.new }
+    {
+        if is_legal_roster(problem, places) {
+            let cost = cost_of(problem, places);
+            if self.comes_after(cost, places) {
+                self.cost = cost;
+                self.places.copy_from_slice(places);
+            }
+        }
+    }
+
+    /// Whether its key is after that of the roster with this cost and these places.
+    fn comes_after(&self, cost: i64, places: &[u16]) -> bool
+        ensures { result ≡ not (key_le self.now (record { cost = cost; places = places.now })) }
+    {
+        cost < self.cost || cost == self.cost && places < self.places.as_slice()
+    }
+
+    /// The roster.
+    pub(crate) fn into_roster(self) -> Roster
+        ensures places { result.places ≡ self.places }
+        ensures cost { result.cost ≡ self.cost }
+    {
+        Roster {
+            places: Places::new(self.places),
+            cost: self.cost,
+        }
+    }
+}
+
+#[cfg(test)]
+mod tests {
+    use super::*;
+    use std::test::Fail;
+
+    #[test]
+    fn keys_go_by_cost_and_then_by_places(rt: HostRuntime) -> Result<(), Fail> {
+        let places = [1u16, 0, 2].to_vec(rt.alloc())?;
+        let best = Incumbent { cost: 20, places };
+        assert!(rt; best.comes_after(19, &[2, 2, 2]), "a lesser cost");
+        assert!(rt; !best.comes_after(21, &[0, 0, 0]), "a greater cost");
+        assert!(rt; best.comes_after(20, &[0, 2, 2]), "an earlier list");
+        assert!(rt; !best.comes_after(20, &[1, 1, 0]), "a later list");
+        assert!(rt; !best.comes_after(20, &[1, 0, 2]), "the same list");
+        let roster = best.into_roster();
+        assert_eq!(rt; roster.cost, 20);
+        assert_eq!(rt; roster.places.as_slice(), [1u16, 0, 2].as_slice());
+        Ok(())
+    }
+}
