@@ -1,0 +1,14 @@
+use Rattle.std.proofs.Common.{arith}
+use Rattle.std.proofs.lemmas.Bool.Decides.{nat_tests}
+use Rattle.std.proofs.lemmas.List.{take_rest}
+use Rattle.roster_report.proofs.Writes.{Appends-front}
+use Rattle.roster_report.proofs.device.write_whole.Goals as goal
+
+pub loop-written-preserved : goal.loop-written-preserved
+loop-written-preserved g c =
+    let took = rw take_rest at c.in-Ok.ensures.bytes in
+    record {
+      within = omega (arith, c.in-Ok.ensures.bound);
+      going = grind (arith, nat_tests, c.in-Ok.ensures.goes);
+      so_far = Appends-front _ _ _ c.loop-written.written c.in-Ok.taken c.args.text.now c.loop-written.invariant.so_far took;
+    }

@@ -1,0 +1,21 @@
+//! The two texts that the program writes: the report of a roster, and the line of a fault.
+//!
+//! Each is whole in memory before its first byte is written. So where memory runs out, nothing is
+//! written, and where the writer fails, a prefix of the text.
+#![tactic(auto)]
+
+mod device;
+mod fault;
+mod fault_line;
+mod lines;
+mod names;
+mod report;
+mod sums;
+mod words;
+
+pub use fault::TextFault;
+pub use fault_line::write_fault;
+pub use report::write_report;
+
+#[cfg(test)]
+mod tests;

@@ -1,0 +1,51 @@
+ghost use Rattle.std.specs.Prelude.{◌≡◌, false, true, length, IfOk, OnOk, IsErrOf};
+ghost use Rattle.std.specs.Io.KnownBytes.{Appends};
+ghost use Rattle.roster_book.specs.Watch.{inner_of, has_failed};
+ghost use Rattle.roster_model.specs.Rosters.{cost_of};
+ghost use Rattle.roster_model.specs.Texts.{report_text};
+ghost use Rattle.roster_report.specs.Writing.{AppendsPrefix};
+
+use crate::device::write_whole;
+use crate::fault::TextFault;
+use crate::lines::{push_cost, push_crews, push_heading, push_open};
+use roster_book::{Problem, Roster, Watched};
+use std::alloc::{AllocError, Global};
+use std::io::Write;
+
+/// Writes the report of a roster: a line of the month, one of the cost, one for each person, and one
+/// of the pairings that are left open.
+pub fn write_report<W: Write>(
+    alloc: Global,
+    problem: &Problem,
+    roster: &Roster,
+    writer: &mut Watched<W>,
+) -> Result<(), TextFault>
+    requires open { has_failed writer.old ≡ false }
+    requires covers { length roster.now.places ≡ length problem.now.pairings }
+    requires cost { roster.now.cost ≡ cost_of problem.now roster.now.places }
+    ensures written { OnOk result (Appends (W.contents (inner_of writer.old))
+        (W.contents (inner_of writer.new)) (report_text problem.now roster.now.places)) }
+    ensures holds { OnOk result (has_failed writer.new ≡ false) }
+    ensures memory { IsErrOf result TextFault.Memory → writer.new ≡ writer.old }
+    ensures device { IsErrOf result TextFault.Device → has_failed writer.new ≡ true }
+    ensures prefix { IsErrOf result TextFault.Device → AppendsPrefix
+        (W.contents (inner_of writer.old)) (W.contents (inner_of writer.new))
+        (report_text problem.now roster.now.places) }
+{
+    let text = report(alloc, problem, roster)?;
+    write_whole(&text, writer)
+}
+
+fn report(alloc: Global, problem: &Problem, roster: &Roster) -> Result<Vec<u8>, AllocError>
+    requires covers { length roster.now.places ≡ length problem.now.pairings }
+    requires cost { roster.now.cost ≡ cost_of problem.now roster.now.places }
+    ensures { IfOk result (λ text. text.items ≡ report_text problem.now roster.now.places) }
+{
+    let places = roster.places.as_slice();
+    let mut text = Vec::new(alloc);
+    push_heading(alloc, &mut text, problem.period())?;
+    push_cost(alloc, &mut text, roster.cost)?;
+    push_crews(alloc, &mut text, problem, places)?;
+    push_open(&mut text, problem, places)?;
+    Ok(text)
+}
