@@ -1,0 +1,5 @@
+use Rattle.roster_cli.proofs.Answering.{same_answer}
+use Rattle.roster_cli.proofs.law.one_answer.Goals as goal
+
+pub returns : goal.returns
+returns c = same_answer c.one_best.ensures

@@ -1,0 +1,22 @@
+-- What a run does to the bytes that a writer holds.
+use Rattle.std.specs.Prelude.{ℕ, List, Option, IfSome, take}
+use Rattle.std.specs.Io.KnownBytes.{Appends}
+use Rattle.roster_cli.specs.declared.status.Status.{Status}
+use Rattle.roster_cli.specs.declared.status.Status.TheVariants as statuses
+
+-- The reader told some bytes, and the writer holds what it held, followed by a text that answers them.
+abbrev pub Answers : (List ℕ → List ℕ → Type 0) → Option (List ℕ) → Option (List ℕ) → Option (List ℕ) → Type 0
+Answers IsText told old new = IfSome told (λ bytes. (text : List ℕ) × IsText bytes text × Appends old new text)
+
+-- The same, where only the first bytes of the text went out.
+abbrev pub BeginsAnswer : (List ℕ → List ℕ → Type 0) → Option (List ℕ) → Option (List ℕ) → Option (List ℕ) → Type 0
+BeginsAnswer IsText told old new =
+    IfSome told (λ bytes. (text : List ℕ) × (k : ℕ) × IsText bytes text × Appends old new (take k text))
+
+-- the exit status of each outcome
+abbrev pub exit_number : Status → ℕ
+exit_number statuses.Answered = 0
+exit_number statuses.Refused = 1
+exit_number statuses.Memory = 3
+exit_number statuses.ReadFailed = 4
+exit_number statuses.WriteFailed = 4

@@ -1,0 +1,62 @@
+//! `roster`: the program. `read_line` reads the command line, `run` reads a book, finds the answer
+//! and writes it, and `main` ties both to the process.
+#![tactic(auto)]
+
+mod law;
+mod line;
+mod run;
+mod status;
+
+use line::{LineFault, read_line};
+use roster_book::Watched;
+use run::run;
+use status::Status;
+use std::process::ExitCode;
+use std::{env, io};
+
+/// The exit status of a command line that is refused, a call for help included.
+const LINE_REFUSED: u8 = 2;
+
+fn main(rt: HostRuntime) -> ExitCode {
+    let words: Vec<String> = match arguments(&rt) {
+        Ok(words) => words,
+        Err(error) => return unread(&rt, &error),
+    };
+    let (command, _workers) = match read_line(rt.alloc(), words.as_slice()) {
+        Ok(line) => line,
+        Err(LineFault::Memory) => return ended(&rt, Status::Memory),
+        Err(LineFault::Refused(error)) => {
+            let _ = rt.eprint(&error);
+            return ExitCode::from(LINE_REFUSED);
+        }
+    };
+    let mut reader = Watched::new(rt.reader());
+    let mut writer = Watched::new(io::writer(&rt));
+    let status = run(rt.alloc(), command, &mut reader, &mut writer);
+    ended(&rt, status)
+}
+
+/// The words of the command line, of which the first is the program's name.
+fn arguments<R: env::Env + AllocGlobal>(rt: &R) -> io::Result<Vec<String>> {
+    Ok(env::args(rt)?.collect(rt.alloc())?)
+}
+
+/// A word of the command line is no text, or memory ran out on the way.
+fn unread(rt: &impl Eprint, error: &io::Error) -> ExitCode {
+    if error.kind() == io::ErrorKind::OutOfMemory {
+        return ended(rt, Status::Memory);
+    }
+    let _ = rt.eprintln("error: a word of the command line is not UTF-8");
+    ExitCode::from(LINE_REFUSED)
+}
+
+/// Tells standard error what a run's status says, and gives the exit status.
+fn ended(rt: &impl Eprint, status: Status) -> ExitCode {
+    if let Some(message) = status.message() {
+        let _ = rt.eprintln(message);
+    }
+    status.exit_code()
+}
+
+#[cfg(test)]
+mod tests;
