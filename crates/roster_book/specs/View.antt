@@ -1,5 +1,5 @@
 -- How the definitions see this crate's enums.
-use Rattle.std.specs.Prelude.{◌≡◌, ℕ, List, ◌∷◌, ◌++◌, [], Option, Some, None, Result, Ok, Err}
+use Rattle.std.specs.Prelude.{◌≡◌, ◌≢◌, ℕ, List, ◌∷◌, ◌++◌, [], Option, Some, None, Result, Ok, Err}
 use Rattle.roster_book.specs.declared.book.Holder.{Holder}
 use Rattle.roster_book.specs.declared.book.Holder.TheVariants as holders
 use Rattle.roster_book.specs.declared.kind.Kind.{Kind}
@@ -40,20 +40,20 @@ contents_of t = record {
   duties = t.duties.items;
 }
 
--- why a record is refused: this is its code, or memory has run out
+-- why a record is refused: this is its code, or it has none and memory has run out
 abbrev pub Refuses : Refusal → Option ℕ → Type 0
 Refuses (refusals.Fault c) code = code ≡ Some c
-Refuses refusals.Memory code = Unit {0}
+Refuses refusals.Memory code = code ≡ None
 
 -- A record is read as this row of a table and has no fault, or it is refused.
 abbrev pub Reads : {X : Type 0} → Result X Refusal → Option ℕ → Option X → Type 0
 Reads (Ok x) code entry = (code ≡ None) × (entry ≡ Some x)
 Reads (Err e) code entry = Refuses e code
 
--- A zone's days are found, or it has none and that is code 10.
+-- A zone's days are found, or it has none and that is code 10, or it has some and memory has run out.
 abbrev pub FindsNoDays : Refusal → Result Days ZoneRefusal → Type 0
 FindsNoDays (refusals.Fault c) found = (c ≡ 10) × (found ≡ Err NotRead)
-FindsNoDays refusals.Memory found = Unit {0}
+FindsNoDays refusals.Memory found = found ≢ Err NotRead
 
 abbrev pub FindsDays : Result Days Refusal → Result Days ZoneRefusal → Type 0
 FindsDays (Ok days) found = found ≡ Ok days

@@ -1,8 +1,8 @@
 //! The book so far, as its records are taken one after another.
 
-ghost use Rattle.std.specs.Prelude.{◌≡◌, ◌≤◌, ◌∷◌, ◌++◌, [], List, Ok, None, IfOk, ◌<◌, length, Some, IfErr, IfSome, MatchResult};
+ghost use Rattle.std.specs.Prelude.{◌≡◌, ◌<◌, ◌∷◌, ◌++◌, [], List, Ok, None, Some, IfErr, IfOk, IfSome, MatchResult, OnErr, length};
 ghost use Rattle.csv.specs.Records.{fields_of};
-ghost use Rattle.roster_model.specs.Book.{Record, Command, next_row, book_of};
+ghost use Rattle.roster_model.specs.Book.{Record, Command, book_of};
 ghost use Rattle.roster_model.specs.Faults.{code_of, first_fault, missing_duty};
 ghost use Rattle.roster_book.specs.Draft.{IsDraftOf};
 ghost use Rattle.roster_book.specs.View.{command_of};
@@ -50,14 +50,6 @@ impl Draft {
         }
     }
 
-    /// The number of the record that comes next, from 1.
-    pub(crate) fn next_row(&self) -> usize
-        ensures value { (command : Command) (before : List Record) → IsDraftOf command before self.now → result ≡ next_row before }
-        ensures bound { result ≤ 4434 }
-    {
-        self.tables.next_row()
-    }
-
     /// Takes the next record, or answers the code of what is wrong with it.
     pub(crate) fn take(&mut self, alloc: Global, row: &ByteRecord) -> Result<Option<u8>, AllocError>
         ensures code { (command : Command) (before : List Record) → IsDraftOf command before self.old
@@ -66,6 +58,9 @@ impl Draft {
             → (result ≡ Ok None) → IsDraftOf command (before ++ fields_of row.now ∷ []) self.new }
         ensures refused { (command : Command) (before : List Record) → IsDraftOf command before self.old
             → MatchResult result (λ o. IfSome o (λ _. IsDraftOf command before self.new)) (λ _. IsDraftOf command before self.new) }
+        // Memory runs out in a record without a fault alone.
+        ensures memory { (command : Command) (before : List Record) → IsDraftOf command before self.old
+            → OnErr result (code_of command before (fields_of row.now) ≡ None) }
     {
         match self.tables.take(alloc, row) {
             Ok(()) => Ok(None),
@@ -81,6 +76,8 @@ impl Draft {
             → IfOk result (λ r. IfOk r (λ problem. (problem ≡ book_of rows) × (missing_duty rows ≡ None) × (first_fault command rows ≡ None))) }
         ensures missing { (command : Command) (rows : List Record) → IsDraftOf command rows self → 0 < length rows
             → IfOk result (λ r. IfErr r (λ row. missing_duty rows ≡ Some (record { row = row; code = 14 }))) }
+        ensures memory { (command : Command) (rows : List Record) → IsDraftOf command rows self
+            → OnErr result ((0 < length rows) × (missing_duty rows ≡ None)) }
         ensures empty { (command : Command) → IsDraftOf command [] self → IfOk result (λ r. IfErr r (λ row. row ≡ 1)) }
     {
         let tables = self.tables;

@@ -1,13 +1,13 @@
 //! What a record of a duty adds, or its first fault.
 
-ghost use Rattle.std.specs.Prelude.{◌≡◌, MatchOption, codes, false, ◌&&◌, ◌||◌, ◌+◌, ◌≤◌, List, length, true, is_some, option_map, nat_lt, nat_le};
+ghost use Rattle.std.specs.Prelude.{◌≡◌, MatchOption, MatchResult, None, Some, codes, false, ◌&&◌, ◌||◌, ◌+◌, ◌≤◌, List, length, true, is_some, option_map, nat_lt, nat_le};
 ghost use Rattle.std.specs.Option.{option_map_or};
 ghost use Rattle.std.specs.Str.{bytes_eq};
 ghost use Rattle.csv.specs.Records.{fields_of};
 ghost use Rattle.roster_model.specs.Form as form;
 ghost use Rattle.roster_model.specs.Book as book;
 ghost use Rattle.roster_model.specs.Calendar.{days_before};
-ghost use Rattle.roster_model.specs.Book.{Record, Command, DutyRecord, is_of, duty_entry, instant_in};
+ghost use Rattle.roster_model.specs.Book.{Record, Command, DutyRecord, is_of, duty_entry, instant_in, pairing_place};
 ghost use Rattle.roster_model.specs.Faults.{code_of_kind, is_well_formed, midnight as midnight_of};
 ghost use Rattle.roster_book.specs.Taken.{AreTablesOf, HasRecords};
 ghost use Rattle.roster_book.specs.View.{contents_of, Reads};
@@ -95,40 +95,55 @@ fn starts_at_base(last: Option<&Duty>, base: &Base, place: &[u8], report: Minute
 }
 
 impl Tables {
+    // The place of a duty's pairing, its report and its release, or what is wrong with the record.
+    #[tactic(auto, unfolding(roster_model::specs::Faults::code_of_kind))]
+    fn judge_duty(&self, row: &ByteRecord) -> Result<(usize, (Minute, Minute)), u8>
+        requires { HasRecords (contents_of self.now) }
+        ensures { (command : Command) (before : List Record) → AreTablesOf command before (contents_of self.now)
+            → MatchResult result (λ m. (code_of_kind DutyRecord before (fields_of row.now) ≡ None)
+            × (m.0 ≡ pairing_place before (book.field (fields_of row.now) 3))
+            × (m.1.0 ≡ instant_in (fields_of row.now) 5)
+            × (m.1.1 ≡ instant_in (fields_of row.now) 6))
+            (λ code. code_of_kind DutyRecord before (fields_of row.now) ≡ Some code) }
+    {
+        if row.len() != 7 {
+            return Err(FIELDS);
+        }
+        let Some((report, release)) = duty_minutes(row) else {
+            return Err(FORM);
+        };
+        if self.has_duty(field(row, 1)) {
+            return Err(REPEATED);
+        }
+        let Some(place) = self.pairing_place(field(row, 3)) else {
+            return Err(UNKNOWN);
+        };
+        let last = self.last_duty(place);
+        if !is_in_sequence(last, report, release) {
+            return Err(SEQUENCE);
+        }
+        let base = self.base_of(place);
+        if !is_in_window(&base.days, report, release) {
+            return Err(WINDOW);
+        }
+        if self.duties.len() >= MOST_DUTIES {
+            return Err(ROOM);
+        }
+        if !starts_at_base(last, base, field(row, 4), report) {
+            return Err(START);
+        }
+        Ok((place, (report, release)))
+    }
+
     /// The duty that a record of one gives.
-    #[tactic(auto, unfolding(roster_model::specs::Faults::code_of_kind, roster_model::specs::Book::duty_entry))]
+    #[tactic(auto, unfolding(roster_model::specs::Book::duty_entry))]
     pub(crate) fn read_duty(&self, alloc: Global, row: &ByteRecord) -> Result<Duty, Refusal>
         requires { HasRecords (contents_of self.now) }
         ensures { (command : Command) (before : List Record) → AreTablesOf command before (contents_of self.now)
             → is_of DutyRecord (fields_of row.now) ≡ true
             → Reads result (code_of_kind DutyRecord before (fields_of row.now)) (duty_entry before (fields_of row.now)) }
     {
-        if row.len() != 7 {
-            return Err(Refusal::Fault(FIELDS));
-        }
-        let Some((report, release)) = duty_minutes(row) else {
-            return Err(Refusal::Fault(FORM));
-        };
-        if self.has_duty(field(row, 1)) {
-            return Err(Refusal::Fault(REPEATED));
-        }
-        let Some(place) = self.pairing_place(field(row, 3)) else {
-            return Err(Refusal::Fault(UNKNOWN));
-        };
-        let last = self.last_duty(place);
-        if !is_in_sequence(last, report, release) {
-            return Err(Refusal::Fault(SEQUENCE));
-        }
-        let base = self.base_of(place);
-        if !is_in_window(&base.days, report, release) {
-            return Err(Refusal::Fault(WINDOW));
-        }
-        if self.duties.len() >= MOST_DUTIES {
-            return Err(Refusal::Fault(ROOM));
-        }
-        if !starts_at_base(last, base, field(row, 4), report) {
-            return Err(Refusal::Fault(START));
-        }
+        let (place, (report, release)) = self.judge_duty(row)?;
         Ok(Duty {
             id: Name::new(alloc, field(row, 1))?,
             holder: Holder::Pairing(place),

@@ -1,8 +1,8 @@
 //! What a record of each kind adds to its table, or its first fault.
 
-ghost use Rattle.std.specs.Prelude.{◌≡◌, ◌&&◌, ◌||◌, ◌==◌, List, Some, None, option_map, if◌then◌else◌, true, false, MatchOption};
+ghost use Rattle.std.specs.Prelude.{◌≡◌, ◌&&◌, List, Some, None, true, false, MatchOption, MatchResult};
 ghost use Rattle.csv.specs.Records.{fields_of};
-ghost use Rattle.roster_model.specs.Book.{Record, Command, PeriodRecord, BaseRecord, CrewRecord, PairingRecord, DutyRecord, is_of, base_entry, person_entry, pairing_entry, duty_entry, amount_in, period_in};
+ghost use Rattle.roster_model.specs.Book.{Record, Command, PeriodRecord, BaseRecord, CrewRecord, PairingRecord, is_of, base_place, base_entry, person_entry, pairing_entry, amount_in, period_in};
 ghost use Rattle.roster_model.specs.Book as book;
 ghost use Rattle.roster_model.specs.Calendar.{period_of};
 ghost use Rattle.roster_model.specs.Zone.{days_of_zone};
@@ -10,13 +10,13 @@ ghost use Rattle.roster_model.specs.Faults.{code_of_kind, is_well_formed, is_wit
 ghost use Rattle.roster_book.specs.Taken.{AreTablesOf, HasRecords};
 ghost use Rattle.roster_book.specs.View.{contents_of, Reads, FindsDays};
 
-use crate::book::{Base, Duty, Holder, Pairing, Person};
+use crate::book::{Base, Pairing, Person};
 use crate::forms::{amount, field, is_identifier, is_number, zone_text};
 use crate::name::Name;
 use crate::refusal::Refusal;
 use crate::tables::Tables;
 use csv::ByteRecord;
-use roster_instants::{BaseDays, Minute, Period, ZoneFault, read_minute};
+use roster_instants::{BaseDays, Period, ZoneFault};
 use std::alloc::Global;
 
 /// The record has another number of fields than its kind.
@@ -93,32 +93,47 @@ fn is_pairing_form(row: &ByteRecord) -> bool
 }
 
 impl Tables {
+    // The place of a crew member's base, and target, year and eleven months, or what is wrong with the record.
+    #[tactic(auto, unfolding(roster_model::specs::Faults::code_of_kind))]
+    fn judge_person(&self, row: &ByteRecord) -> Result<(usize, (u32, u32, u32)), u8>
+        ensures { (command : Command) (before : List Record) → AreTablesOf command before (contents_of self.now)
+            → MatchResult result (λ m. (code_of_kind CrewRecord before (fields_of row.now) ≡ None)
+            × (m.0 ≡ base_place before (book.field (fields_of row.now) 2))
+            × (m.1.0 ≡ amount_in (fields_of row.now) 3)
+            × (m.1.1 ≡ amount_in (fields_of row.now) 4)
+            × (m.1.2 ≡ amount_in (fields_of row.now) 5))
+            (λ code. code_of_kind CrewRecord before (fields_of row.now) ≡ Some code) }
+    {
+        if row.len() != 6 {
+            return Err(FIELDS);
+        }
+        if !is_crew_form(row) {
+            return Err(FORM);
+        }
+        let Some(minutes) = crew_minutes(row) else {
+            return Err(LIMIT);
+        };
+        if self.has_person(field(row, 1)) {
+            return Err(REPEATED);
+        }
+        let Some(base) = self.base_place(field(row, 2)) else {
+            return Err(UNKNOWN);
+        };
+        if self.persons.len() >= MOST_PERSONS {
+            return Err(ROOM);
+        }
+        Ok((base, minutes))
+    }
+
     /// The crew member that a record of crew gives.
-    #[tactic(auto, unfolding(roster_model::specs::Faults::code_of_kind, roster_model::specs::Book::person_entry))]
+    #[tactic(auto, unfolding(roster_model::specs::Book::person_entry))]
     pub(crate) fn read_person(&self, alloc: Global, row: &ByteRecord) -> Result<Person, Refusal>
         requires { HasRecords (contents_of self.now) }
         ensures { (command : Command) (before : List Record) → AreTablesOf command before (contents_of self.now)
             → is_of CrewRecord (fields_of row.now) ≡ true
             → Reads result (code_of_kind CrewRecord before (fields_of row.now)) (person_entry before (fields_of row.now)) }
     {
-        if row.len() != 6 {
-            return Err(Refusal::Fault(FIELDS));
-        }
-        if !is_crew_form(row) {
-            return Err(Refusal::Fault(FORM));
-        }
-        let Some((target, year, eleven)) = crew_minutes(row) else {
-            return Err(Refusal::Fault(LIMIT));
-        };
-        if self.has_person(field(row, 1)) {
-            return Err(Refusal::Fault(REPEATED));
-        }
-        let Some(base) = self.base_place(field(row, 2)) else {
-            return Err(Refusal::Fault(UNKNOWN));
-        };
-        if self.persons.len() >= MOST_PERSONS {
-            return Err(Refusal::Fault(ROOM));
-        }
+        let (base, (target, year, eleven)) = self.judge_person(row)?;
         Ok(Person {
             id: Name::new(alloc, field(row, 1))?,
             base,
@@ -129,32 +144,45 @@ impl Tables {
         })
     }
 
+    // The place of a pairing's base, and its penalty, or what is wrong with the record.
+    #[tactic(auto, unfolding(roster_model::specs::Faults::code_of_kind))]
+    fn judge_pairing(&self, row: &ByteRecord) -> Result<(usize, u32), u8>
+        ensures { (command : Command) (before : List Record) → AreTablesOf command before (contents_of self.now)
+            → MatchResult result (λ m. (code_of_kind PairingRecord before (fields_of row.now) ≡ None)
+            × (m.0 ≡ base_place before (book.field (fields_of row.now) 2))
+            × (m.1 ≡ amount_in (fields_of row.now) 3))
+            (λ code. code_of_kind PairingRecord before (fields_of row.now) ≡ Some code) }
+    {
+        if row.len() != 4 {
+            return Err(FIELDS);
+        }
+        if !is_pairing_form(row) {
+            return Err(FORM);
+        }
+        let Some(penalty) = amount(field(row, 3), MOST_PENALTY) else {
+            return Err(LIMIT);
+        };
+        if self.has_pairing(field(row, 1)) {
+            return Err(REPEATED);
+        }
+        let Some(base) = self.base_place(field(row, 2)) else {
+            return Err(UNKNOWN);
+        };
+        if self.pairings.len() >= MOST_PAIRINGS {
+            return Err(ROOM);
+        }
+        Ok((base, penalty))
+    }
+
     /// The pairing that a record of one gives.
-    #[tactic(auto, unfolding(roster_model::specs::Faults::code_of_kind, roster_model::specs::Book::pairing_entry))]
+    #[tactic(auto, unfolding(roster_model::specs::Book::pairing_entry))]
     pub(crate) fn read_pairing(&self, alloc: Global, row: &ByteRecord) -> Result<Pairing, Refusal>
         requires { HasRecords (contents_of self.now) }
         ensures { (command : Command) (before : List Record) → AreTablesOf command before (contents_of self.now)
             → is_of PairingRecord (fields_of row.now) ≡ true
             → Reads result (code_of_kind PairingRecord before (fields_of row.now)) (pairing_entry before (fields_of row.now)) }
     {
-        if row.len() != 4 {
-            return Err(Refusal::Fault(FIELDS));
-        }
-        if !is_pairing_form(row) {
-            return Err(Refusal::Fault(FORM));
-        }
-        let Some(penalty) = amount(field(row, 3), MOST_PENALTY) else {
-            return Err(Refusal::Fault(LIMIT));
-        };
-        if self.has_pairing(field(row, 1)) {
-            return Err(Refusal::Fault(REPEATED));
-        }
-        let Some(base) = self.base_place(field(row, 2)) else {
-            return Err(Refusal::Fault(UNKNOWN));
-        };
-        if self.pairings.len() >= MOST_PAIRINGS {
-            return Err(Refusal::Fault(ROOM));
-        }
+        let (base, penalty) = self.judge_pairing(row)?;
         Ok(Pairing {
             id: Name::new(alloc, field(row, 1))?,
             base,
@@ -187,30 +215,36 @@ impl Tables {
         if self.has_base(field(row, 1)) {
             return Err(Refusal::Fault(REPEATED));
         }
-        let days = days_of(alloc, zone, period)?;
+        let days = match days_of(alloc, zone, period) {
+            Err(Refusal::Fault(code)) => return Err(Refusal::Fault(code)),
+            // Memory ran out, which counts where the record has no fault.
+            found => found,
+        };
         if self.bases.len() >= MOST_BASES {
             return Err(Refusal::Fault(ROOM));
         }
         Ok(Base {
             id: Name::new(alloc, field(row, 1))?,
-            days,
+            days: days?,
         })
     }
 
     /// The month that a period record gives.
     #[tactic(auto, unfolding(roster_model::specs::Faults::code_of_kind))]
-    pub(crate) fn read_period(&self, row: &ByteRecord) -> Result<Period, Refusal>
+    pub(crate) fn read_period(&self, row: &ByteRecord) -> Result<Period, u8>
         ensures { (command : Command) (before : List Record) → AreTablesOf command before (contents_of self.now)
-            → Reads result (code_of_kind PeriodRecord before (fields_of row.now)) (period_of (book.field (fields_of row.now) 1)) }
+            → MatchResult result (λ period. (code_of_kind PeriodRecord before (fields_of row.now) ≡ None)
+            × (period_of (book.field (fields_of row.now) 1) ≡ Some period))
+            (λ code. code_of_kind PeriodRecord before (fields_of row.now) ≡ Some code) }
     {
         if row.len() != 2 {
-            return Err(Refusal::Fault(FIELDS));
+            return Err(FIELDS);
         }
         let Some(period) = Period::read(field(row, 1)) else {
-            return Err(Refusal::Fault(FORM));
+            return Err(FORM);
         };
         if self.period.is_some() {
-            return Err(Refusal::Fault(REPEATED));
+            return Err(REPEATED);
         }
         Ok(period)
     }

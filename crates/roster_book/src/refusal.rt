@@ -11,6 +11,17 @@ pub(crate) enum Refusal {
     Memory,
 }
 
+impl From<u8> for Refusal {
+    ghost use Rattle.std.specs.Prelude.{◌≡◌};
+    ghost use Rattle.roster_book.specs.declared.refusal.Refusal.TheVariants.{Fault};
+
+    ghost from_gives = { λ code e. e ≡ Fault code };
+
+    fn from(code: u8) -> Refusal {
+        Refusal::Fault(code)
+    }
+}
+
 impl From<AllocError> for Refusal {
     ghost use Rattle.std.specs.Prelude.{◌≡◌};
     ghost use Rattle.roster_book.specs.declared.refusal.Refusal.TheVariants.{Memory};

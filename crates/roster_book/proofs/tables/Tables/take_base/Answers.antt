@@ -15,6 +15,15 @@ returns-in_err-base c = λ command before t.
     let p = err_from_is_err_and c.from_residual.result c.from_residual.ensures.1 in
     rw (p.1, p.2) (rw (code_of_later command BaseRecord before row month.0 kind) (c.in_err-base.ensures command before t month.1 (kind_is command BaseRecord row kind)), t)
 
+pub returns-in_err-push : goal.returns-in_err-push
+returns-in_err-push c = λ command before t.
+    let row = fields_of c.args.row.now in
+    let kind = rw t.asked at c.requires.kind in
+    let month = rows_of_period before c.args.period (sym c.requires.month ∙ t.period) in
+    let read = c.in_ok-base.ensures command before t month.1 (kind_is command BaseRecord row kind) in
+    let p = err_from_is_err_and c.from_residual-in_err-push.result c.from_residual-in_err-push.ensures.1 in
+    rw (p.1, p.2, c.in_err-push.ensures.items) (code_of_later command BaseRecord before row month.0 kind ∙ read.0, t)
+
 pub returns : goal.returns
 returns c = λ command before t.
     let row = fields_of c.args.row.now in

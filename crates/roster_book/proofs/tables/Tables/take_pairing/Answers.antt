@@ -15,6 +15,15 @@ returns-in_err-pairing c = λ command before t.
     let p = err_from_is_err_and c.from_residual.result c.from_residual.ensures.1 in
     rw (p.1, p.2) (rw (code_of_later command PairingRecord before row begun kind) (c.in_err-pairing.ensures command before t (kind_is command PairingRecord row kind)), t)
 
+pub returns-in_err-push : goal.returns-in_err-push
+returns-in_err-push c = λ command before t.
+    let row = fields_of c.args.row.now in
+    let kind = rw t.asked at c.requires.kind in
+    let begun = rows_of_some before (rw t.period at c.requires.month) in
+    let read = c.in_ok-pairing.ensures command before t (kind_is command PairingRecord row kind) in
+    let p = err_from_is_err_and c.from_residual-in_err-push.result c.from_residual-in_err-push.ensures.1 in
+    rw (p.1, p.2, c.in_err-push.ensures.items) (code_of_later command PairingRecord before row begun kind ∙ read.0, t)
+
 pub returns : goal.returns
 returns c = λ command before t.
     let row = fields_of c.args.row.now in

@@ -1,16 +1,15 @@
-use Rattle.std.proofs.Common.{rules, ◌≡◌, ◌==◌, ◌+◌, true, false, length, refl, sym, ◌∙◌, ap, arith}
+use Rattle.std.proofs.Common.{rules, ◌≡◌, ◌==◌, true, false, length, refl, sym, arith}
 use Rattle.std.proofs.lemmas.Bool.Decides.{nat_tests}
 use Rattle.csv.specs.Records.{fields_of}
 use Rattle.roster_model.specs.Book.{PairingRecord, field, amount_in, bases_in, is_base_named}
 use Rattle.roster_model.specs.Faults.{field_count, is_well_formed, is_within_limits, is_repeated, has_room}
 use Rattle.roster_book.proofs.Amounts.{amount_read, pairing_number}
 use Rattle.roster_book.proofs.Codes.{code_unknown, code_room, code_none}
-use Rattle.roster_book.proofs.Entries.{pairing_entry_is}
 use Rattle.roster_book.proofs.Positions.{position_none, position_some}
-use Rattle.roster_book.proofs.tables.Tables.read_pairing.Goals as goal
+use Rattle.roster_book.proofs.tables.Tables.judge_pairing.Goals as goal
 
 pub returns-in_default-base_place : goal.returns-in_default-base_place
-returns-in_default-base_place c = λ command before t k.
+returns-in_default-base_place c = λ command before t.
     let row = fields_of c.args.row.now in
     let fields : (length row == field_count PairingRecord) ≡ true = grind (arith, nat_tests) in
     let formed : is_well_formed PairingRecord row ≡ true = search rules in
@@ -21,7 +20,7 @@ returns-in_default-base_place c = λ command before t k.
     (position_none (is_base_named (field row 2)) (bases_in before) (sym (rw (c.field-3.ensures, t.bases) at c.in_default-base_place.ensures)))
 
 pub returns-then-len-ge-MOST_PAIRINGS : goal.returns-then-len-ge-MOST_PAIRINGS
-returns-then-len-ge-MOST_PAIRINGS c = λ command before t k.
+returns-then-len-ge-MOST_PAIRINGS c = λ command before t.
     let row = fields_of c.args.row.now in
     let fields : (length row == field_count PairingRecord) ≡ true = grind (arith, nat_tests) in
     let formed : is_well_formed PairingRecord row ≡ true = search rules in
@@ -34,7 +33,7 @@ returns-then-len-ge-MOST_PAIRINGS c = λ command before t k.
     refl full
 
 pub returns : goal.returns
-returns c = λ command before t k.
+returns c = λ command before t.
     let row = fields_of c.args.row.now in
     let fields : (length row == field_count PairingRecord) ≡ true = grind (arith, nat_tests) in
     let formed : is_well_formed PairingRecord row ≡ true = search rules in
@@ -45,4 +44,4 @@ returns c = λ command before t k.
     let code = code_none PairingRecord before row
     (record { fresh = record { fields = fields; formed = formed; limits = penalty.0; fresh = fresh }; known = place.0; sequence = refl; window = refl })
     refl room refl in
-    (code, pairing_entry_is before row _ k (c.in_ok-new.ensures ∙ c.field-4.ensures) place.1 penalty.1 (c.next_row.ensures ∙ ap (λ n. n + 1) t.rows))
+    (code, sym place.1, penalty.1)
