@@ -9,3 +9,7 @@ inner_of w = w.inner
 -- whether it has failed since it was made
 abbrev pub has_failed : {D : Type 0} → Watched D → Bool
 has_failed w = w.failed
+
+-- whether nothing was written since it was made or flushed
+abbrev pub is_flushed : {D : Type 0} → Watched D → Bool
+is_flushed w = w.flushed

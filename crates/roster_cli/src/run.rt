@@ -7,7 +7,7 @@ ghost use Rattle.roster_model.specs.Texts.{report_text, fault_text};
 ghost use Rattle.std.specs.Io.KnownBytes.{Appends};
 ghost use Rattle.roster_report.specs.Writing.{AppendsPrefix};
 ghost use Rattle.roster_book.specs.View.{command_of};
-ghost use Rattle.roster_book.specs.Watch.{inner_of, has_failed};
+ghost use Rattle.roster_book.specs.Watch.{inner_of, has_failed, is_flushed};
 ghost use Rattle.roster_cli.specs.Run.{Answers, BeginsAnswer};
 
 use crate::status::Status;
@@ -42,6 +42,10 @@ pub fn run<R: Read, W: Write>(
         × (first_fault (command_of command) rows ≡ Some fault)
         × Appends (W.contents (inner_of writer.old)) (W.contents (inner_of writer.new)) (fault_text fault) }
 
+    // Nothing is kept back.
+    ensures flushed { (result ≡ Status.Answered → is_flushed writer.new ≡ true)
+        × (result ≡ Status.Refused → is_flushed writer.new ≡ true) }
+
     // A device's failure is told where it happened and only there.
     ensures read_failed { (result ≡ Status.ReadFailed) ↔ (has_failed reader.new ≡ true) }
     ensures write_failed { (result ≡ Status.WriteFailed) ↔ (has_failed writer.new ≡ true) }
@@ -72,6 +76,7 @@ fn report<W: Write>(alloc: Global, book: &Book, writer: &mut Watched<W>) -> Stat
     ensures part { result ≡ Status.WriteFailed → (places : List ℕ) × IsBest book.now.problem places
         × AppendsPrefix (W.contents (inner_of writer.old)) (W.contents (inner_of writer.new)) (report_text book.now.problem places) }
     ensures write_failed { (result ≡ Status.WriteFailed) ↔ (has_failed writer.new ≡ true) }
+    ensures flushed { result ≡ Status.Answered → is_flushed writer.new ≡ true }
     ensures memory { result ≡ Status.Memory → writer.new ≡ writer.old }
     ensures others { (result ≢ Status.Refused) × (result ≢ Status.ReadFailed) }
 {

@@ -1,6 +1,6 @@
-ghost use Rattle.std.specs.Prelude.{◌≡◌, false, true, OnOk, OnErr, IsErrOf};
+ghost use Rattle.std.specs.Prelude.{◌≡◌, false, true, OnOk, OnErr};
 ghost use Rattle.std.specs.Io.KnownBytes.{Appends};
-ghost use Rattle.roster_book.specs.Watch.{inner_of, has_failed};
+ghost use Rattle.roster_book.specs.Watch.{inner_of, has_failed, is_flushed};
 ghost use Rattle.roster_report.specs.Writing.{AppendsPrefix};
 
 use crate::fault::TextFault;
@@ -13,6 +13,7 @@ pub(crate) fn write_whole<W: Write>(text: &[u8], writer: &mut Watched<W>) -> Res
     ensures written { OnOk result (Appends (W.contents (inner_of writer.old))
         (W.contents (inner_of writer.new)) text.now) }
     ensures holds { OnOk result (has_failed writer.new ≡ false) }
+    ensures flushed { OnOk result (is_flushed writer.new ≡ true) }
     ensures device { OnErr result (result ≡ Err TextFault.Device) }
     ensures failed { OnErr result (has_failed writer.new ≡ true) }
     ensures prefix { OnErr result (AppendsPrefix (W.contents (inner_of writer.old))

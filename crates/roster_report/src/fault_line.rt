@@ -1,6 +1,6 @@
 ghost use Rattle.std.specs.Prelude.{◌≡◌, false, true, IfOk, OnOk, IsErrOf, string_bytes};
 ghost use Rattle.std.specs.Io.KnownBytes.{Appends};
-ghost use Rattle.roster_book.specs.Watch.{inner_of, has_failed};
+ghost use Rattle.roster_book.specs.Watch.{inner_of, has_failed, is_flushed};
 ghost use Rattle.roster_model.specs.Texts.{fault_text};
 ghost use Rattle.roster_report.specs.Writing.{AppendsPrefix};
 
@@ -21,6 +21,7 @@ pub fn write_fault<W: Write>(
     ensures written { OnOk result (Appends (W.contents (inner_of writer.old))
         (W.contents (inner_of writer.new)) (fault_text (record { row = row; code = code }))) }
     ensures holds { OnOk result (has_failed writer.new ≡ false) }
+    ensures flushed { OnOk result (is_flushed writer.new ≡ true) }
     ensures memory { IsErrOf result TextFault.Memory → writer.new ≡ writer.old }
     ensures device { IsErrOf result TextFault.Device → has_failed writer.new ≡ true }
     ensures prefix { IsErrOf result TextFault.Device → AppendsPrefix

@@ -1,6 +1,6 @@
 ghost use Rattle.std.specs.Prelude.{◌≡◌, false, true, length, IfOk, OnOk, IsErrOf};
 ghost use Rattle.std.specs.Io.KnownBytes.{Appends};
-ghost use Rattle.roster_book.specs.Watch.{inner_of, has_failed};
+ghost use Rattle.roster_book.specs.Watch.{inner_of, has_failed, is_flushed};
 ghost use Rattle.roster_model.specs.Rosters.{cost_of};
 ghost use Rattle.roster_model.specs.Texts.{report_text};
 ghost use Rattle.roster_report.specs.Writing.{AppendsPrefix};
@@ -26,6 +26,7 @@ pub fn write_report<W: Write>(
     ensures written { OnOk result (Appends (W.contents (inner_of writer.old))
         (W.contents (inner_of writer.new)) (report_text problem.now roster.now.places)) }
     ensures holds { OnOk result (has_failed writer.new ≡ false) }
+    ensures flushed { OnOk result (is_flushed writer.new ≡ true) }
     ensures memory { IsErrOf result TextFault.Memory → writer.new ≡ writer.old }
     ensures device { IsErrOf result TextFault.Device → has_failed writer.new ≡ true }
     ensures prefix { IsErrOf result TextFault.Device → AppendsPrefix
