@@ -1,5 +1,5 @@
 -- What a run does to the bytes that a writer holds.
-use Rattle.std.specs.Prelude.{ℕ, List, Option, IfSome, take}
+use Rattle.std.specs.Prelude.{ℕ, List, Option, None, Some, IfSome, codes, take}
 use Rattle.std.specs.Io.KnownBytes.{Appends}
 use Rattle.roster_cli.specs.declared.status.Status.{Status}
 use Rattle.roster_cli.specs.declared.status.Status.TheVariants as statuses
@@ -20,3 +20,11 @@ exit_number statuses.Refused = 1
 exit_number statuses.Memory = 3
 exit_number statuses.ReadFailed = 4
 exit_number statuses.WriteFailed = 4
+
+-- what standard error is told of each outcome
+abbrev pub message_text : Status → Option (List ℕ)
+message_text statuses.Answered = None
+message_text statuses.Refused = None
+message_text statuses.Memory = Some (codes "error: memory")
+message_text statuses.ReadFailed = Some (codes "error: read")
+message_text statuses.WriteFailed = Some (codes "error: write")

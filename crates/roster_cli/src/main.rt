@@ -2,6 +2,10 @@
 //! and writes it, and `main` ties both to the process.
 #![tactic(auto)]
 
+ghost use Rattle.std.specs.Prelude.{◌≡◌};
+ghost use Rattle.std.specs.Process.{exit_status};
+ghost use Rattle.roster_cli.specs.Run.{exit_number};
+
 mod law;
 mod line;
 mod run;
@@ -51,7 +55,9 @@ fn unread(rt: &impl Eprint, error: &io::Error) -> ExitCode {
 }
 
 /// Tells standard error what a run's status says, and gives the exit status.
-fn ended(rt: &impl Eprint, status: Status) -> ExitCode {
+fn ended(rt: &impl Eprint, status: Status) -> ExitCode
+    ensures { exit_status result ≡ exit_number status }
+{
     if let Some(message) = status.message() {
         let _ = rt.eprintln(message);
     }

@@ -1,6 +1,6 @@
-ghost use Rattle.std.specs.Prelude.{◌≡◌};
+ghost use Rattle.std.specs.Prelude.{◌≡◌, option_map};
 ghost use Rattle.std.specs.Process.{exit_status};
-ghost use Rattle.roster_cli.specs.Run.{exit_number};
+ghost use Rattle.roster_cli.specs.Run.{exit_number, message_text};
 
 use std::process::ExitCode;
 
@@ -33,7 +33,9 @@ impl Status {
     }
 
     /// What standard error is told, if anything.
-    pub fn message(self) -> Option<&'static str> {
+    pub fn message(self) -> Option<&'static str>
+        ensures { option_map (λ text. text.now) result ≡ message_text self }
+    {
         match self {
             Status::Answered | Status::Refused => None,
             Status::Memory => Some("error: memory"),
