@@ -7,6 +7,7 @@ use std::marker::Model;
 /// Where crew and pairings begin and end.
 #[derive(Debug, Drop)]
 pub struct Base {
+    /// Its own among the bases.
     pub id: Name,
     /// The days of the window as the base's clocks show them.
     pub days: BaseDays,
@@ -23,6 +24,7 @@ impl Model for Base {
 /// A crew member.
 #[derive(Debug, Drop)]
 pub struct Person {
+    /// Its own among the crew.
     pub id: Name,
     /// The place of the home base in book order, from 0.
     pub base: usize,
@@ -47,6 +49,7 @@ impl Model for Person {
 /// A pairing: duties in a row for one person, from its base.
 #[derive(Debug, Drop)]
 pub struct Pairing {
+    /// Its own among the pairings.
     pub id: Name,
     /// The place of the base in book order, from 0.
     pub base: usize,
@@ -74,12 +77,15 @@ pub enum Holder {
 /// A duty, from its report to its later release.
 #[derive(Debug, Drop)]
 pub struct Duty {
+    /// Its own among the duties.
     pub id: Name,
+    /// Whose duty it is.
     pub holder: Holder,
     /// Where it reports; it needn't be a base of the book.
     pub place: Name,
+    /// When it begins.
     pub report: Minute,
-    /// Post-flight duty lies before it.
+    /// When it ends, later than it begins. Post-flight duty lies before it.
     pub release: Minute,
     /// The number of the record, from 1.
     pub row: usize,

@@ -23,6 +23,7 @@ use std::io::Read;
 /// The book that was read.
 #[derive(Debug, Drop)]
 pub struct Book {
+    /// What is to be rostered.
     pub problem: Problem,
 }
 

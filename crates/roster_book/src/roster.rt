@@ -1,4 +1,4 @@
-ghost use Rattle.std.specs.Prelude.{◌≡◌, length};
+ghost use Rattle.std.specs.Prelude.{◌≡◌};
 
 use std::marker::Model;
 
@@ -25,6 +25,7 @@ impl Places {
         Places { places }
     }
 
+    /// The numbers, one for each pairing in book order.
     pub fn as_slice(&self) -> &[u16]
         ensures { result.now ≡ self.now }
     {
@@ -42,6 +43,8 @@ impl Places {
 /// A roster, with what it costs.
 #[derive(Debug, Drop)]
 pub struct Roster {
+    /// Who flies each pairing.
     pub places: Places,
+    /// The sum of the penalties of the pairings that are left open.
     pub cost: i64,
 }

@@ -1,7 +1,7 @@
 //! The best roster that a search has met.
 
 ghost use Rattle.std.specs.Prelude.{◌≡◌, ◌≤◌, All, IfOk, length, not, replicate};
-ghost use Rattle.roster_model.specs.Rosters.{key_le, key_of};
+ghost use Rattle.roster_model.specs.Rosters.{key_le};
 ghost use Rattle.roster_combine.specs.Settled.{IsHeld, Settles};
 
 use crate::rosters::{cost_of, is_legal_roster, open_number};

@@ -13,3 +13,6 @@ mod search;
 
 pub use laws::{all_open_is_legal, one_best};
 pub use search::{SolveFault, solve};
+
+#[cfg(test)]
+mod tests;

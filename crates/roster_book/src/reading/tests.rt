@@ -70,6 +70,46 @@ fn the_first_fault_is_told_by_record_and_code(rt: HostRuntime) {
     }
 }
 
+// What is wrong with the last record of a book that begins with a month, a base and a pairing.
+fn fault_of_fourth(rt: &HostRuntime, record: &[u8]) -> Option<u8> {
+    let head = b"period,2024-03\nbase,AMS,UTC0\npairing,P1,AMS,5\n";
+    let Ok(mut text) = Vec::from_slice(rt.alloc(), head) else {
+        return None;
+    };
+    if text.extend_from_slice(record).is_err() {
+        return None;
+    }
+    let mut reader = Watched::new(text.as_slice());
+    match read_book(rt.alloc(), &mut reader, Command::Solve) {
+        Err(BookFault::At { row: 4, code }) => Some(code),
+        _ => None,
+    }
+}
+
+#[test]
+fn each_code_of_a_record_is_told(rt: HostRuntime) {
+    let cases: [(&[u8], u8); 14] = [
+        (b"jump,A,AMS,0,0,0", 2),
+        (b"crew,A,AMS,0,0", 3),
+        (b"crew,A B,AMS,0,0,0", 4),
+        (b"crew,A,AMS,60001,0,0", 5),
+        (b"pairing,P2,AMS,-1", 5),
+        (b"pairing,P1,AMS,5", 6),
+        (b"crew,A,BER,0,0,0", 7),
+        (b"duty,D1,P,P2,AMS,2024-03-04T06:00Z,2024-03-04T14:00Z", 7),
+        (b"duty,D1,P,P1,AMS,2024-03-04T06:00Z,2024-03-04T06:00Z", 8),
+        (b"duty,D1,P,P1,AMS,2024-01-25T23:59Z,2024-01-26T06:00Z", 9),
+        (b"base,BER,UTC", 10),
+        (b"duty,D1,P,P1,AMS,2024-01-26T00:00Z,2024-01-26T06:00Z", 12),
+        (b"duty,D1,P,P1,BER,2024-03-04T06:00Z,2024-03-04T14:00Z", 12),
+        (b"duty,D1,P,P1,AMS,2024-04-01T00:00Z,2024-04-01T06:00Z", 12),
+    ];
+    for (record, code) in cases {
+        let told = fault_of_fourth(&rt, record);
+        assert_eq!(rt; told, Some(code), "{record:?}");
+    }
+}
+
 #[test]
 fn a_reader_that_fails_is_told_wherever_it_fails(rt: HostRuntime) {
     let text = b"period,2024-03\nbase,AMS,UTC0\n";
