@@ -28,5 +28,5 @@ pub use name::Name;
 pub use order::duties_in_order;
 pub use problem::{Command, Problem};
 pub use reading::{Book, read_book};
-pub use roster::{Places, Roster};
+pub use roster::{Places, Roster, is_on_list};
 pub use watched::Watched;

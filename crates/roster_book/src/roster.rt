@@ -1,5 +1,8 @@
 ghost use Rattle.std.specs.Prelude.{◌≡◌};
+ghost use Rattle.roster_model.specs.Rosters.{set_of};
+ghost use Rattle.roster_model.specs.Rules.{is_among, is_listed};
 
+use crate::book::{Duty, Holder};
 use std::marker::Model;
 
 /// One number for each pairing in book order: the place of the person who flies it, or the number of
@@ -47,4 +50,50 @@ pub struct Roster {
     pub places: Places,
     /// The sum of the penalties of the pairings that are left open.
     pub cost: i64,
+}
+
+// Whether the pairing at place `p` has the number.
+fn has_number(places: &[u16], number: usize, p: usize) -> bool
+    ensures { result ≡ is_among (set_of number places.now) p }
+{
+    p < places.len() && usize::from(places[p]) == number
+}
+
+/// Whether the duty is on the list of the person with this number. `places` are the numbers of a
+/// roster.
+pub fn is_on_list(places: &[u16], number: usize, duty: &Duty) -> bool
+    ensures { result ≡ is_listed (set_of number places.now) duty.now.holder }
+{
+    match duty.holder {
+        Holder::Pairing(p) => has_number(places, number, p),
+    }
+}
+
+#[cfg(test)]
+mod tests {
+    use super::*;
+    use crate::{Command, Watched, read_book};
+
+    #[test]
+    fn a_duty_is_on_the_list_of_its_number(rt: HostRuntime) {
+        let text = b"period,2024-03
+base,AMS,UTC0
+pairing,P1,AMS,5
+pairing,P2,AMS,5
+duty,D1,P,P2,AMS,2024-03-04T06:00Z,2024-03-04T14:00Z
+duty,D2,P,P1,AMS,2024-03-05T06:00Z,2024-03-05T14:00Z
+";
+        let mut reader = Watched::new(&text[..]);
+        match read_book(rt.alloc(), &mut reader, Command::Solve) {
+            Ok(book) => match book.problem.duties().first() {
+                Some(duty) => {
+                    assert!(rt; is_on_list(&[0, 1], 1, duty));
+                    assert!(rt; !is_on_list(&[0, 1], 0, duty));
+                    assert!(rt; !is_on_list(&[1], 1, duty), "past the last number");
+                }
+                None => assert!(rt; false, "no duty"),
+            },
+            Err(fault) => assert!(rt; false, "{fault}"),
+        }
+    }
 }

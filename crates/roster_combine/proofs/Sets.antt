@@ -12,16 +12,6 @@ use Rattle.roster_model.proofs.PlacesLemmas.{is_among-set_of}
 abbrev pub is_at : ℕ → List ℕ → ℕ → Bool
 is_at k xs i = option_map_or (λ x. eqb x k) (slice_get xs i) false
 
-pub is_at-within : (k p : ℕ) (xs : List ℕ) → p < length xs → is_at k xs p ≡ eqb (get_or xs p 0) k
-is_at-within k p [] h = absurd (omega arith)
-is_at-within k zero (x ∷ xs) h = refl
-is_at-within k (suc p) (x ∷ xs) h = is_at-within k p xs (omega arith)
-
-pub is_at-past : (k p : ℕ) (xs : List ℕ) → length xs ≤ p → is_at k xs p ≡ false
-is_at-past k p [] h = refl
-is_at-past k zero (x ∷ xs) h = absurd (omega arith)
-is_at-past k (suc p) (x ∷ xs) h = is_at-past k p xs (omega arith)
-
 number_there : (k p : ℕ) (xs : List ℕ) → is_at k xs p ≡ true → slice_get xs p ≡ Some k
 number_there k p [] h = cc
 number_there k zero (x ∷ xs) h = ap Some (eqb-true x k h)

@@ -1,38 +1,19 @@
 //! Whether a person's set is legal, read off the numbers of a roster.
 
 ghost use Rattle.std.specs.Prelude.{◌≡◌, ◌<◌, ◌↔◌, ◌||◌, true, [], All, IfSome, IsTrue, filter, length, option_copied, pos};
-ghost use Rattle.roster_model.specs.Calendar.{common};
+ghost use Rattle.roster_model.specs.Calendar.{common as minutes_in_common};
 ghost use Rattle.roster_model.specs.Book.{home_of};
-ghost use Rattle.roster_model.specs.Rules.{is_among, is_listed, is_of_pairing as belongs_to_pairing, least_rest as minutes_of_rest, duty_list, KeepsBase, NoOverlap, IsRested, KeepsRest, Rule, Holds, IsLegal};
+ghost use Rattle.roster_model.specs.Rules.{is_listed, is_of_pairing as belongs_to_pairing, least_rest as minutes_of_rest, duty_list, KeepsBase, NoOverlap, IsRested, KeepsRest, Rule, Holds, IsLegal};
 ghost use Rattle.roster_model.specs.Rosters.{set_of};
 
-use roster_book::{Base, Duty, Holder, Problem};
+use roster_book::{Base, Duty, Holder, Problem, is_on_list};
+use roster_instants::common;
 
 /// Whether person `k` flies no pairing.
 fn is_unused(k: usize, places: &[u16]) -> bool
     ensures { IsTrue result ↔ (set_of k places.now ≡ []) }
 {
     places.iter().all(|place| usize::from(*place) != k)
-}
-
-/// Whether person `k` flies the pairing at place `p`.
-fn is_flown(k: usize, places: &[u16], p: usize) -> bool
-    ensures { result ≡ is_among (set_of k places.now) p }
-{
-    if p < places.len() {
-        usize::from(places[p]) == k
-    } else {
-        false
-    }
-}
-
-/// Whether the duty is on the list of person `k`.
-fn is_on_list(k: usize, places: &[u16], duty: &Duty) -> bool
-    ensures { result ≡ is_listed (set_of k places.now) duty.now.holder }
-{
-    match duty.holder {
-        Holder::Pairing(p) => is_flown(k, places, p),
-    }
 }
 
 /// Whether each pairing of person `k` has the person's base.
@@ -52,21 +33,23 @@ fn keeps_base(problem: &Problem, k: usize, places: &[u16]) -> bool
 
 /// Whether the two duties share no minute.
 fn is_apart(a: &Duty, b: &Duty) -> bool
-    ensures { IsTrue result ↔ (common a.now.report a.now.release b.now.report b.now.release ≡ 0) }
+    requires first { a.now.report < a.now.release }
+    requires second { b.now.report < b.now.release }
+    ensures { IsTrue result ↔ (minutes_in_common a.now.report a.now.release b.now.report b.now.release ≡ 0) }
 {
-    let from = a.report.get().max(b.report.get());
-    let until = a.release.get().min(b.release.get());
-    until <= from
+    common(a.report, a.release, b.report, b.release) == 0
 }
 
 /// Whether the duty shares no minute with those of `earlier` that are on the list of person `k`.
 fn is_apart_from_all(k: usize, places: &[u16], earlier: &[Duty], duty: &Duty) -> bool
+    requires earlier { All (λ a. a.report < a.release) earlier.now }
+    requires duty { duty.now.report < duty.now.release }
     ensures { IsTrue result
-        ↔ All (λ a. common a.report a.release duty.now.report duty.now.release ≡ 0)
+        ↔ All (λ a. minutes_in_common a.report a.release duty.now.report duty.now.release ≡ 0)
         (filter (λ a. is_listed (set_of k places.now) a.holder) earlier.now) }
 {
     for other in earlier {
-        if is_on_list(k, places, other) && !is_apart(other, duty) {
+        if is_on_list(places, k, other) && !is_apart(other, duty) {
             return false;
         }
     }
@@ -79,7 +62,7 @@ fn no_overlap(problem: &Problem, k: usize, places: &[u16]) -> bool
 {
     let duties = problem.duties();
     for (i, duty) in duties.iter().enumerate() {
-        if is_on_list(k, places, duty) && !is_apart_from_all(k, places, &duties[..i], duty) {
+        if is_on_list(places, k, duty) && !is_apart_from_all(k, places, &duties[..i], duty) {
             return false;
         }
     }
@@ -139,7 +122,7 @@ fn keeps_rest(problem: &Problem, k: usize, places: &[u16]) -> bool
     let home = problem.home(k);
     let mut last: Option<&Duty> = None;
     for duty in problem.duties() {
-        if is_on_list(k, places, duty) {
+        if is_on_list(places, k, duty) {
             if !follows_rest(home, last, duty) {
                 return false;
             }
@@ -175,12 +158,8 @@ mod tests {
     use std::test::Fail;
 
     #[test]
-    fn a_set_is_where_the_number_stands(rt: HostRuntime) -> Result<(), Fail> {
+    fn a_person_is_unused_where_no_pairing_has_the_number(rt: HostRuntime) -> Result<(), Fail> {
         let places = [1u16, 0, 1, 2];
-        assert!(rt; is_flown(1, &places, 0));
-        assert!(rt; !is_flown(1, &places, 1));
-        assert!(rt; is_flown(1, &places, 2));
-        assert!(rt; !is_flown(1, &places, 4), "past the last pairing");
         assert!(rt; !is_unused(1, &places));
         assert!(rt; is_unused(3, &places));
         Ok(())

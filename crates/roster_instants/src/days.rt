@@ -1,4 +1,5 @@
 ghost use Rattle.std.specs.Prelude.{◌≡◌, ◌↔◌, ◌+◌, ◌<◌, ◌≤◌, pos, Some, Ok, Err, IfOk, IsErrOf, length, slice_get};
+ghost use Rattle.std.specs.List.Sorted.{IsStrictlyIncreasing};
 ghost use Rattle.jiff_core.specs.Date.{IsYmd};
 ghost use Rattle.roster_model.specs.Calendar.{Days, days_of_month, first_day, utc_days, utc_instants};
 ghost use Rattle.roster_model.specs.Zone.{days_of_zone, NotRead};
@@ -46,6 +47,7 @@ pub struct BaseDays {
 
 impl Model for BaseDays {
     ghost use Rattle.std.specs.Prelude.{◌≡◌, ◌+◌, ◌≤◌, length};
+    ghost use Rattle.std.specs.List.Sorted.{IsStrictlyIncreasing};
     ghost use Rattle.roster_model.specs.Calendar.{Days};
 
     ghost Value = { Days };
@@ -53,7 +55,7 @@ impl Model for BaseDays {
     ghost view = { λ d. record { month_days = d.month_days; mid = d.mid.items; eight = d.eight.items; ten = d.ten.items } };
 
     ghost invariant = { λ d. (length d.mid.items ≡ length d.eight.items + 1) × (length d.ten.items ≡ length d.eight.items)
-        × (length d.eight.items ≡ 35 + d.month_days + 14) × (d.month_days ≤ 31) };
+        × (length d.eight.items ≡ 35 + d.month_days + 14) × (d.month_days ≤ 31) × IsStrictlyIncreasing d.mid.items };
 }
 
 impl BaseDays {
@@ -90,7 +92,8 @@ impl BaseDays {
     /// The instant of 00:00 on day `i`; that of day `days()` is the end of the window.
     pub fn mid(&self, i: usize) -> Minute
         requires { i ≤ length self.now.eight }
-        ensures { slice_get self.now.mid i ≡ Some result }
+        ensures value { slice_get self.now.mid i ≡ Some result }
+        ensures rising { IsStrictlyIncreasing self.now.mid }
     {
         self.mid[i]
     }

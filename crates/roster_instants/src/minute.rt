@@ -50,7 +50,8 @@ impl Minute {
 pub fn common(a: Minute, b: Minute, c: Minute, d: Minute) -> i64
     requires first { a ≤ b }
     requires second { c ≤ d }
-    ensures { result ≡ pos (minutes_in_common a b c d) }
+    ensures value { result ≡ pos (minutes_in_common a b c d) }
+    ensures bound { minutes_in_common a b c d ≤ 5_000_000_000 }
 {
     let from = a.get().max(c.get());
     let to = b.get().min(d.get());

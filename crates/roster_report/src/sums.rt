@@ -2,53 +2,38 @@
 
 ghost use Rattle.std.specs.Prelude.{◌≡◌, ◌≤◌, ◌<◌, ◌^◌, length, map, sum, sum_by, if◌then◌else◌, IfOk};
 ghost use Rattle.std.specs.List.{range_with_len};
-ghost use Rattle.roster_book.specs.View.{holder_of};
-ghost use Rattle.roster_model.specs.Calendar.{common, days_before};
+ghost use Rattle.roster_model.specs.Calendar.{common as minutes_in_common, days_before};
 ghost use Rattle.roster_model.specs.Rosters.{set_of};
-ghost use Rattle.roster_model.specs.Rules.{is_among, is_listed, duty_list};
+ghost use Rattle.roster_model.specs.Rules.{is_listed, duty_list};
 ghost use Rattle.roster_model.specs.Sums.{duty_on};
 ghost use Rattle.roster_report.specs.Runs.{greatest_total};
 
-use roster_book::{Duty, Holder, Problem};
-use roster_instants::{BaseDays, Minute};
+use roster_book::{Duty, Problem, is_on_list};
+use roster_instants::{BaseDays, Minute, common};
 use std::alloc::{AllocError, Global};
 
 /// The window's day that is the month's first.
 const FIRST_JUDGED: usize = 35;
 
-/// Whether the pairing at place `p` has the number.
-fn has_number(places: &[u16], p: usize, number: usize) -> bool
-    ensures { result ≡ is_among (set_of number places.now) p }
-{
-    p < places.len() && usize::from(places[p]) == number
-}
-
-/// Whether a duty of the holder is on the list of the person with this number.
-fn is_on_list(places: &[u16], number: usize, holder: Holder) -> bool
-    ensures { result ≡ is_listed (set_of number places.now) (holder_of holder) }
-{
-    match holder {
-        Holder::Pairing(p) => has_number(places, p, number),
-    }
-}
-
 /// The minutes that a duty shares with the time from one instant to another.
 fn shared(duty: &Duty, start: Minute, end: Minute) -> u64
-    ensures value { result ≡ common duty.now.report duty.now.release start end }
+    requires duty { duty.now.report < duty.now.release }
+    requires time { start ≤ end }
+    ensures value { result ≡ minutes_in_common duty.now.report duty.now.release start end }
     ensures bound { result ≤ 5_000_000_000 }
 {
-    let from = duty.report.get().max(start.get()) as u64;
-    let to = duty.release.get().min(end.get()) as u64;
-    to.saturating_sub(from)
+    common(duty.report, duty.release, start, end) as u64
 }
 
 /// The same for a duty of the person with this number, and 0 for any other.
 fn share(places: &[u16], number: usize, duty: &Duty, start: Minute, end: Minute) -> u64
+    requires duty { duty.now.report < duty.now.release }
+    requires time { start ≤ end }
     ensures value { result ≡ (if is_listed (set_of number places.now) duty.now.holder
-        then common duty.now.report duty.now.release start end else 0) }
+        then minutes_in_common duty.now.report duty.now.release start end else 0) }
     ensures bound { result ≤ 5_000_000_000 }
 {
-    if is_on_list(places, number, duty.holder) {
+    if is_on_list(places, number, duty) {
         shared(duty, start, end)
     } else {
         0
@@ -57,7 +42,8 @@ fn share(places: &[u16], number: usize, duty: &Duty, start: Minute, end: Minute)
 
 /// The duty of the person with this number from one instant to another.
 fn duty_between(problem: &Problem, places: &[u16], number: usize, start: Minute, end: Minute) -> u64
-    ensures value { result ≡ sum_by (λ duty. common duty.report duty.release start end)
+    requires { start ≤ end }
+    ensures value { result ≡ sum_by (λ duty. minutes_in_common duty.report duty.release start end)
         (duty_list problem.now number (set_of number places.now)) }
     ensures bound { result ≤ 20_480_000_000_000 }
 {

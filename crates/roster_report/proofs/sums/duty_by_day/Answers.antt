@@ -10,7 +10,7 @@ pub loop-day-preserved : goal.loop-day-preserved
 loop-day-preserved c =
     let list = duty_list c.args.problem.now c.args.number (set_of c.args.number c.args.places.now) in
     record {
-      table = rw c.in_ok-push.ensures.items (table-more c.args.days.now list c.loop-day.day _ _ _ c.loop-day.table.items c.mid.ensures c.mid-in-loop-day.ensures c.duty_between-minutes.ensures.value c.loop-day.invariant.table);
+      table = rw c.in_ok-push.ensures.items (table-more c.args.days.now list c.loop-day.day _ _ _ c.loop-day.table.items c.mid.ensures.value c.mid-in-loop-day.ensures.value c.duty_between-minutes.ensures.value c.loop-day.invariant.table);
       bound = rw c.in_ok-push.ensures.items (sum-more-le c.loop-day.table.items _ 20_480_000_000_000 c.loop-day.day c.loop-day.invariant.bound c.duty_between-minutes.ensures.bound);
     }
 

@@ -1,7 +1,7 @@
 use Rattle.std.proofs.Common.{sym, ◌∙◌}
 use Rattle.roster_model.proofs.PlacesLemmas.{is_among-set_of_at, is_among-set_of_past}
 use Rattle.std.proofs.lemmas.Bool.{le-ltb}
-use Rattle.roster_report.proofs.sums.has_number.Goals as goal
+use Rattle.roster_book.proofs.roster.has_number.Goals as goal
 
 pub returns-then-p-places : goal.returns-then-p-places
 returns-then-p-places c =
