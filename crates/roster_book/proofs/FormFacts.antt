@@ -1,5 +1,5 @@
 -- Texts of the forms of a field are ASCII, and a number of the form is what `parse` reads.
-use Rattle.std.proofs.Common.{◌≡◌, ◌≢◌, Bor, MatchResult, option_map, ap, ℕ, zero, suc, ◌<◌, ◌≤◌, Bool, true, false, ◌==◌, cond, List, [], ◌∷◌, length, drop, ℤ, pos, Some, Result, Ok, Err, w64, refl, sym, subst, arith}
+use Rattle.std.proofs.Common.{◌≡◌, ◌≢◌, Bor, IsOk, MatchResult, ℕ, zero, suc, ◌<◌, ◌≤◌, Bool, true, false, ◌==◌, cond, List, [], ◌∷◌, length, drop, ℤ, pos, Some, Result, Ok, Err, w64, refl, sym, subst, arith}
 use Rattle.std.specs.Str.{IsAscii, IsUtf8}
 use Rattle.std.proofs.lemmas.Str.{IsUtf8-from_ascii}
 use Rattle.std.specs.Char.{is_ascii_digit, is_ascii_graphic}
@@ -103,6 +103,6 @@ parses_number [] r p h = absurd (unfold is_number in cc h)
 parses_number (c ∷ cs) r p h = parses_by_sign c cs (c == 45) refl r p h
 
 -- ASCII is text
-pub text_of_ascii : {E : Type 0} (bytes : List ℕ) (r : Result (Bor (List ℕ)) E) (P : E → Type 0) → MatchResult r (λ s. (s.now ≡ bytes) × IsUtf8 bytes) (λ e. ¬ (IsUtf8 bytes) × P e) → IsAscii bytes → option_map (λ s. s.now) (result_ok r) ≡ Some bytes
-text_of_ascii bytes (Ok s) P h a = ap Some h.0
+pub text_of_ascii : {E : Type 0} (bytes : List ℕ) (r : Result (Bor (List ℕ)) E) (P : E → Type 0) → MatchResult r (λ s. (s.now ≡ bytes) × IsUtf8 bytes) (λ e. ¬ (IsUtf8 bytes) × P e) → IsAscii bytes → IsOk r
+text_of_ascii bytes (Ok s) P h a = refl
 text_of_ascii bytes (Err e) P h a = absurd (h.0 (IsUtf8-from_ascii bytes a))

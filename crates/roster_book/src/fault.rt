@@ -1,3 +1,5 @@
+//! Why no book was read.
+
 use thiserror::Error;
 
 /// Why no book was read.

@@ -62,10 +62,11 @@ pub(crate) fn is_number(text: &[u8]) -> bool
 }
 
 // The bytes as text, which ASCII is.
-fn ascii(bytes: &[u8]) -> Option<&str>
-    ensures { IsAscii bytes.now → option_map (λ s. s.now) result ≡ Some bytes.now }
+fn ascii(bytes: &[u8]) -> &str
+    requires { IsAscii bytes.now }
+    ensures { result.now ≡ bytes.now }
 {
-    str::from_utf8(bytes).ok()
+    str::from_utf8(bytes).unwrap()
 }
 
 // The number that the text spells, if it is of the form.
@@ -75,7 +76,7 @@ fn number(text: &[u8]) -> Option<i64>
     if !is_number(text) {
         return None;
     }
-    ascii(text)?.parse().ok()
+    ascii(text).parse().ok()
 }
 
 /// The number that a text of the form spells, if it is from 0 to `most`.
@@ -98,7 +99,7 @@ pub(crate) fn zone_text(text: &[u8]) -> Option<&str>
     ensures { option_map (λ s. s.now) result ≡ (if form.is_zone_text text.now then Some text.now else None) }
 {
     if (1..=64).contains(&text.len()) && has_graphic_bytes(text) {
-        ascii(text)
+        Some(ascii(text))
     } else {
         None
     }

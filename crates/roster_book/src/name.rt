@@ -1,3 +1,5 @@
+//! The identifiers of a book.
+
 ghost use Rattle.std.specs.Prelude.{◌≡◌, IfOk};
 
 use std::alloc::{AllocError, Global};

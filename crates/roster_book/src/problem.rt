@@ -1,3 +1,5 @@
+//! A rostering problem, as the crates above see it.
+
 ghost use Rattle.std.specs.Prelude.{◌≡◌, ◌<◌, Some, length, slice_get};
 ghost use Rattle.roster_model.specs.Book.{Book, home_of};
 ghost use Rattle.roster_book.specs.Sound.{IsSound};
@@ -72,7 +74,7 @@ impl Problem {
         ensures sound { IsSound self.now }
         ensures faultless { IsFaultless self.now }
     {
-        &self.persons
+        self.persons.as_slice()
     }
 
     /// The pairings, in book order.
@@ -81,7 +83,7 @@ impl Problem {
         ensures sound { IsSound self.now }
         ensures faultless { IsFaultless self.now }
     {
-        &self.pairings
+        self.pairings.as_slice()
     }
 
     /// All duties, by report, release and record number.
@@ -90,7 +92,7 @@ impl Problem {
         ensures sound { IsSound self.now }
         ensures faultless { IsFaultless self.now }
     {
-        &self.duties
+        self.duties.as_slice()
     }
 
     /// The person with this number.

@@ -1,3 +1,5 @@
+//! Who flies what.
+
 ghost use Rattle.std.specs.Prelude.{◌≡◌};
 ghost use Rattle.roster_model.specs.Rosters.{set_of};
 ghost use Rattle.roster_model.specs.Rules.{is_among, is_listed};

@@ -1,3 +1,5 @@
+//! The command line.
+
 ghost use Rattle.std.specs.Prelude.{◌≡◌, ◌≢◌, true, false, IfOk, IfErr, Some, map, codes, []};
 ghost use Rattle.clap.specs.Words.{app_of, takes, fault_of, kind_of, HasKind, Kinds};
 ghost use Rattle.roster_cli.specs.Line.{roster_app, command_name, spelling, NamesMemory, TellsKind};

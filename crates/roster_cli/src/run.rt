@@ -1,3 +1,5 @@
+//! A run: a book is read, and its one answer written.
+
 ghost use Rattle.std.specs.Prelude.{◌≡◌, ◌≢◌, ◌↔◌, ℕ, List, true, false, None, Some};
 ghost use Rattle.roster_model.specs.Book.{Record, book_of};
 ghost use Rattle.roster_model.specs.Faults.{Fault, first_fault};

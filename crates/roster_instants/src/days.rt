@@ -1,3 +1,5 @@
+//! The local days of a base round a month.
+
 ghost use Rattle.std.specs.Prelude.{◌≡◌, ◌↔◌, ◌+◌, ◌<◌, ◌≤◌, pos, Some, Ok, Err, IfOk, IsErrOf, length, slice_get};
 ghost use Rattle.std.specs.List.Sorted.{IsStrictlyIncreasing};
 ghost use Rattle.jiff_core.specs.Date.{IsYmd};

@@ -1,3 +1,5 @@
+//! Instants to the minute.
+
 ghost use Rattle.std.specs.Prelude.{◌≡◌, ◌+◌, ◌*◌, ◌≤◌, ◌<◌, pos, ℕ, true, false, MatchOption};
 ghost use Rattle.std.specs.Int.{is_in_range};
 ghost use Rattle.roster_model.specs.Calendar.{common as minutes_in_common, day_number, is_real_date, instant_of};

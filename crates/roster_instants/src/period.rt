@@ -1,3 +1,5 @@
+//! Months.
+
 ghost use Rattle.std.specs.Prelude.{◌≡◌, ◌≤◌, pos};
 ghost use Rattle.roster_model.specs.Calendar.{period_of};
 

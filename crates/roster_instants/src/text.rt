@@ -1,3 +1,5 @@
+//! Shapes of texts, and the digits in them.
+
 ghost use Rattle.std.specs.Prelude.{◌≡◌, ◌<◌, ◌≤◌, ◌+◌, ◌-◌, ◌^◌, IsTrue, length, slice_range};
 ghost use Rattle.std.specs.Int.{is_in_range};
 ghost use Rattle.std.specs.Str.{all_ascii_digits};

@@ -1,6 +1,6 @@
 -- Which sets of pairings are legal for a person. A set is the ascending list of the places of its
--- pairings. The rules are those of ORO.FTL.210 and ORO.FTL.235 of Regulation (EU) 83/2014 in this
--- project's profile; Base, Overlap and Rest are judged so far.
+-- pairings. Base and Overlap are this project's own; Rest is ORO.FTL.235(a)(1) and (b) of Regulation
+-- (EU) No 83/2014 in this project's profile. No further rule is judged so far.
 use Rattle.std.specs.Prelude.{◌≡◌, ◌⊎◌, ℕ, ◌+◌, ◌-◌, ◌≤◌, Bool, true, ◌||◌, ◌==◌, if◌then◌else◌, List, [], Some, slice_get, max, Contains, AllPairs}
 use Rattle.std.specs.List.{filter, list_any}
 use Rattle.std.specs.Str.{bytes_eq}

@@ -1,5 +1,5 @@
--- The local days that a base's zone text stands for. What `jiff` makes of zone texts enters the
--- definitions here and nowhere else.
+-- The local days that a base's zone text stands for. Zones enter the definitions here and nowhere
+-- else.
 use Rattle.std.specs.Prelude.{ℕ, if◌then◌else◌, List, Result, Ok, Err, codes}
 use Rattle.std.specs.Str.{bytes_eq}
 use Rattle.roster_model.specs.Calendar.{Period, Days, utc_days}

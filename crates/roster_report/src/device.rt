@@ -1,3 +1,5 @@
+//! Writing a text whole.
+
 ghost use Rattle.std.specs.Prelude.{◌≡◌, false, true, OnOk, OnErr};
 ghost use Rattle.std.specs.Io.KnownBytes.{Appends};
 ghost use Rattle.roster_book.specs.Watch.{inner_of, has_failed, is_flushed};

@@ -1,3 +1,5 @@
+//! Why a text was not written.
+
 ghost use Rattle.std.specs.Prelude.{◌≡◌};
 ghost use Rattle.roster_report.specs.declared.fault.TextFault.TheVariants.{Memory};
 

@@ -1,3 +1,5 @@
+//! The line of a fault.
+
 ghost use Rattle.std.specs.Prelude.{◌≡◌, false, true, IfOk, OnOk, IsErrOf, string_bytes};
 ghost use Rattle.std.specs.Io.KnownBytes.{Appends};
 ghost use Rattle.roster_book.specs.Watch.{inner_of, has_failed, is_flushed};

@@ -1,3 +1,5 @@
+//! The report of a roster.
+
 ghost use Rattle.std.specs.Prelude.{◌≡◌, false, true, length, IfOk, OnOk, IsErrOf};
 ghost use Rattle.std.specs.Io.KnownBytes.{Appends};
 ghost use Rattle.roster_book.specs.Watch.{inner_of, has_failed, is_flushed};
