@@ -90,6 +90,7 @@ fn tells_a_failed_reader(rt: HostRuntime) {
     let status = run(rt.alloc(), Command::Solve, &mut reader, &mut writer);
     assert_eq!(rt; status, Status::Answered);
     assert_eq!(rt; writer.inner().as_slice(), REPORT);
+    assert!(rt; writer.flushed());
 }
 
 /// How a writer fails.
@@ -106,6 +107,7 @@ struct FailingWriter {
     taken: Vec<u8>,
     writes: u16,
     failure: Failure,
+    flushes: u16,
 }
 
 impl Write for FailingWriter {
@@ -125,6 +127,7 @@ impl Write for FailingWriter {
     }
 
     fn flush(&mut self) -> io::Result<()> {
+        self.flushes = self.flushes.saturating_add(1);
         match self.failure {
             Failure::Flush => Err(io::Error::from(io::ErrorKind::Other)),
             _ => Ok(()),
@@ -138,6 +141,7 @@ fn tells<R: Abort + AllocGlobal>(rt: &R, writes: u16, failure: Failure) {
         taken: Vec::new(rt.alloc()),
         writes,
         failure,
+        flushes: 0,
     });
     let status = run(rt.alloc(), Command::Solve, &mut reader, &mut writer);
     assert_eq!(rt;
@@ -149,6 +153,8 @@ fn tells<R: Abort + AllocGlobal>(rt: &R, writes: u16, failure: Failure) {
     let taken = &writer.inner().taken;
     assert_eq!(rt; taken.len(), REPORT.len().min(3 * usize::from(writes)));
     assert!(rt; REPORT.starts_with(taken.as_slice()));
+    let flushes = if failure == Failure::Flush { 1 } else { 0 };
+    assert_eq!(rt; writer.inner().flushes, flushes);
 }
 
 #[test]
