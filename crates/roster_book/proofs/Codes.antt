@@ -115,10 +115,6 @@ pub record IsPlaced (kind : Kind) (before : List Record) (row : Record) : Type 0
   pub sequence : is_in_sequence kind before row ≡ true
   pub window : is_in_window kind before row ≡ true
 
-pub code_zone : (kind : Kind) (before : List Record) (row : Record) → IsPlaced kind before row → has_days kind before row ≡ false → code_of_kind kind before row ≡ Some 10
-unfolding code_of_kind
-code_zone kind before row p e = rw (p.fresh.fields, p.fresh.formed, p.fresh.limits, p.fresh.fresh, p.known, p.sequence, p.window, e) refl
-
 pub code_room : (kind : Kind) (before : List Record) (row : Record) → IsPlaced kind before row → has_days kind before row ≡ true → has_room kind before ≡ false → code_of_kind kind before row ≡ Some 11
 unfolding code_of_kind
 code_room kind before row p d e = rw (p.fresh.fields, p.fresh.formed, p.fresh.limits, p.fresh.fresh, p.known, p.sequence, p.window, d, e) refl

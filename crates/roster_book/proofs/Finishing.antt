@@ -1,13 +1,13 @@
 -- The book of the records of a draft, and the first fault of them all.
-use Rattle.std.proofs.Common.{◌≡◌, ℕ, ◌<◌, List, [], ◌∷◌, ◌++◌, length, Option, Some, None, refl, sym, ◌∙◌, ap, append-nil, arith}
+use Rattle.std.proofs.Common.{◌≡◌, ℕ, List, Option, Some, None, refl, sym, ◌∙◌}
 use Rattle.std.specs.Prelude.{option_map, not}
 use Rattle.std.specs.List.{list_any, find, enumerate_from}
 use Rattle.roster_model.specs.Calendar.{Period}
-use Rattle.roster_model.specs.Book.{Record, Command, Pairing, book_of, in_order, next_row, is_held_by_pairing}
-use Rattle.roster_model.specs.Faults.{Fault, code_of, first_fault_after, first_fault, missing_duty}
+use Rattle.roster_model.specs.Book.{Record, Command, Pairing, book_of, in_order, is_held_by_pairing}
+use Rattle.roster_model.specs.Faults.{Fault, missing_duty}
 use Rattle.roster_book.specs.Taken.{Contents, AreTablesOf, IsFaultless, HasRecords}
 use Rattle.roster_book.proofs.KindFacts.{rows_of_period}
-use Rattle.roster_book.proofs.Steps.{first_fault-seen}
+use Rattle.roster_book.proofs.FirstFaultLemmas.{first_fault-at-end}
 use mathlib.Core.Logic.{∥∥₁_map}
 
 -- the row that tables tell as the first without a duty
@@ -32,24 +32,10 @@ pub a_missing : (command : Command) (rows : List Record) (kept : Contents) (n : 
 unfolding missing_duty
 a_missing command rows kept n t h = some_told _ n (rw (t.duties, t.pairings) at h)
 
--- Where none of some records has a fault of its own, only a pairing without a duty is one.
-pub first_fault_at_end : (command : Command) (rows : List Record) (kept : Contents) → AreTablesOf command rows kept → 0 < length rows → first_fault command rows ≡ missing_duty rows
-unfolding first_fault first_fault_after
-first_fault_at_end command [] kept t h = absurd (omega arith)
-first_fault_at_end command (row ∷ rows) kept t h =
-    ap (first_fault_after command []) (sym (append-nil (row ∷ rows))) ∙ first_fault-seen command [] (row ∷ rows) [] t.faultless
-
--- The first record with a fault of its own is the first fault, whatever follows.
-pub first_fault_at : (command : Command) (before rest : List Record) (row : Record) (kept : Contents) (code : ℕ) → AreTablesOf command before kept → code_of command before row ≡ Some code → first_fault command (before ++ row ∷ rest) ≡ Some (record { row = next_row before; code = code })
-unfolding first_fault first_fault_after
-first_fault_at command [] rest row kept code t h = rw h refl
-first_fault_at command (first ∷ before) rest row kept code t h =
-    first_fault-seen command [] (first ∷ before) (row ∷ rest) t.faultless ∙ rw h refl
-
 pub book_is : (command : Command) (rows : List Record) (kept : Contents) (period : Period) → AreTablesOf command rows kept → kept.period ≡ Some period → record { period = period; bases = kept.bases; persons = kept.persons; pairings = kept.pairings; duties = in_order kept.duties } ≡ book_of rows
 book_is command rows kept period t p = rw ((rows_of_period rows period (sym p ∙ t.period)).1, t.bases, t.persons, t.pairings, t.duties) refl
 
 pub IsFaultless-finished : (kept : Contents) (period : Period) → HasRecords kept → kept.period ≡ Some period → row_without_duty kept ≡ None → IsFaultless (record { period = period; bases = kept.bases; persons = kept.persons; pairings = kept.pairings; duties = in_order kept.duties })
 unfolding HasRecords IsFaultless
 IsFaultless-finished kept period h p m = ∥∥₁_map h (λ (command, rows, t).
-    (command, rows, first_fault_at_end command rows kept t (rows_of_period rows period (sym p ∙ t.period)).0 ∙ no_missing command rows kept t m, book_is command rows kept period t p))
+    (command, rows, first_fault-at-end command rows t.faultless (rows_of_period rows period (sym p ∙ t.period)).0 ∙ no_missing command rows kept t m, book_is command rows kept period t p))

@@ -9,7 +9,7 @@ use Rattle.std.specs.Result.{OkIff, result_ok}
 use Rattle.std.specs.Str.Parse.{ParsesSigned, digits_value, starts_with_minus}
 use Rattle.std.proofs.lemmas.Bool.Decides.{nat_tests}
 use Rattle.std.proofs.lemmas.Str.Parse.{IsDigitsTest, IsNumeralModel, numerals_by_value, parse_signed_minus, parse_signed_plain, digits_value_short}
-use Rattle.roster_model.specs.Form.{is_number, is_zone_text, number_of, unsigned_part}
+use Rattle.roster_model.specs.Form.{is_number, number_of, unsigned_part}
 use Rattle.roster_book.proofs.Tests.{both_of}
 
 digit_range : (c : ℕ) → is_ascii_digit c ≡ true → IsInRange 48 57 c
@@ -54,10 +54,6 @@ IsAscii-behind (c ∷ cs) true t e h (suc i) = h i
 pub IsAscii-number : (text : List ℕ) → is_number text ≡ true → IsAscii text
 unfolding is_number
 IsAscii-number text h = IsAscii-behind text (starts_with_minus text) refl refl (IsAscii-digits (unsigned_part text) (both_of _ _ h).1)
-
-pub IsAscii-zone : (text : List ℕ) → is_zone_text text ≡ true → IsAscii text
-unfolding is_zone_text
-IsAscii-zone text h = IsAscii-graphic text (both_of _ _ h).1
 
 some_where : {T E : Type 0} (r : Result T E) (P : Type 0) (v : T) → OkIff r P v → P → result_ok r ≡ Some v
 some_where (Ok x) P v h p = cc

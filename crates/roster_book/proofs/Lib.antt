@@ -2,7 +2,6 @@ pub mod Amounts
 pub mod Codes
 pub mod DraftFacts
 pub mod DutyFacts
-pub mod Entries
 pub mod Enumerated
 pub mod Fields
 pub mod Finishing

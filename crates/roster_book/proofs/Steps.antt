@@ -1,23 +1,11 @@
 -- The tables after one more record without a fault.
-use Rattle.std.proofs.Common.{◌≡◌, ℕ, ◌+◌, ◌<◌, true, List, [], ◌∷◌, ◌++◌, length, Option, Some, None, refl, sym, ◌∙◌, ap, append-nil, length-append, arith}
-use Rattle.std.proofs.Math.Seq.{append_snoc}
+use Rattle.std.proofs.Common.{◌≡◌, ℕ, ◌+◌, ◌<◌, true, List, [], ◌∷◌, ◌++◌, length, Option, Some, None, refl, sym, ◌∙◌, ap, length-append, arith}
 use Rattle.roster_model.specs.Calendar.{Period}
 use Rattle.roster_model.specs.Book.{Record, Command, Kind, PeriodRecord, BaseRecord, CrewRecord, PairingRecord, DutyRecord, is_of, period_in, Base, base_entry, Person, person_entry, Pairing, pairing_entry, Duty, duty_entry}
-use Rattle.roster_model.specs.Faults.{code_of, first_fault_after}
-use Rattle.roster_book.specs.Taken.{IsFaultlessAfter, Contents, AreTablesOf, period_so_far}
+use Rattle.roster_model.specs.Faults.{code_of}
+use Rattle.roster_book.proofs.FirstFaultLemmas.{faultless-more}
+use Rattle.roster_book.specs.Taken.{Contents, AreTablesOf, period_so_far}
 use Rattle.roster_book.proofs.Gathering.{gather_stays, gather_grows, period_in-append, base_entry-other, person_entry-other, pairing_entry-other, duty_entry-other}
-
-pub IsFaultlessAfter-append : (command : Command) (before rows : List Record) (row : Record) → IsFaultlessAfter command before rows → code_of command (before ++ rows) row ≡ None → IsFaultlessAfter command before (rows ++ row ∷ [])
-IsFaultlessAfter-append command before [] row h n = (rw append-nil at n, tt)
-IsFaultlessAfter-append command before (first ∷ rows) row h n =
-    (h.0, IsFaultlessAfter-append command (before ++ first ∷ []) rows row h.1 (rw (append_snoc before first rows) n))
-
--- what the first fault of all is, once some records are seen to have none of their own
-pub first_fault-seen : (command : Command) (before rows rest : List Record) → IsFaultlessAfter command before rows → first_fault_after command before (rows ++ rest) ≡ first_fault_after command (before ++ rows) rest
-unfolding first_fault_after
-first_fault-seen command before [] rest h = rw append-nil refl
-first_fault-seen command before (first ∷ rows) rest h =
-    rw h.0 (first_fault-seen command (before ++ first ∷ []) rows rest h.1 ∙ ap (λ all. first_fault_after command all rest) (append_snoc before first rows))
 
 some_period : (rows : List Record) → 0 < length rows → period_so_far rows ≡ Some (period_in rows)
 some_period [] h = absurd (omega arith)
@@ -46,7 +34,7 @@ takes_base command before kept row base f e = record {
   persons = f.tables.persons ∙ sym (gather_stays person_entry before row (person_entry-other BaseRecord before row f.kind_is refl));
   pairings = f.tables.pairings ∙ sym (gather_stays pairing_entry before row (pairing_entry-other BaseRecord before row f.kind_is refl));
   duties = f.tables.duties ∙ sym (gather_stays duty_entry before row (duty_entry-other BaseRecord before row f.kind_is refl));
-  faultless = IsFaultlessAfter-append command [] before row f.tables.faultless f.none;
+  faultless = faultless-more command [] before row f.tables.faultless f.none;
 }
 
 pub takes_person : (command : Command) (before : List Record) (kept : Contents) (row : Record) (person : Person) → Follows command before kept CrewRecord row → person_entry before row ≡ Some person → AreTablesOf command (before ++ row ∷ []) (record kept { rows = kept.rows + 1; persons = kept.persons ++ person ∷ [] })
@@ -58,7 +46,7 @@ takes_person command before kept row person f e = record {
   persons = ap (λ xs. xs ++ person ∷ []) f.tables.persons ∙ sym (gather_grows person_entry before row person e);
   pairings = f.tables.pairings ∙ sym (gather_stays pairing_entry before row (pairing_entry-other CrewRecord before row f.kind_is refl));
   duties = f.tables.duties ∙ sym (gather_stays duty_entry before row (duty_entry-other CrewRecord before row f.kind_is refl));
-  faultless = IsFaultlessAfter-append command [] before row f.tables.faultless f.none;
+  faultless = faultless-more command [] before row f.tables.faultless f.none;
 }
 
 pub takes_pairing : (command : Command) (before : List Record) (kept : Contents) (row : Record) (pairing : Pairing) → Follows command before kept PairingRecord row → pairing_entry before row ≡ Some pairing → AreTablesOf command (before ++ row ∷ []) (record kept { rows = kept.rows + 1; pairings = kept.pairings ++ pairing ∷ [] })
@@ -70,7 +58,7 @@ takes_pairing command before kept row pairing f e = record {
   persons = f.tables.persons ∙ sym (gather_stays person_entry before row (person_entry-other PairingRecord before row f.kind_is refl));
   pairings = ap (λ xs. xs ++ pairing ∷ []) f.tables.pairings ∙ sym (gather_grows pairing_entry before row pairing e);
   duties = f.tables.duties ∙ sym (gather_stays duty_entry before row (duty_entry-other PairingRecord before row f.kind_is refl));
-  faultless = IsFaultlessAfter-append command [] before row f.tables.faultless f.none;
+  faultless = faultless-more command [] before row f.tables.faultless f.none;
 }
 
 pub takes_duty : (command : Command) (before : List Record) (kept : Contents) (row : Record) (duty : Duty) → Follows command before kept DutyRecord row → duty_entry before row ≡ Some duty → AreTablesOf command (before ++ row ∷ []) (record kept { rows = kept.rows + 1; duties = kept.duties ++ duty ∷ [] })
@@ -82,7 +70,7 @@ takes_duty command before kept row duty f e = record {
   persons = f.tables.persons ∙ sym (gather_stays person_entry before row (person_entry-other DutyRecord before row f.kind_is refl));
   pairings = f.tables.pairings ∙ sym (gather_stays pairing_entry before row (pairing_entry-other DutyRecord before row f.kind_is refl));
   duties = ap (λ xs. xs ++ duty ∷ []) f.tables.duties ∙ sym (gather_grows duty_entry before row duty e);
-  faultless = IsFaultlessAfter-append command [] before row f.tables.faultless f.none;
+  faultless = faultless-more command [] before row f.tables.faultless f.none;
 }
 
 -- the first record

@@ -23,6 +23,16 @@ abbrev pub StopsAtFirst : Command → List Record → Stop → Type 0
 StopsAtFirst command rows (stop.At row code) = first_fault command rows ≡ Some (record { row = row; code = code })
 StopsAtFirst command rows stop.Unread = ⊤
 
+-- the stop is at the record of this number and has its code, or the record has none and memory ran out
+abbrev pub StopsAt : ℕ → Option ℕ → Stop → Type 0
+StopsAt number code (stop.At row c) = (row ≡ number) × (code ≡ Some c)
+StopsAt number code stop.Unread = code ≡ None
+
+-- a stop is told as this fault, where the reader has not failed
+abbrev pub Told : Stop → BookFault → Type 0
+Told (stop.At row code) fault = fault ≡ At row code
+Told stop.Unread fault = fault ≡ Memory
+
 -- ---- the records of a reader
 
 -- the reader works, takes no record for a header row, and takes records of any length

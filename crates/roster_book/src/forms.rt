@@ -1,6 +1,6 @@
 //! The forms of a record's fields.
 
-ghost use Rattle.std.specs.Prelude.{◌≡◌, true, unsigned_abs, option_map, if◌then◌else◌, Some, None};
+ghost use Rattle.std.specs.Prelude.{◌≡◌, ◌&&◌, unsigned_abs, option_map, if◌then◌else◌, Some, None};
 ghost use Rattle.std.specs.Char.{is_ascii_digit, is_ascii_graphic};
 ghost use Rattle.std.specs.List.{list_all};
 ghost use Rattle.std.specs.Str.{IsAscii};
@@ -79,9 +79,9 @@ fn number(text: &[u8]) -> Option<i64>
     ascii(text).parse().ok()
 }
 
-/// The number that a text of the form spells, if it is from 0 to `most`.
+/// The number that the text spells, if it is of the form and from 0 to `most`.
 pub(crate) fn amount(text: &[u8], most: u32) -> Option<u32>
-    ensures { form.is_number text.now ≡ true → result ≡ (if is_amount most (form.number_of text.now) then Some (unsigned_abs (form.number_of text.now)) else None) }
+    ensures { result ≡ (if form.is_number text.now && is_amount most (form.number_of text.now) then Some (unsigned_abs (form.number_of text.now)) else None) }
 {
     let number = u32::try_from(number(text)?).ok()?;
     (number <= most).then_some(number)

@@ -1,13 +1,13 @@
 //! A book, read record by record until its end or its first fault.
 
-ghost use Rattle.std.specs.Prelude.{◌≡◌, ◌↔◌, [], ◌∷◌, true, false, length, List, None, IfSome, IfOk, IfErr, IsErrOf};
+ghost use Rattle.std.specs.Prelude.{◌≡◌, ◌↔◌, [], ◌∷◌, ◌++◌, true, false, length, List, None, IfSome, IfOk, IfErr, IsErrOf, OnOk};
 ghost use Rattle.csv.specs.Reading.{error_kind, stops_reader};
 ghost use Rattle.csv.specs.Records.{fields_of};
 ghost use Rattle.roster_model.specs.Answer.{records_of};
 ghost use Rattle.roster_model.specs.Book.{Record, Command as Asked, book_of};
-ghost use Rattle.roster_model.specs.Faults.{first_fault};
+ghost use Rattle.roster_model.specs.Faults.{code_of, first_fault, missing_duty};
 ghost use Rattle.roster_book.specs.Draft.{IsDraftOf};
-ghost use Rattle.roster_book.specs.Reading.{AreSeen, IsOpen, StopsAtFirst, TellsFirst, records_left};
+ghost use Rattle.roster_book.specs.Reading.{AreSeen, IsOpen, StopsAt, StopsAtFirst, TellsFirst, records_left};
 ghost use Rattle.roster_book.specs.Taken.{IsFaultlessSoFar};
 ghost use Rattle.roster_book.specs.View.{command_of};
 ghost use Rattle.roster_book.specs.Watch.{inner_of, has_failed};
@@ -49,11 +49,7 @@ pub fn read_book<R: Read>(
     if reader.failed() {
         return Err(BookFault::Device);
     }
-    match outcome {
-        Ok(problem) => Ok(Book { problem }),
-        Err(Stop::At { row, code }) => Err(BookFault::At { row, code }),
-        Err(Stop::Unread) => Err(BookFault::Memory),
-    }
+    Ok(Book { problem: outcome? })
 }
 
 // Why the reading of records stopped, before it is known whether the reader or memory failed.
@@ -81,6 +77,20 @@ impl From<Error> for Stop {
 
     fn from(_error: Error) -> Stop {
         Stop::Unread
+    }
+}
+
+// What a stop is told as, where the reader has not failed.
+impl From<Stop> for BookFault {
+    ghost use Rattle.roster_book.specs.Reading.{Told};
+
+    ghost from_gives = { λ stop fault. Told stop fault };
+
+    fn from(stop: Stop) -> BookFault {
+        match stop {
+            Stop::At { row, code } => BookFault::At { row, code },
+            Stop::Unread => BookFault::Memory,
+        }
     }
 }
 
@@ -125,14 +135,28 @@ fn read_rows<R: Read>(
         if !next_record(rows, &mut row)? {
             return close(alloc, draft, seen);
         }
-        if let Some(code) = draft.take(alloc, &row)? {
-            return Err(Stop::At {
-                row: seen + 1,
-                code,
-            });
-        }
+        take_record(alloc, &mut draft, &row, seen + 1)?;
     }
     unreachable!()
+}
+
+// Takes the record of this number, or stops at it.
+fn take_record(
+    alloc: Global,
+    draft: &mut Draft,
+    row: &ByteRecord,
+    number: usize,
+) -> Result<(), Stop>
+    ensures taken { (command : Asked) (before : List Record) → IsDraftOf command before draft.old
+        → OnOk result ((code_of command before (fields_of row.now) ≡ None)
+        × IsDraftOf command (before ++ fields_of row.now ∷ []) draft.new) }
+    ensures stops { (command : Asked) (before : List Record) → IsDraftOf command before draft.old
+        → IfErr result (StopsAt number (code_of command before (fields_of row.now))) }
+{
+    match draft.take(alloc, row)? {
+        None => Ok(()),
+        Some(code) => Err(Stop::At { row: number, code }),
+    }
 }
 
 // The next record into `row`, and whether there was one. Only the reader or memory can fail.
@@ -152,6 +176,9 @@ fn close(alloc: Global, draft: Draft, count: usize) -> Result<Problem, Stop>
         → IfOk result (λ problem. (first_fault command rows ≡ None) × (problem ≡ book_of rows)) }
     ensures fault { (command : Asked) (rows : List Record) → IsDraftOf command rows draft → length rows ≡ count → IsFaultlessSoFar command rows
         → IfErr result (λ stop. StopsAtFirst command rows stop) }
+    // Memory runs out where no pairing lacks a duty alone.
+    ensures memory { (command : Asked) (rows : List Record) → IsDraftOf command rows draft
+        → IfErr result (λ stop. stop ≡ Stop.Unread → missing_duty rows ≡ None) }
 {
     if count == 0 {
         return Err(Stop::At { row: 1, code: 1 });

@@ -1,8 +1,7 @@
 -- A text that answers some bytes is the only one.
-use Rattle.std.proofs.Common.{◌≡◌, ℕ, List, Option, Some, None, ap, sym, ◌∙◌, inl, inr}
+use Rattle.std.proofs.Common.{◌≡◌, ℕ, List, Some, None, ap, sym, ◌∙◌, inl, inr}
 use Rattle.roster_model.specs.Answer.{IsAnswer, IsRefusal, IsReport, records_of}
 use Rattle.roster_model.specs.Book.{Book, Command, book_of}
-use Rattle.roster_model.specs.Faults.{Fault, first_fault}
 use Rattle.roster_model.specs.Rosters.{IsBest}
 use Rattle.roster_model.specs.Texts.{report_text, fault_text}
 

@@ -78,6 +78,7 @@ pub fn read_line<'a, S: AsStr>(alloc: Global, words: &'a [S]) -> Result<(Command
 /// clap's want of memory by its own name.
 fn refusal(error: clap::Error) -> LineFault
     ensures memory { kind_of error ≡ ErrorKind.OutOfMemory → result ≡ LineFault.Memory }
+    ensures only { result ≡ LineFault.Memory → kind_of error ≡ ErrorKind.OutOfMemory }
     ensures named { NamesMemory result }
     ensures kept { (kinds : Kinds) → HasKind kinds error → TellsKind kinds result }
 {

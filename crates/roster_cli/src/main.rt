@@ -2,7 +2,9 @@
 //! and writes it, and `main` ties both to the process.
 #![tactic(auto)]
 
-ghost use Rattle.std.specs.Prelude.{◌≡◌};
+ghost use Rattle.std.specs.Prelude.{◌≡◌, ◌≢◌};
+ghost use Rattle.std.specs.IoError.{error_kind};
+ghost use Rattle.std.specs.declared.io.ErrorKind.TheVariants.{OutOfMemory};
 ghost use Rattle.std.specs.Process.{exit_status};
 ghost use Rattle.roster_cli.specs.Run.{exit_number};
 
@@ -28,11 +30,7 @@ fn main(rt: HostRuntime) -> ExitCode {
     };
     let (command, _workers) = match read_line(rt.alloc(), words.as_slice()) {
         Ok(line) => line,
-        Err(LineFault::Memory) => return ended(&rt, Status::Memory),
-        Err(LineFault::Refused(error)) => {
-            let _ = rt.eprint(&error);
-            return ExitCode::from(LINE_REFUSED);
-        }
+        Err(fault) => return unasked(&rt, &fault),
     };
     let mut reader = Watched::new(rt.reader());
     let mut writer = Watched::new(io::writer(&rt));
@@ -46,12 +44,29 @@ fn arguments<R: env::Env + AllocGlobal>(rt: &R) -> io::Result<Vec<String>> {
 }
 
 /// A word of the command line is no text, or memory ran out on the way.
-fn unread(rt: &impl Eprint, error: &io::Error) -> ExitCode {
+fn unread(rt: &impl Eprint, error: &io::Error) -> ExitCode
+    ensures memory { error_kind error.now ≡ OutOfMemory → exit_status result ≡ 3 }
+    ensures refused { error_kind error.now ≢ OutOfMemory → exit_status result ≡ 2 }
+{
     if error.kind() == io::ErrorKind::OutOfMemory {
         return ended(rt, Status::Memory);
     }
     let _ = rt.eprintln("error: a word of the command line is not UTF-8");
     ExitCode::from(LINE_REFUSED)
+}
+
+/// The command line is refused, or memory ran out on the way.
+fn unasked(rt: &impl Eprint, fault: &LineFault) -> ExitCode
+    ensures memory { fault.now ≡ LineFault.Memory → exit_status result ≡ 3 }
+    ensures refused { fault.now ≢ LineFault.Memory → exit_status result ≡ 2 }
+{
+    match fault {
+        LineFault::Memory => ended(rt, Status::Memory),
+        LineFault::Refused(error) => {
+            let _ = rt.eprint(error);
+            ExitCode::from(LINE_REFUSED)
+        }
+    }
 }
 
 /// Tells standard error what a run's status says, and gives the exit status.

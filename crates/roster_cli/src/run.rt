@@ -1,6 +1,6 @@
 //! A run: a book is read, and its one answer written.
 
-ghost use Rattle.std.specs.Prelude.{◌≡◌, ◌≢◌, ◌↔◌, ℕ, List, true, false, None, Some};
+ghost use Rattle.std.specs.Prelude.{◌≡◌, ◌≢◌, ◌↔◌, ◌⊎◌, ℕ, List, true, false, None, Some};
 ghost use Rattle.roster_model.specs.Book.{Record, book_of};
 ghost use Rattle.roster_model.specs.Faults.{Fault, first_fault};
 ghost use Rattle.roster_model.specs.Answer.{IsReport, IsRefusal, IsAnswer};
@@ -43,6 +43,11 @@ pub fn run<R: Read, W: Write>(
     ensures some_refusal { result ≡ Status.Refused → (rows : List Record) × (fault : Fault)
         × (first_fault (command_of command) rows ≡ Some fault)
         × Appends (W.contents (inner_of writer.old)) (W.contents (inner_of writer.new)) (fault_text fault) }
+    ensures some_part { result ≡ Status.WriteFailed → ((rows : List Record) × (places : List ℕ)
+        × (first_fault (command_of command) rows ≡ None) × IsBest (book_of rows) places
+        × AppendsPrefix (W.contents (inner_of writer.old)) (W.contents (inner_of writer.new)) (report_text (book_of rows) places))
+        ⊎ ((rows : List Record) × (fault : Fault) × (first_fault (command_of command) rows ≡ Some fault)
+        × AppendsPrefix (W.contents (inner_of writer.old)) (W.contents (inner_of writer.new)) (fault_text fault)) }
 
     // Nothing is kept back.
     ensures flushed { (result ≡ Status.Answered → is_flushed writer.new ≡ true)

@@ -70,9 +70,6 @@ pub record EndsWith {X : Type 0} (xs : List X) (last : Option X) : Type 0 where
   pub none : length xs ≡ 0 → last ≡ None
   pub some : (d : X) → 0 < length xs → last ≡ Some (get_or xs (length xs - 1) d)
 
-pub EndsWith-nothing : {X : Type 0} → EndsWith {X = X} [] None
-EndsWith-nothing = record { none = λ _. refl; some = λ d h. absurd (omega arith) }
-
 pub EndsWith-push : {X : Type 0} (xs : List X) (x : X) → EndsWith (xs ++ x ∷ []) (Some x)
 EndsWith-push xs x = record {
   none = λ h. absurd (omega (arith, length_push xs x));

@@ -26,14 +26,6 @@ Settles-then book First Second Both old mid new first second covers = record {
       ];
 }
 
--- a smaller region
-pub Settles-within : (book : Book) (Wide Region : List ℕ → Type 0) (old new : Key) → Settles book Wide old new → ((others : List ℕ) → IsLegalRoster book others → Region others → Wide others) → Settles book Region old new
-Settles-within book Wide Region old new wide within = record {
-  held = wide.held;
-  kept = wide.kept;
-  least = λ others legal inside. wide.least others legal (within others legal inside);
-}
-
 -- one legal roster that comes before the one held
 pub Settles-taken : (book : Book) (old : Key) (cost : ℤ) (places taken : List ℕ) → cost ≡ cost_of book places → taken ≡ places → IsLegalRoster book places → key_le old (record { cost = cost; places = places }) ≡ false → Settles book (λ others. others ≡ places) old (record { cost = cost; places = taken })
 Settles-taken book old cost places taken costs copied legal after =

@@ -1,8 +1,8 @@
 -- A person's set, read off the list of places.
-use Rattle.std.proofs.Common.{◌≡◌, ℕ, ◌+◌, ◌<◌, ◌≤◌, Bool, true, false, not, ◌||◌, ◌↔◌, eqb, List, [], ◌∷◌, suc, zero, length, get_or, slice_get, Some, Contains, refl, sym, ap, ◌∙◌, subst, inl, inr, arith}
+use Rattle.std.proofs.Common.{◌≡◌, ℕ, ◌+◌, Bool, true, false, not, ◌↔◌, eqb, List, [], ◌∷◌, suc, zero, get_or, slice_get, Some, Contains, refl, sym, ap, ◌∙◌, subst, inl, inr}
 use Rattle.std.specs.List.{list_all}
 use Rattle.std.specs.Option.{option_map_or}
-use Rattle.std.proofs.lemmas.Bool.{cond_both, cond-true, cond-false, eq-eqb, ne_eqb, eqb-true, or_from, or_left, and_parts, and_from, not-true, not_from_false, cases_Bool}
+use Rattle.std.proofs.lemmas.Bool.{cond-true, cond-false, eq-eqb, eqb-true, and_parts, and_from, not-true, not_from_false, cases_Bool}
 use Rattle.std.proofs.lemmas.List.Folds.{list_any_at, Any-from_list_any}
 use Rattle.roster_model.specs.Rules.{is_among}
 use Rattle.roster_model.specs.Rosters.{places_with, set_of}

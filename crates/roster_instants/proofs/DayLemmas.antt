@@ -1,7 +1,7 @@
 -- Dates, and the numbers of their days.
-use Rattle.std.proofs.Common.{◌≡◌, ◌∙◌, ℕ, ◌+◌, ◌<◌, ◌≤◌, true, false, ℤ, pos, neg_ℤ, ◌≤ℤ◌, ap, arith, to_z, of_z, w8, w16, w32, inl, inr, Result, Ok, Err, Some}
+use Rattle.std.proofs.Common.{◌≡◌, ◌∙◌, ℕ, ◌+◌, ◌<◌, ◌≤◌, true, ℤ, pos, ◌≤ℤ◌, ap, arith, to_z, of_z, w8, w16, w32, inl, inr, Result, Ok, Err, Some}
 use Rattle.std.specs.Result.{result_ok}
-use Rattle.std.proofs.lemmas.Bool.{and_from, and_parts, le-leb, leb-true, cases_Bool, cases_lt}
+use Rattle.std.proofs.lemmas.Bool.{and_from, le-leb, cases_lt}
 use Rattle.std.proofs.lemmas.Int.{ints}
 use Rattle.std.specs.Int.{is_in_range}
 use Rattle.jiff_core.proofs.CalendarLemmas.{day_count-epoch, days_from_civil-day_count, day_count-day_of_year, day_count-later_year}
@@ -18,31 +18,6 @@ is_between low high n above below = and_from _ _ (le-leb low n (omega (arith, in
 pub is_real_from_date : (year month day : ℕ) → IsDate (pos year) (pos month) (pos day) → is_real_date year month day ≡ true
 is_real_from_date year month day is =
     and_from _ _ (is_between 1 12 month is.1.0 is.1.1) (is_between 1 (days_in_month (pos year) month) day is.2.0 is.2.1)
-
-at_least : (low n : ℕ) → low ≤ n → pos low ≤ℤ pos n
-at_least low n h = omega (arith, ints)
-
-negative_below : (n : ℕ) → neg_ℤ (pos 9999) ≤ℤ pos n
-negative_below n = omega (arith, ints)
-
--- and the other way
-pub date_from_is_real : (year month day : ℕ) → year ≤ 9998 → is_real_date year month day ≡ true → IsDate (pos year) (pos month) (pos day)
-date_from_is_real year month day last is =
-    let parts = and_parts (is_in_range 1 12 month) (is_in_range 1 (days_in_month (pos year) month) day) is in
-    let months = and_parts _ _ parts.0 in
-    let days = and_parts _ _ parts.1 in (
-      (negative_below year, at_least year 9999 (omega arith)),
-      (at_least 1 month (leb-true 1 month months.0), at_least month 12 (leb-true month 12 months.1)),
-      (at_least 1 day (leb-true 1 day days.0), at_least day (days_in_month (pos year) month) (leb-true day _ days.1)),
-    )
-
--- what `jiff` refuses isn't
-pub unreal_from_refused : (year month day : ℕ) → year ≤ 9998 → (IsDate (pos year) (pos month) (pos day) → ⊥) → is_real_date year month day ≡ false
-unreal_from_refused year month day last not =
-    elim (cases_Bool (is_real_date year month day)) [
-      | inl is ↦ absurd (not (date_from_is_real year month day last is))
-      | inr is_not ↦ is_not
-    ]
 
 -- the days up to the first of a year, from 1970 on
 first_count : (year : ℕ) → 1970 ≤ year → 4_371_953 ≤ day_count (pos year) 1 1

@@ -1,24 +1,13 @@
 -- What a writer holds after one write and then another.
-use Rattle.std.proofs.Common.{ℕ, ◌+◌, List, ◌++◌, [], take, drop, Option, Some, None, sym, ap, ◌∙◌, append_assoc, subst}
+use Rattle.std.proofs.Common.{ℕ, ◌+◌, List, ◌++◌, take, drop, Option, Some, None, sym, ap, ◌∙◌, append_assoc, subst}
 use Rattle.std.proofs.Math.Seq.{take-add}
-use Rattle.std.proofs.lemmas.List.{append-nil}
-use Rattle.std.specs.Io.KnownBytes.{Appends, Keeps}
-
-pub Appends-none : (held : Option (List ℕ)) → Appends held held []
-Appends-none None = tt
-Appends-none (Some bytes) = sym (append-nil bytes)
+use Rattle.std.specs.Io.KnownBytes.{Appends}
 
 pub Appends-then : (first second third : Option (List ℕ)) (xs ys : List ℕ) → Appends first second xs → Appends second third ys → Appends first third (xs ++ ys)
 Appends-then None second third xs ys a b = tt
 Appends-then (Some p) None third xs ys a b = absurd a
 Appends-then (Some p) (Some q) None xs ys a b = absurd b
 Appends-then (Some p) (Some q) (Some r) xs ys a b = b ∙ ap (λ (t : List ℕ). t ++ ys) a ∙ append_assoc p xs ys
-
-pub Appends-keeps : (first second third : Option (List ℕ)) (xs : List ℕ) → Appends first second xs → Keeps second third → Appends first third xs
-Appends-keeps None second third xs a k = tt
-Appends-keeps (Some p) None third xs a k = absurd a
-Appends-keeps (Some p) (Some q) None xs a k = absurd k
-Appends-keeps (Some p) (Some q) (Some r) xs a k = k ∙ a
 
 -- the front of a text, and then the front of what follows
 pub Appends-front : (first second third : Option (List ℕ)) (k n : ℕ) (text : List ℕ) → Appends first second (take k text) → Appends second third (take n (drop k text)) → Appends first third (take (k + n) text)

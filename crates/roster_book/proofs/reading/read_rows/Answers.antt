@@ -1,14 +1,13 @@
-use Rattle.std.proofs.Common.{◌≡◌, ◌++◌, ◌∷◌, [], refl, sym, ◌∙◌, ap, arith, Option, Some, None, Ok, length-append}
-use Rattle.std.specs.Prelude.{⊤, IfSome}
+use Rattle.std.proofs.Common.{◌≡◌, ◌++◌, ◌∷◌, [], refl, arith, None, length-append}
 use Rattle.std.proofs.lemmas.Result.{IfErr-weaker, IfOk-weaker, err_from_is_err_and}
 use Rattle.csv.specs.Records.{fields_of}
 use Rattle.roster_model.specs.Book.{book_of}
 use Rattle.roster_model.specs.Faults.{first_fault}
 use Rattle.roster_book.specs.Reading.{StopsAtFirst, records_left}
 use Rattle.roster_book.specs.View.{command_of}
-use Rattle.roster_book.proofs.FirstFaultLemmas.{faultless-more, first_fault-at}
+use Rattle.roster_book.proofs.FirstFaultLemmas.{faultless-more}
 use Rattle.roster_book.proofs.SoundTables.{length-faultless}
-use Rattle.roster_book.proofs.SeenRecords.{seen-all, seen-fault, seen-more, seen-none}
+use Rattle.roster_book.proofs.SeenRecords.{seen-all, seen-more, seen-none, seen-stop, some-stop}
 use Rattle.roster_book.proofs.reading.read_rows.Goals as goal
 
 pub loop-seen-init : goal.loop-seen-init
@@ -22,16 +21,6 @@ loop-seen-init g c = (
     count = refl;
   },
 )
-
--- nothing is claimed of any value
-no_claim : {X : Type 0} (o : Option X) → IfSome o (λ _. ⊤)
-no_claim None = tt
-no_claim (Some x) = tt
-
-pub returns-in_err-code-clause-fault : goal.returns-in_err-code-clause-fault
-returns-in_err-code-clause-fault g c =
-    let p = err_from_is_err_and c.from_residual-in_err-code.result c.from_residual-in_err-code.ensures.1 in
-    rw (p.1, p.2) (no_claim (records_left g.R.Read.remaining c.args.rows.now))
 
 pub returns-then-not-branch-clause-book : goal.returns-then-not-branch-clause-book
 returns-then-not-branch-clause-book g c =
@@ -63,22 +52,20 @@ returns-then-not-branch-clause-some_fault g c =
     let h = c.loop-seen.invariant.1 in
     IfErr-weaker c.close.result _ _ (λ stop held. (seen, held)) (c.close.ensures.fault (command_of c.args.command) seen h.draft h.count h.faultless)
 
-pub returns-in-Some-clause-some_fault : goal.returns-in-Some-clause-some_fault
-returns-in-Some-clause-some_fault g c =
+pub returns-in_err-take_record-clause-some_fault : goal.returns-in_err-take_record-clause-some_fault
+returns-in_err-take_record-clause-some_fault g c =
     let seen = c.loop-seen.invariant.0 in
     let h = c.loop-seen.invariant.1 in
-    let row = fields_of c.next_record.new.row in
-    let code = sym (c.in_ok-code.ensures.code (command_of c.args.command) seen h.draft) ∙ c.in-Some.is in
-    (seen ++ row ∷ [], rw (← h.count) (first_fault-at (command_of c.args.command) seen row [] c.in-Some.code h.faultless code))
+    let p = err_from_is_err_and c.from_residual-in_err-take_record.result c.from_residual-in_err-take_record.ensures.1 in
+    rw (p.1, p.2) (some-stop (command_of c.args.command) seen (fields_of c.next_record.new.row) c.loop-seen.seen _ h.faultless h.count (c.in_err-take_record.ensures.stops (command_of c.args.command) seen h.draft))
 
-pub returns-in-Some-clause-fault : goal.returns-in-Some-clause-fault
-returns-in-Some-clause-fault g c =
+pub returns-in_err-take_record-clause-fault : goal.returns-in_err-take_record-clause-fault
+returns-in_err-take_record-clause-fault g c =
     let seen = c.loop-seen.invariant.0 in
     let h = c.loop-seen.invariant.1 in
     let next = c.in_ok-next_record.ensures.record c.if-not-branch.false in
-    let code = sym (c.in_ok-code.ensures.code (command_of c.args.command) seen h.draft) ∙ c.in-Some.is in
-    seen-fault _ _ _ (command_of c.args.command) seen (fields_of c.next_record.new.row) c.loop-seen.seen c.in-Some.code
-    h.follows next.1 h.faultless h.count code
+    let p = err_from_is_err_and c.from_residual-in_err-take_record.result c.from_residual-in_err-take_record.ensures.1 in
+    rw (p.1, p.2) (seen-stop _ _ _ (command_of c.args.command) seen (fields_of c.next_record.new.row) c.loop-seen.seen _ h.follows next.1 h.faultless h.count (c.in_err-take_record.ensures.stops (command_of c.args.command) seen h.draft))
 
 pub loop-seen-preserved : goal.loop-seen-preserved
 loop-seen-preserved g c =
@@ -86,14 +73,14 @@ loop-seen-preserved g c =
     let h = c.loop-seen.invariant.1 in
     let row = fields_of c.next_record.new.row in
     let next = c.in_ok-next_record.ensures.record c.if-not-branch.false in
-    let code = sym (c.in_ok-code.ensures.code (command_of c.args.command) seen h.draft) ∙ c.in_default.is in
+    let taken = c.in_ok-take_record.ensures.taken (command_of c.args.command) seen h.draft in
     let size = length-append seen (row ∷ []) in (
       seen ++ row ∷ [],
       record {
         is_open = next.0;
         follows = seen-more _ _ _ seen row h.follows next.1;
-        draft = c.take.ensures.taken (command_of c.args.command) seen h.draft (c.in_ok-code.was ∙ ap Ok c.in_default.is);
-        faultless = faultless-more (command_of c.args.command) [] seen row h.faultless code;
+        draft = taken.1;
+        faultless = faultless-more (command_of c.args.command) [] seen row h.faultless taken.0;
         count = omega arith;
       },
     )

@@ -1,7 +1,8 @@
 use Rattle.std.proofs.Common.{◌∙◌, sym}
 use Rattle.std.proofs.lemmas.Result.{err_from_is_err_and}
 use Rattle.roster_book.specs.View.{contents_of}
-use Rattle.roster_book.proofs.Finishing.{no_missing, a_missing, first_fault_at_end, book_is, IsFaultless-finished}
+use Rattle.roster_book.proofs.FirstFaultLemmas.{first_fault-at-end}
+use Rattle.roster_book.proofs.Finishing.{no_missing, a_missing, book_is, IsFaultless-finished}
 use Rattle.roster_book.proofs.KindFacts.{rows_of_period}
 use Rattle.roster_book.proofs.draft.Draft.finish.Goals as goal
 
@@ -28,5 +29,5 @@ returns-clause-book c = λ command rows s.
     let begun = (rows_of_period rows c.in-Some.period (sym c.in-Some.is ∙ t.period)).0 in (
       c.new.ensures ∙ rw c.in_ok-duties.ensures (book_is command rows (contents_of c.self.inside.tables) c.in-Some.period t c.in-Some.is),
       missing,
-      first_fault_at_end command rows (contents_of c.self.inside.tables) t begun ∙ missing,
+      first_fault-at-end command rows t.faultless begun ∙ missing,
     )

@@ -3,7 +3,7 @@ use Rattle.std.proofs.lemmas.Bool.Decides.{nat_tests}
 use Rattle.csv.specs.Records.{fields_of}
 use Rattle.roster_model.specs.Book.{PairingRecord, field, amount_in, bases_in, is_base_named}
 use Rattle.roster_model.specs.Faults.{field_count, is_well_formed, is_within_limits, is_repeated, has_room}
-use Rattle.roster_book.proofs.Amounts.{amount_read, pairing_number}
+use Rattle.roster_book.proofs.Amounts.{amount_read}
 use Rattle.roster_book.proofs.Codes.{code_unknown, code_room, code_none}
 use Rattle.roster_book.proofs.Positions.{position_none, position_some}
 use Rattle.roster_book.proofs.tables.Tables.judge_pairing.Goals as goal
@@ -13,7 +13,7 @@ returns-in_default-base_place c = λ command before t.
     let row = fields_of c.args.row.now in
     let fields : (length row == field_count PairingRecord) ≡ true = grind (arith, nat_tests) in
     let formed : is_well_formed PairingRecord row ≡ true = search rules in
-    let penalty : (is_within_limits PairingRecord row ≡ true) × (c.in-Some.penalty ≡ amount_in row 3) = amount_read _ _ _ (rw c.field.ensures at c.in-Some.ensures (pairing_number row formed)) in
+    let penalty : (is_within_limits PairingRecord row ≡ true) × (c.in-Some.penalty ≡ amount_in row 3) = amount_read _ _ _ _ (rw c.field.ensures at c.in-Some.ensures) in
     let fresh : is_repeated PairingRecord before row ≡ false = rw (← t.pairings, ← c.field-2.ensures, ← c.has_pairing.ensures) c.if-has_pairing.false in
     code_unknown PairingRecord before row
     (record { fields = fields; formed = formed; limits = penalty.0; fresh = fresh })
@@ -24,7 +24,7 @@ returns-then-len-ge-MOST_PAIRINGS c = λ command before t.
     let row = fields_of c.args.row.now in
     let fields : (length row == field_count PairingRecord) ≡ true = grind (arith, nat_tests) in
     let formed : is_well_formed PairingRecord row ≡ true = search rules in
-    let penalty : (is_within_limits PairingRecord row ≡ true) × (c.in-Some.penalty ≡ amount_in row 3) = amount_read _ _ _ (rw c.field.ensures at c.in-Some.ensures (pairing_number row formed)) in
+    let penalty : (is_within_limits PairingRecord row ≡ true) × (c.in-Some.penalty ≡ amount_in row 3) = amount_read _ _ _ _ (rw c.field.ensures at c.in-Some.ensures) in
     let fresh : is_repeated PairingRecord before row ≡ false = rw (← t.pairings, ← c.field-2.ensures, ← c.has_pairing.ensures) c.if-has_pairing.false in
     let place = position_some (is_base_named (field row 2)) (bases_in before) c.in-Some-base_place.base (sym (rw (c.field-3.ensures, t.bases) at c.in-Some-base_place.ensures)) in
     let full : has_room PairingRecord before ≡ false = rw (← t.pairings) (grind (arith, nat_tests)) in
@@ -37,7 +37,7 @@ returns c = λ command before t.
     let row = fields_of c.args.row.now in
     let fields : (length row == field_count PairingRecord) ≡ true = grind (arith, nat_tests) in
     let formed : is_well_formed PairingRecord row ≡ true = search rules in
-    let penalty : (is_within_limits PairingRecord row ≡ true) × (c.in-Some.penalty ≡ amount_in row 3) = amount_read _ _ _ (rw c.field.ensures at c.in-Some.ensures (pairing_number row formed)) in
+    let penalty : (is_within_limits PairingRecord row ≡ true) × (c.in-Some.penalty ≡ amount_in row 3) = amount_read _ _ _ _ (rw c.field.ensures at c.in-Some.ensures) in
     let fresh : is_repeated PairingRecord before row ≡ false = rw (← t.pairings, ← c.field-2.ensures, ← c.has_pairing.ensures) c.if-has_pairing.false in
     let place = position_some (is_base_named (field row 2)) (bases_in before) c.in-Some-base_place.base (sym (rw (c.field-3.ensures, t.bases) at c.in-Some-base_place.ensures)) in
     let room : has_room PairingRecord before ≡ true = rw (← t.pairings) (grind (arith, nat_tests)) in
