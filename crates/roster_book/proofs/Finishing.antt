@@ -1,41 +1,49 @@
--- The book of the records of a draft, and the first fault of them all.
-use Rattle.std.proofs.Common.{◌≡◌, ℕ, List, Option, Some, None, refl, sym, ◌∙◌}
-use Rattle.std.specs.Prelude.{option_map, not}
-use Rattle.std.specs.List.{list_any, find, enumerate_from}
-use Rattle.roster_model.specs.Calendar.{Period}
-use Rattle.roster_model.specs.Book.{Record, Command, Pairing, book_of, in_order, is_held_by_pairing}
-use Rattle.roster_model.specs.Faults.{Fault, missing_duty}
-use Rattle.roster_book.specs.Taken.{Contents, AreTablesOf, IsFaultless, HasRecords}
-use Rattle.roster_book.proofs.KindFacts.{rows_of_period}
+-- The problem of the records of a draft, and the first fault of them all.
+use Rattle.std.proofs.Common.{◌≡◌, ℕ, Option, Some, None, List, refl, sym, ap, ◌∙◌}
+use Rattle.std.specs.Prelude.{option_map}
+use Rattle.roster_model.specs.Record.{Record, Command}
+use Rattle.roster_model.specs.Code.{NoDuty}
+use Rattle.roster_model.specs.Problem.{Problem, in_order, problem_of}
+use Rattle.roster_model.specs.Faults.{Fault, IsFaultless, fault_at, first_fault, missing_duty, pairing_without_duty}
+use Rattle.roster_model.specs.records.Pairing.{Pairing}
+use Rattle.roster_book.specs.Draft.{HasRecords, IsDraftOf}
+use Rattle.roster_book.specs.Reading.{IsProblemOf}
 use Rattle.roster_book.proofs.FirstFaultLemmas.{first_fault-at-end}
 use mathlib.Core.Logic.{∥∥₁_map}
 
--- the row that tables tell as the first without a duty
-abbrev pub row_without_duty : Contents → Option ℕ
-row_without_duty kept = option_map (λ (entry : ℕ × Pairing). entry.1.row)
-    (find (λ (entry : ℕ × Pairing). not (list_any (λ duty. is_held_by_pairing entry.0 duty.holder) kept.duties))
-    (enumerate_from 0 kept.pairings))
+-- the row of the first pairing without a duty
+abbrev pub row_without_duty : Problem → Option ℕ
+row_without_duty tables = option_map (λ (entry : ℕ × Pairing). entry.1.row) (pairing_without_duty tables)
 
-none_told : (o : Option (ℕ × Pairing)) → option_map (λ (entry : ℕ × Pairing). entry.1.row) o ≡ None → option_map {U = Fault} (λ (entry : ℕ × Pairing). record { row = entry.1.row; code = 14 }) o ≡ None
+none_told : (o : Option (ℕ × Pairing)) → option_map (λ (entry : ℕ × Pairing). entry.1.row) o ≡ None → option_map {U = Fault} (λ (entry : ℕ × Pairing). fault_at entry.1.row NoDuty) o ≡ None
 none_told None h = refl
 none_told (Some x) h = cc
 
-some_told : (o : Option (ℕ × Pairing)) (n : ℕ) → option_map (λ (entry : ℕ × Pairing). entry.1.row) o ≡ Some n → option_map {U = Fault} (λ (entry : ℕ × Pairing). record { row = entry.1.row; code = 14 }) o ≡ Some (record { row = n; code = 14 })
+some_told : (o : Option (ℕ × Pairing)) (n : ℕ) → option_map (λ (entry : ℕ × Pairing). entry.1.row) o ≡ Some n → option_map {U = Fault} (λ (entry : ℕ × Pairing). fault_at entry.1.row NoDuty) o ≡ Some (fault_at n NoDuty)
 some_told None n h = cc
 some_told (Some x) n h = cc
 
-pub no_missing : (command : Command) (rows : List Record) (kept : Contents) → AreTablesOf command rows kept → row_without_duty kept ≡ None → missing_duty rows ≡ None
+pub first_fault-none : (command : Command) (row : ℕ) (book : List Record) (tables : Problem) → IsDraftOf command row book tables
+    → row_without_duty tables ≡ None → first_fault command book ≡ None
 unfolding missing_duty
-no_missing command rows kept t h = none_told _ (rw (t.duties, t.pairings) at h)
+first_fault-none command row book tables d h =
+    first_fault-at-end command book d.faultless d.begun ∙ none_told _ (rw d.tables_are at h)
 
-pub a_missing : (command : Command) (rows : List Record) (kept : Contents) (n : ℕ) → AreTablesOf command rows kept → row_without_duty kept ≡ Some n → missing_duty rows ≡ Some (record { row = n; code = 14 })
+pub first_fault-missing : (command : Command) (row : ℕ) (book : List Record) (tables : Problem) (n : ℕ) → IsDraftOf command row book tables
+    → row_without_duty tables ≡ Some n → first_fault command book ≡ Some (fault_at n NoDuty)
 unfolding missing_duty
-a_missing command rows kept n t h = some_told _ n (rw (t.duties, t.pairings) at h)
+first_fault-missing command row book tables n d h =
+    first_fault-at-end command book d.faultless d.begun ∙ some_told _ n (rw d.tables_are at h)
 
-pub book_is : (command : Command) (rows : List Record) (kept : Contents) (period : Period) → AreTablesOf command rows kept → kept.period ≡ Some period → record { period = period; bases = kept.bases; persons = kept.persons; pairings = kept.pairings; duties = in_order kept.duties } ≡ book_of rows
-book_is command rows kept period t p = rw ((rows_of_period rows period (sym p ∙ t.period)).1, t.bases, t.persons, t.pairings, t.duties) refl
+pub IsProblemOf-draft : (command : Command) (row : ℕ) (book : List Record) (tables : Problem) → IsDraftOf command row book tables
+    → row_without_duty tables ≡ None → IsProblemOf command book (record tables { duties = in_order tables.duties })
+IsProblemOf-draft command row book tables d h = record {
+  faultless = first_fault-none command row book tables d h;
+  problem_is = ap (λ (t : Problem). record t { duties = in_order t.duties }) d.tables_are;
+}
 
-pub IsFaultless-finished : (kept : Contents) (period : Period) → HasRecords kept → kept.period ≡ Some period → row_without_duty kept ≡ None → IsFaultless (record { period = period; bases = kept.bases; persons = kept.persons; pairings = kept.pairings; duties = in_order kept.duties })
+pub IsFaultless-draft : (tables : Problem) → HasRecords tables → row_without_duty tables ≡ None
+    → IsFaultless (record tables { duties = in_order tables.duties })
 unfolding HasRecords IsFaultless
-IsFaultless-finished kept period h p m = ∥∥₁_map h (λ (command, rows, t).
-    (command, rows, first_fault-at-end command rows t.faultless (rows_of_period rows period (sym p ∙ t.period)).0 ∙ no_missing command rows kept t m, book_is command rows kept period t p))
+IsFaultless-draft tables h none = ∥∥₁_map h (λ (command, row, book, d).
+    (let p = IsProblemOf-draft command row book tables d none in (command, book, p.faultless, p.problem_is)))

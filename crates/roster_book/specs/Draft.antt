@@ -1,8 +1,64 @@
--- What a draft of a book holds.
-use Rattle.std.specs.Prelude.{List}
-use Rattle.roster_model.specs.Book.{Record, Command}
-use Rattle.roster_book.specs.Taken.{Contents, AreTablesOf}
+-- What is kept of the records taken so far.
+use Rattle.std.specs.Prelude.{◌≡◌, ◌<◌, ◌+◌, ℕ, List, [], ◌∷◌, ◌++◌, length, Option, Some, None, Result, Ok, Err, IsOk, IsErr, option_map, unwrap_or, slice_get}
+use Rattle.roster_model.specs.Record.{Record, Command, next_row}
+use Rattle.roster_model.specs.Code.{Code, ZoneRefused}
+use Rattle.roster_model.specs.Calendar.{Days}
+use Rattle.roster_model.specs.Zone.{ZoneRefusal}
+use Rattle.roster_model.specs.Problem.{Problem, tables_in}
+use Rattle.roster_model.specs.Faults.{IsFaultlessSoFar, code_of}
+use Rattle.roster_model.specs.records.Base.{Base, base_at}
+use Rattle.roster_problem.specs.View.{tables_of}
+use Rattle.roster_book.specs.declared.code.Code.{Code as CodeTold}
+use Rattle.roster_book.specs.declared.draft.Draft.{Draft}
+use Rattle.roster_book.specs.declared.refusal.Refusal.{Refusal}
+use Rattle.roster_book.specs.declared.refusal.Refusal.TheVariants as refusals
+use Rattle.roster_book.specs.View.{code_of as view_of_code, Refuses}
 
--- The draft holds these records, none of which has a fault of its own in a book for the command.
-abbrev pub IsDraftOf : Command → List Record → Contents → Type 0
-IsDraftOf command before draft = AreTablesOf command before draft
+-- the tables, without where they lie in memory
+abbrev pub tables_of_draft : Draft → Problem
+tables_of_draft d = tables_of d.period d.bases.items d.persons.items d.pairings.items d.duties.items
+
+-- These records come before the row, none of them has a fault of its own, and the tables are theirs.
+pub record IsDraftOf (command : Command) (row : ℕ) (before : List Record) (tables : Problem) : Type 0 where
+  pub begun : 0 < length before
+  pub row_is : row ≡ next_row before
+  pub tables_are : tables ≡ tables_in before
+  pub faultless : IsFaultlessSoFar command before
+
+-- they are the tables of some records without a fault
+unfoldable pub HasRecords : Problem → Type 0
+HasRecords tables =
+    ∥ ((command : Command) × (row : ℕ) × (before : List Record) × IsDraftOf command row before tables) ∥₁
+
+-- the base of the pairing at a place
+abbrev pub base_of_pairing : Problem → ℕ → Base
+base_of_pairing tables p =
+    base_at tables.bases (unwrap_or (option_map (λ pairing. pairing.base) (slice_get tables.pairings p)) 0)
+
+-- A record that has to meet these conditions meets them all and makes this entry, or it has the code
+-- of the first that it doesn't meet.
+abbrev pub Judges : {X : Type 0} → Option Code → X → Result X CodeTold → Type 0
+Judges told entry (Ok x) = (told ≡ None) × (x ≡ entry)
+Judges told entry (Err code) = told ≡ Some (view_of_code code)
+
+-- the same where memory may run out in a record without a fault
+abbrev pub Reads : {X : Type 0} → Option Code → X → Result X Refusal → Type 0
+Reads told entry (Ok x) = (told ≡ None) × (x ≡ entry)
+Reads told entry (Err e) = Refuses e told
+
+-- The entry stands behind the others, or the record is refused.
+abbrev pub Pushes : {X : Type 0} → Option Code → X → List X → List X → Result (Unit {0}) Refusal → Type 0
+Pushes told entry old new (Ok done) = (told ≡ None) × (new ≡ old ++ entry ∷ [])
+Pushes told entry old new (Err e) = Refuses e told
+
+-- The record is taken, so that the tables are those of one record more, or it is refused.
+abbrev pub Takes : Command → ℕ → List Record → Record → Problem → Result (Unit {0}) Refusal → Type 0
+Takes command row before fields new (Ok done) =
+    (code_of command before fields ≡ None) × IsDraftOf command (row + 1) (before ++ fields ∷ []) new
+Takes command row before fields new (Err e) = Refuses e (code_of command before fields)
+
+-- A zone's days are found, or it has none, or it has some and memory has run out.
+abbrev pub FindsDays : Result Days ZoneRefusal → Result Days Refusal → Type 0
+FindsDays found (Ok days) = found ≡ Ok days
+FindsDays found (Err (refusals.Fault code)) = (view_of_code code ≡ ZoneRefused) × IsErr found
+FindsDays found (Err refusals.Memory) = IsOk found

@@ -7,31 +7,21 @@ use Rattle.csv.specs.declared.reader.Reader.{Reader}
 use Rattle.csv.specs.declared.reader.Trim.TheVariants as trim
 use Rattle.roster_book.specs.declared.fault.BookFault.{BookFault}
 use Rattle.roster_book.specs.declared.fault.BookFault.TheVariants.{At, Device, Memory}
-use Rattle.roster_book.specs.declared.reading.Stop.{Stop}
-use Rattle.roster_book.specs.declared.reading.Stop.TheVariants as stop
-use Rattle.roster_model.specs.Book.{Record, Command}
+use Rattle.roster_model.specs.Record.{Record, Command}
+use Rattle.roster_model.specs.Problem.{Problem, problem_of}
 use Rattle.roster_model.specs.Faults.{first_fault}
+use Rattle.roster_model.specs.Answer.{IsFirstFault}
+
+-- the records have no fault, and this is their problem
+pub record IsProblemOf (command : Command) (book : List Record) (problem : Problem) : Type 0 where
+  pub faultless : first_fault command book ≡ None
+  pub problem_is : problem ≡ problem_of book
 
 -- where the fault is a record's, it is the first fault of the records
 abbrev pub TellsFirst : Command → List Record → BookFault → Type 0
-TellsFirst command rows (At row code) = first_fault command rows ≡ Some (record { row = row; code = code })
-TellsFirst command rows Device = ⊤
-TellsFirst command rows Memory = ⊤
-
--- the same of a stop, before it is known whether the reader or memory failed
-abbrev pub StopsAtFirst : Command → List Record → Stop → Type 0
-StopsAtFirst command rows (stop.At row code) = first_fault command rows ≡ Some (record { row = row; code = code })
-StopsAtFirst command rows stop.Unread = ⊤
-
--- the stop is at the record of this number and has its code, or the record has none and memory ran out
-abbrev pub StopsAt : ℕ → Option ℕ → Stop → Type 0
-StopsAt number code (stop.At row c) = (row ≡ number) × (code ≡ Some c)
-StopsAt number code stop.Unread = code ≡ None
-
--- a stop is told as this fault, where the reader has not failed
-abbrev pub Told : Stop → BookFault → Type 0
-Told (stop.At row code) fault = fault ≡ At row code
-Told stop.Unread fault = fault ≡ Memory
+TellsFirst command book (At row code) = IsFirstFault command book (record { row = row; code = code })
+TellsFirst command book Device = ⊤
+TellsFirst command book Memory = ⊤
 
 -- ---- the records of a reader
 

@@ -1,99 +1,208 @@
-//! The book so far, as its records are taken one after another.
+//! The tables of the records taken so far.
 
-ghost use Rattle.std.specs.Prelude.{◌≡◌, ◌<◌, ◌∷◌, ◌++◌, [], List, Ok, None, Some, IfErr, IfOk, IfSome, MatchResult, OnErr, length};
+ghost use Rattle.std.specs.Prelude.{◌≡◌, ◌≢◌, ◌<◌, ◌∷◌, [], ℕ, List, Option, Some, None, MatchResult, IfErr, IfOk, IsErrOf, option_map, position, vec_len};
+ghost use Rattle.std.specs.List.{list_any};
 ghost use Rattle.csv.specs.Records.{fields_of};
-ghost use Rattle.roster_model.specs.Book.{Record, Command, book_of};
-ghost use Rattle.roster_model.specs.Faults.{code_of, first_fault, missing_duty};
-ghost use Rattle.roster_book.specs.Draft.{IsDraftOf};
-ghost use Rattle.roster_book.specs.View.{command_of};
+ghost use Rattle.roster_model.specs.Code as model;
+ghost use Rattle.roster_model.specs.Record.{Record, Command as Asked};
+ghost use Rattle.roster_model.specs.Faults.{code_of, first_fault, pairing_without_duty};
+ghost use Rattle.roster_model.specs.records.Base.{is_base_named};
+ghost use Rattle.roster_model.specs.records.Crew.{is_person_named};
+ghost use Rattle.roster_model.specs.records.Pairing.{Pairing as PairingEntry, is_pairing_named};
+ghost use Rattle.roster_model.specs.records.Duty.{is_duty_named, is_held_by_pairing, last_duty};
+ghost use Rattle.roster_book.specs.Draft.{HasRecords, IsDraftOf, Judges, Pushes, Takes, base_of_pairing, tables_of_draft};
+ghost use Rattle.roster_book.specs.Reading.{IsProblemOf, TellsFirst};
+ghost use Rattle.roster_book.specs.View.{code_of as view_of_code, command_of};
 
-use crate::order::in_order;
-use crate::problem::{self, Problem};
+use crate::code::Code;
+use crate::command::Command;
+use crate::fault::BookFault;
+use crate::kind::{Kind, kind_in};
+use crate::record::period;
 use crate::refusal::Refusal;
-use crate::tables::Tables;
 use csv::ByteRecord;
-use std::alloc::{AllocError, Global};
-use std::marker::Model;
+use roster_instants::Period;
+use roster_problem::{Base, Duty, Holder, Pairing, Person, Problem};
+use std::alloc::Global;
 
-/// The book so far: the tables of some records, none of which has a fault of its own.
+/// The tables of the records taken so far. Duties are in the order of their records.
 #[derive(Drop)]
 pub(crate) struct Draft {
-    tables: Tables,
+    pub(crate) period: Period,
+    pub(crate) bases: Vec<Base>,
+    pub(crate) persons: Vec<Person>,
+    pub(crate) pairings: Vec<Pairing>,
+    pub(crate) duties: Vec<Duty>,
 }
 
-impl Model for Draft {
-    ghost use Rattle.roster_book.specs.Taken.{Contents, HasRecords};
-    ghost use Rattle.roster_book.specs.View.{contents_of};
+// Whether it is a duty of the pairing at the place.
+fn is_of_pairing(duty: &Duty, place: usize) -> bool
+    ensures { result ≡ is_held_by_pairing place duty.now.holder }
+{
+    duty.holder == Holder::Pairing(place)
+}
 
-    ghost Value = { Contents };
-
-    ghost view = { λ d. contents_of d.tables };
-
-    ghost invariant = { λ d. HasRecords (contents_of d.tables) };
+// Puts an entry behind the others of its table, if the record makes one.
+fn push<T: Drop>(entries: &mut Vec<T>, judged: Result<T, Code>) -> Result<(), Refusal>
+    ensures { (told : Option model.Code) (entry : T) → Judges told entry judged
+        → Pushes told entry entries.old.items entries.new.items result }
+{
+    entries.push(judged?)?;
+    Ok(())
 }
 
 impl Draft {
-    /// A draft of no record, of a book for the command.
-    pub(crate) fn new(alloc: Global, command: problem::Command) -> Draft
-        ensures { IsDraftOf (command_of command) [] result }
+    /// The tables of the first record, which has to be a period, or what is wrong with it.
+    pub(crate) fn begin(alloc: Global, command: Command, fields: &ByteRecord) -> Result<Draft, Code>
+        ensures { MatchResult result
+            (λ draft. IsDraftOf (command_of command) 2 (fields_of fields.now ∷ []) (tables_of_draft draft))
+            (λ code. code_of (command_of command) [] (fields_of fields.now) ≡ Some (view_of_code code)) }
     {
-        Draft {
-            tables: Tables {
-                command,
-                rows: 0,
-                period: None,
-                bases: Vec::new(alloc),
-                persons: Vec::new(alloc),
-                pairings: Vec::new(alloc),
-                duties: Vec::new(alloc),
-            },
+        Ok(Draft {
+            period: period::read_first(command, fields)?,
+            bases: Vec::new(alloc),
+            persons: Vec::new(alloc),
+            pairings: Vec::new(alloc),
+            duties: Vec::new(alloc),
+        })
+    }
+
+    /// Takes the next record, which is at this row.
+    pub(crate) fn take(
+        &mut self,
+        alloc: Global,
+        command: Command,
+        row: usize,
+        fields: &ByteRecord,
+    ) -> Result<(), Refusal>
+        requires records { HasRecords (tables_of_draft self.old) }
+        ensures { (before : List Record) → IsDraftOf (command_of command) row before (tables_of_draft self.old)
+            → Takes (command_of command) row before (fields_of fields.now) (tables_of_draft self.new) result }
+    {
+        match kind_in(command, fields) {
+            None => Err(Refusal::Fault(Code::UnknownKind)),
+            Some(Kind::Period) => Err(Refusal::Fault(period::fault_of_later(fields))),
+            Some(Kind::Base) => {
+                let base = self.read_base(alloc, fields)?;
+                push(&mut self.bases, Ok(base))
+            }
+            Some(Kind::Crew) => {
+                let person = self.judge_person(row, fields);
+                push(&mut self.persons, person)
+            }
+            Some(Kind::Pairing) => {
+                let pairing = self.judge_pairing(row, fields);
+                push(&mut self.pairings, pairing)
+            }
+            Some(Kind::Duty) => {
+                let duty = self.judge_duty(row, fields);
+                push(&mut self.duties, duty)
+            }
         }
     }
 
-    /// Takes the next record, or answers the code of what is wrong with it.
-    pub(crate) fn take(&mut self, alloc: Global, row: &ByteRecord) -> Result<Option<u8>, AllocError>
-        ensures code { (command : Command) (before : List Record) → IsDraftOf command before self.old
-            → IfOk result (λ o. o ≡ code_of command before (fields_of row.now)) }
-        ensures taken { (command : Command) (before : List Record) → IsDraftOf command before self.old
-            → (result ≡ Ok None) → IsDraftOf command (before ++ fields_of row.now ∷ []) self.new }
-        ensures refused { (command : Command) (before : List Record) → IsDraftOf command before self.old
-            → MatchResult result (λ o. IfSome o (λ _. IsDraftOf command before self.new)) (λ _. IsDraftOf command before self.new) }
-        // Memory runs out in a record without a fault alone.
-        ensures memory { (command : Command) (before : List Record) → IsDraftOf command before self.old
-            → OnErr result (code_of command before (fields_of row.now) ≡ None) }
+    /// The problem of the records taken, or the row of the first pairing without a duty.
+    pub(crate) fn finish(self, alloc: Global) -> Result<Problem, BookFault>
+        requires records { HasRecords (tables_of_draft self) }
+        ensures book { (command : Asked) (row : ℕ) (book : List Record) → IsDraftOf command row book (tables_of_draft self)
+            → IfOk result (λ problem. IsProblemOf command book problem) }
+        ensures fault { (command : Asked) (row : ℕ) (book : List Record) → IsDraftOf command row book (tables_of_draft self)
+            → IfErr result (λ fault. TellsFirst command book fault) }
+        // Memory runs out where no pairing lacks a duty alone.
+        ensures memory { (command : Asked) (row : ℕ) (book : List Record) → IsDraftOf command row book (tables_of_draft self)
+            → IsErrOf result BookFault.Memory → first_fault command book ≡ None }
+        ensures device { IfErr result (λ fault. fault ≢ BookFault.Device) }
     {
-        match self.tables.take(alloc, row) {
-            Ok(()) => Ok(None),
-            Err(Refusal::Fault(code)) => Ok(Some(code)),
-            Err(Refusal::Memory) => Err(AllocError),
+        if let Some(row) = self.row_without_duty() {
+            return Err(Refusal::Fault(Code::NoDuty).at(row));
         }
+        Ok(Problem::new(
+            alloc,
+            self.period,
+            self.bases,
+            self.persons,
+            self.pairings,
+            self.duties,
+        )?)
     }
 
-    /// The book of the records taken, or the record of the first pairing without a duty. The book of
-    /// no record has the fault that its first record, which isn't there, is no period.
-    pub(crate) fn finish(self, alloc: Global) -> Result<Result<Problem, usize>, AllocError>
-        ensures book { (command : Command) (rows : List Record) → IsDraftOf command rows self
-            → IfOk result (λ r. IfOk r (λ problem. (problem ≡ book_of rows) × (missing_duty rows ≡ None) × (first_fault command rows ≡ None))) }
-        ensures missing { (command : Command) (rows : List Record) → IsDraftOf command rows self → 0 < length rows
-            → IfOk result (λ r. IfErr r (λ row. missing_duty rows ≡ Some (record { row = row; code = 14 }))) }
-        ensures memory { (command : Command) (rows : List Record) → IsDraftOf command rows self
-            → OnErr result ((0 < length rows) × (missing_duty rows ≡ None)) }
-        ensures empty { (command : Command) → IsDraftOf command [] self → IfOk result (λ r. IfErr r (λ row. row ≡ 1)) }
+    /// The place of the base with the name.
+    pub(crate) fn base_place(&self, name: &[u8]) -> Option<usize>
+        ensures { result ≡ position (is_base_named name.now) self.now.bases.items }
     {
-        let tables = self.tables;
-        let Some(period) = tables.period else {
-            return Ok(Err(1));
-        };
-        if let Some(row) = tables.row_without_duty() {
-            return Ok(Err(row));
+        self.bases
+            .iter()
+            .position(|base| base.id.as_bytes() == name)
+    }
+
+    /// The place of the person with the name.
+    pub(crate) fn person_place(&self, name: &[u8]) -> Option<usize>
+        ensures { result ≡ position (is_person_named name.now) self.now.persons.items }
+    {
+        self.persons
+            .iter()
+            .position(|person| person.id.as_bytes() == name)
+    }
+
+    /// The place of the pairing with the name.
+    pub(crate) fn pairing_place(&self, name: &[u8]) -> Option<usize>
+        ensures { result ≡ position (is_pairing_named name.now) self.now.pairings.items }
+    {
+        self.pairings
+            .iter()
+            .position(|pairing| pairing.id.as_bytes() == name)
+    }
+
+    /// The place of the duty with the name.
+    pub(crate) fn duty_place(&self, name: &[u8]) -> Option<usize>
+        ensures { result ≡ position (is_duty_named name.now) self.now.duties.items }
+    {
+        self.duties
+            .iter()
+            .position(|duty| duty.id.as_bytes() == name)
+    }
+
+    /// The base of the pairing at the place.
+    pub(crate) fn base_of(&self, place: usize) -> &Base
+        requires known { place < vec_len self.now.pairings }
+        requires records { HasRecords (tables_of_draft self.now) }
+        ensures { result.now ≡ base_of_pairing (tables_of_draft self.now) place }
+    {
+        let pairing = &self.pairings[place];
+        &self.bases[pairing.base]
+    }
+
+    /// The duty of the pairing at the place that was given last.
+    #[tactic(auto, using(crate::proofs::LastDuty::last_more))]
+    pub(crate) fn last_duty(&self, place: usize) -> Option<&Duty>
+        ensures { option_map (λ duty. duty.now) result ≡ last_duty self.now.duties.items place }
+    {
+        let mut last = None;
+        for duty in &self.duties {
+            if is_of_pairing(duty, place) {
+                last = Some(duty);
+            }
         }
-        let duties = in_order(alloc, tables.duties)?;
-        Ok(Ok(Problem::new(
-            period,
-            tables.bases,
-            tables.persons,
-            tables.pairings,
-            duties,
-        )))
+        last
+    }
+
+    // Whether the pairing at the place has a duty.
+    fn has_duty_of(&self, place: usize) -> bool
+        ensures { result ≡ list_any (λ duty. is_held_by_pairing place duty.holder) self.now.duties.items }
+    {
+        self.duties.iter().any(|duty| is_of_pairing(duty, place))
+    }
+
+    // The row of the first pairing without a duty.
+    fn row_without_duty(&self) -> Option<usize>
+        ensures { result ≡ option_map (λ (entry : ℕ × PairingEntry). entry.1.row)
+            (pairing_without_duty (tables_of_draft self.now)) }
+    {
+        for (place, pairing) in self.pairings.iter().enumerate() {
+            if !self.has_duty_of(place) {
+                return Some(pairing.row);
+            }
+        }
+        None
     }
 }

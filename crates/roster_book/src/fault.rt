@@ -1,11 +1,15 @@
 //! Why no book was read.
 
+ghost use Rattle.std.specs.Prelude.{◌≡◌};
+ghost use Rattle.roster_book.specs.declared.fault.BookFault.TheVariants.{Memory as OutOfMemory};
+
+use std::alloc::AllocError;
 use thiserror::Error;
 
 /// Why no book was read.
 #[derive(Debug, Drop, Error)]
 pub enum BookFault {
-    /// What is wrong with the record of this number, from 1, by its code.
+    /// What is wrong with the record at this row, by the number of its code.
     #[error("record {row}: fault {code}")]
     At {
         /// The number of the record, from 1.
@@ -19,4 +23,12 @@ pub enum BookFault {
     /// Memory ran out.
     #[error("out of memory")]
     Memory,
+}
+
+impl From<AllocError> for BookFault {
+    ghost from_gives = { λ _ fault. fault ≡ OutOfMemory };
+
+    fn from(_error: AllocError) -> BookFault {
+        BookFault::Memory
+    }
 }

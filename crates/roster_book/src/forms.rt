@@ -6,33 +6,19 @@ ghost use Rattle.std.specs.List.{list_all};
 ghost use Rattle.std.specs.Str.{IsAscii};
 ghost use Rattle.csv.specs.Records.{fields_of};
 ghost use Rattle.roster_model.specs.Form as form;
-ghost use Rattle.roster_model.specs.Book as book;
-ghost use Rattle.roster_model.specs.Faults.{is_amount};
+ghost use Rattle.roster_model.specs.Form.{is_amount};
+ghost use Rattle.roster_model.specs.Record as model;
 
 use csv::ByteRecord;
+use roster_model::limits::{MOST_DIGITS, MOST_ZONE_BYTES};
 use std::str;
 
 /// The field at a place from 0, or no bytes where there is none.
 #[tactic(auto, using(crate::proofs::Fields::field_at_is))]
-pub(crate) fn field(row: &ByteRecord, i: usize) -> &[u8]
-    ensures { result.now ≡ book.field (fields_of row.now) i }
+pub(crate) fn field(fields: &ByteRecord, i: usize) -> &[u8]
+    ensures { result.now ≡ model.field (fields_of fields.now) i }
 {
-    row.get(i).unwrap_or(&[])
-}
-
-fn has_identifier_bytes(text: &[u8]) -> bool
-    ensures { result ≡ list_all form.is_identifier_byte text.now }
-{
-    text.iter()
-        .all(|c| c.is_ascii_alphanumeric() || *c == b'_' || *c == b'-')
-}
-
-/// Whether the text is 1 to 16 ASCII letters, digits, `_` and `-`, the first a letter or a digit.
-#[tactic(auto, unfolding(roster_model::specs::Form::is_identifier))]
-pub(crate) fn is_identifier(text: &[u8]) -> bool
-    ensures { result ≡ form.is_identifier text.now }
-{
-    (1..=16).contains(&text.len()) && text[0].is_ascii_alphanumeric() && has_identifier_bytes(text)
+    fields.get(i).unwrap_or(&[])
 }
 
 fn has_digits(text: &[u8]) -> bool
@@ -58,7 +44,7 @@ pub(crate) fn is_number(text: &[u8]) -> bool
     ensures { result ≡ form.is_number text.now }
 {
     let digits = unsigned_part(text);
-    (1..=12).contains(&digits.len()) && has_digits(digits)
+    (1..=MOST_DIGITS).contains(&digits.len()) && has_digits(digits)
 }
 
 // The bytes as text, which ASCII is.
@@ -81,7 +67,8 @@ fn number(text: &[u8]) -> Option<i64>
 
 /// The number that the text spells, if it is of the form and from 0 to `most`.
 pub(crate) fn amount(text: &[u8], most: u32) -> Option<u32>
-    ensures { result ≡ (if form.is_number text.now && is_amount most (form.number_of text.now) then Some (unsigned_abs (form.number_of text.now)) else None) }
+    ensures { result ≡ (if form.is_number text.now && is_amount most (form.number_of text.now)
+        then Some (unsigned_abs (form.number_of text.now)) else None) }
 {
     let number = u32::try_from(number(text)?).ok()?;
     (number <= most).then_some(number)
@@ -98,7 +85,7 @@ fn has_graphic_bytes(text: &[u8]) -> bool
 pub(crate) fn zone_text(text: &[u8]) -> Option<&str>
     ensures { option_map (λ s. s.now) result ≡ (if form.is_zone_text text.now then Some text.now else None) }
 {
-    if (1..=64).contains(&text.len()) && has_graphic_bytes(text) {
+    if (1..=MOST_ZONE_BYTES).contains(&text.len()) && has_graphic_bytes(text) {
         Some(ascii(text))
     } else {
         None

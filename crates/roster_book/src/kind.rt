@@ -1,13 +1,13 @@
 //! The kinds of records.
 
 ghost use Rattle.std.specs.Prelude.{◌≡◌, option_map};
-ghost use Rattle.std.specs.List.{find};
 ghost use Rattle.csv.specs.Records.{fields_of};
-ghost use Rattle.roster_model.specs.Book.{PeriodRecord, kinds_of, is_of};
+ghost use Rattle.roster_model.specs.Record.{PeriodRecord, is_of};
+ghost use Rattle.roster_model.specs.Faults.{kind_in};
 ghost use Rattle.roster_book.specs.View.{command_of, kind_of};
 
+use crate::command::Command;
 use crate::forms::field;
-use crate::problem::Command;
 use csv::ByteRecord;
 
 /// What a record is about.
@@ -21,18 +21,18 @@ pub(crate) enum Kind {
 }
 
 /// Whether it is the record of a period.
-pub(crate) fn is_period(row: &ByteRecord) -> bool
-    ensures { result ≡ is_of PeriodRecord (fields_of row.now) }
+pub(crate) fn is_period(fields: &ByteRecord) -> bool
+    ensures { result ≡ is_of PeriodRecord (fields_of fields.now) }
 {
-    field(row, 0) == b"period".as_slice()
+    field(fields, 0) == b"period".as_slice()
 }
 
 /// The kind that the first field names, if a book for the command may have it.
-pub(crate) fn kind_in(command: Command, row: &ByteRecord) -> Option<Kind>
-    ensures { option_map kind_of result ≡ find (λ kind. is_of kind (fields_of row.now)) (kinds_of (command_of command)) }
+pub(crate) fn kind_in(command: Command, fields: &ByteRecord) -> Option<Kind>
+    ensures { option_map kind_of result ≡ kind_in (command_of command) (fields_of fields.now) }
 {
     match command {
-        Command::Solve => match field(row, 0) {
+        Command::Solve => match field(fields, 0) {
             b"period" => Some(Kind::Period),
             b"base" => Some(Kind::Base),
             b"crew" => Some(Kind::Crew),

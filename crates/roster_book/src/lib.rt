@@ -1,32 +1,34 @@
-//! From bytes to the book of a rostering problem, or to its first fault, on `csv`.
+//! From bytes to the problem of a book, or to its first fault, on `csv`.
 //!
-//! `Watched` is a reader or writer that remembers whether it failed, so that a failed device is told
-//! apart from want of memory. A `Problem` is the book of records without a fault. `read_book` reads
-//! records until their end or their first fault, and answers the book or that fault.
+//! `read_book` reads records until their end or their first fault, and answers the problem of the
+//! book or that fault. Values are those of `roster_problem`, given again here. In reading order:
+//!
+//! - `command`: what the program is asked to do
+//! - `code`: what may be wrong with a record
+//! - `refusal`: why a record isn't taken
+//! - `forms`: the forms of a record's fields
+//! - `kind`: what a record is about
+//! - `record`: a file a kind: what its records add, and what may be wrong with them
+//! - `draft`: the tables of the records taken so far
+//! - `fault`: why no book was read
+//! - `reading`: a book, record by record
 #![tactic(auto)]
 
-mod book;
+mod code;
+mod command;
 mod draft;
-mod duties;
 mod fault;
 mod forms;
 mod kind;
-mod name;
-mod order;
-mod problem;
-mod readers;
 mod reading;
+mod record;
 mod refusal;
-mod roster;
-mod tables;
-mod taking;
-mod watched;
 
-pub use book::{Base, Duty, Holder, Pairing, Person};
+pub use code::Code;
+pub use command::Command;
 pub use fault::BookFault;
-pub use name::Name;
-pub use order::duties_in_order;
-pub use problem::{Command, Problem};
 pub use reading::{Book, read_book};
-pub use roster::{Places, Roster, is_on_list};
-pub use watched::Watched;
+pub use roster_problem::{
+    Base, Duty, Holder, Name, Pairing, Person, Places, Problem, Roster, duties_in_order,
+};
+pub use roster_watched::Watched;

@@ -1,17 +1,23 @@
 -- What a run does to the bytes that a writer holds.
-use Rattle.std.specs.Prelude.{ℕ, List, Option, None, Some, IfSome, codes, take}
+use Rattle.std.specs.Prelude.{ℕ, List, Option, None, Some, IfSome, codes}
 use Rattle.std.specs.Io.KnownBytes.{Appends}
+use Rattle.roster_model.specs.Answer.{records_of}
+use Rattle.roster_model.specs.Record.{Record}
+use Rattle.roster_report.specs.Writing.{AppendsPrefix}
 use Rattle.roster_cli.specs.declared.status.Status.{Status}
 use Rattle.roster_cli.specs.declared.status.Status.TheVariants as statuses
 
--- The reader told some bytes, and the writer holds what it held, followed by a text that answers them.
-abbrev pub Answers : (List ℕ → List ℕ → Type 0) → Option (List ℕ) → Option (List ℕ) → Option (List ℕ) → Type 0
-Answers IsText told old new = IfSome told (λ bytes. (text : List ℕ) × IsText bytes text × Appends old new text)
+-- The writer holds what it held, followed by a text that fits.
+abbrev pub Writes : (List ℕ → Type 0) → Option (List ℕ) → Option (List ℕ) → Type 0
+Writes IsText old new = (text : List ℕ) × IsText text × Appends old new text
 
 -- The same, where only the first bytes of the text went out.
-abbrev pub BeginsAnswer : (List ℕ → List ℕ → Type 0) → Option (List ℕ) → Option (List ℕ) → Option (List ℕ) → Type 0
-BeginsAnswer IsText told old new =
-    IfSome told (λ bytes. (text : List ℕ) × (k : ℕ) × IsText bytes text × Appends old new (take k text))
+abbrev pub WritesPart : (List ℕ → Type 0) → Option (List ℕ) → Option (List ℕ) → Type 0
+WritesPart IsText old new = (text : List ℕ) × IsText text × AppendsPrefix old new text
+
+-- The reader told some bytes, and this holds of their records.
+abbrev pub OfTold : (List Record → Type 0) → Option (List ℕ) → Type 0
+OfTold Says told = IfSome told (λ bytes. Says (records_of bytes))
 
 -- the exit status of each outcome
 abbrev pub exit_number : Status → ℕ

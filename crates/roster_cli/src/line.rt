@@ -50,7 +50,8 @@ fn roster<'a>(alloc: Global) -> Result<clap::Command<'a>, AllocError>
 /// The command that the words ask for, and the number of workers, which is 1. The first word is the
 /// program's name.
 pub fn read_line<'a, S: AsStr>(alloc: Global, words: &'a [S]) -> Result<(Command, usize), LineFault>
-    ensures command { IfOk result (λ line. command_name (map S.text words.entry.now) ≡ Some (spelling line.0)) }
+    ensures command { IfOk result (λ line.
+        command_name (map S.text words.entry.now) ≡ Some (spelling line.0)) }
     ensures workers { IfOk result (λ line. line.1 ≡ 1) }
     ensures faultless { IfOk result (λ _. fault_of roster_app (map S.text words.entry.now) ≡ []) }
     ensures refused { IfErr result NamesMemory }
@@ -59,7 +60,8 @@ pub fn read_line<'a, S: AsStr>(alloc: Global, words: &'a [S]) -> Result<(Command
         → IfErr result (TellsKind (fault_of roster_app (map S.text words.entry.now))) }
     // Where clap takes the words and they name a command, only want of memory can come.
     ensures taken { takes roster_app (map S.text words.entry.now) ≡ true
-        → command_name (map S.text words.entry.now) ≡ Some (codes "solve") → IfErr result (λ e. e ≡ LineFault.Memory) }
+        → command_name (map S.text words.entry.now) ≡ Some (codes "solve")
+        → IfErr result (λ e. e ≡ LineFault.Memory) }
 {
     let mut command = roster(alloc)?;
     let matches = match command.try_get_matches_from_mut(words) {
@@ -78,7 +80,7 @@ pub fn read_line<'a, S: AsStr>(alloc: Global, words: &'a [S]) -> Result<(Command
 /// clap's want of memory by its own name.
 fn refusal(error: clap::Error) -> LineFault
     ensures memory { kind_of error ≡ ErrorKind.OutOfMemory → result ≡ LineFault.Memory }
-    ensures only { result ≡ LineFault.Memory → kind_of error ≡ ErrorKind.OutOfMemory }
+    ensures same { kind_of error ≢ ErrorKind.OutOfMemory → result ≡ LineFault.Refused error }
     ensures named { NamesMemory result }
     ensures kept { (kinds : Kinds) → HasKind kinds error → TellsKind kinds result }
 {

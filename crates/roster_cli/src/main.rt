@@ -1,5 +1,10 @@
 //! `roster`: the program. `read_line` reads the command line, `run` reads a book, finds the answer
-//! and writes it, and `main` ties both to the process.
+//! and writes it, and `main` ties both to the process. In reading order:
+//!
+//! - `run`: a book is read, and its one answer written
+//! - `status`: how a run ends
+//! - `line`: the command line
+//! - `law`: records have one answer
 #![tactic(auto)]
 
 ghost use Rattle.std.specs.Prelude.{◌≡◌, ◌≢◌};

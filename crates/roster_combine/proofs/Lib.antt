@@ -1,6 +1,4 @@
-pub mod Sets
-pub mod Kept
-pub mod Judged
-pub mod Order
-pub mod Region
-pub mod Open
+pub mod Keys
+pub mod Settles
+pub mod AllOpen
+pub mod Best

@@ -1,18 +1,24 @@
 //! What follows from the definitions alone.
 
 ghost use Rattle.std.specs.Prelude.{◌≡◌, ℕ, List, length, replicate};
-ghost use Rattle.roster_model.specs.Book.{Book};
+ghost use Rattle.roster_model.specs.Problem.{Problem};
 ghost use Rattle.roster_model.specs.Rosters.{IsBest, IsLegalRoster};
 
-/// A book has at most one best roster.
+/// A problem has at most one best roster.
 pub fn one_best()
-    ensures { (book : Book) (a b : List ℕ) → IsBest book a → IsBest book b → a ≡ b }
+    ensures { (problem : Problem) (a b : List ℕ) → IsBest problem a → IsBest problem b → a ≡ b }
 {}
 
-/// The roster that leaves all open is legal in every book.
+/// A problem has a best roster: there can't be none. Rules are facts that no test need decide, so
+/// nothing more than that is said without a search.
+pub fn has_best()
+    ensures { (problem : Problem) → ¬ ¬ ((places : List ℕ) × IsBest problem places) }
+{}
+
+/// The roster that leaves all open is legal in every problem.
 pub fn all_open_is_legal()
-    ensures { (book : Book)
-        → IsLegalRoster book (replicate (length book.pairings) (length book.persons)) }
+    ensures { (problem : Problem)
+        → IsLegalRoster problem (replicate (length problem.pairings) (length problem.persons)) }
 {}
 
 #[cfg(test)]
@@ -22,6 +28,7 @@ mod tests {
     #[test]
     fn can_be_called() {
         one_best();
+        has_best();
         all_open_is_legal();
     }
 }

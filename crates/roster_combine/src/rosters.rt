@@ -1,31 +1,38 @@
 //! Whether a list of places is a legal roster, and what it costs.
 
-ghost use Rattle.std.specs.Prelude.{◌≡◌, ◌^◌, ◌≤◌, ◌<◌, ◌==◌, ◌↔◌, All, IsTrue, if◌then◌else◌, length};
-ghost use Rattle.roster_model.specs.Rosters.{IsLegalRoster, cost_of as cost_of_places, open_number as number_for_open};
+ghost use Rattle.std.specs.Prelude.{◌≡◌, ◌^◌, ◌≤◌, ◌<◌, ◌==◌, ◌↔◌, All, IfOk, IsTrue, if◌then◌else◌, length};
+ghost use Rattle.roster_model.specs.Rosters as model;
 
-use crate::rules::is_legal;
-use roster_book::{Pairing, Problem};
+use roster_legal::is_legal;
+use roster_problem::{Pairing, Problem, Set};
+use std::alloc::{AllocError, Global};
 
 /// The number that stands for open.
 pub(crate) fn open_number(problem: &Problem) -> u16
-    ensures value { result ≡ number_for_open problem.now }
+    ensures value { result ≡ model.open_number problem.now }
     ensures bound { result ≤ 64 }
 {
     problem.persons().len() as u16
 }
 
 /// Whether the numbers make a legal roster.
-pub(crate) fn is_legal_roster(problem: &Problem, places: &[u16]) -> bool
+pub(crate) fn is_legal_roster(
+    alloc: Global,
+    problem: &Problem,
+    places: &[u16],
+) -> Result<bool, AllocError>
     requires covers { length places.now ≡ length problem.now.pairings }
     requires numbers { All (λ x. x ≤ length problem.now.persons) places.now }
-    ensures { IsTrue result ↔ IsLegalRoster problem.now places.now }
+    ensures { IfOk result (λ legal. IsTrue legal
+        ↔ model.IsLegalRoster problem.now places.now) }
 {
     for k in 0..problem.persons().len() {
-        if !is_legal(problem, k, places) {
-            return false;
+        let set = Set::of_places(places, k);
+        if !is_legal(alloc, problem, k, &set)? {
+            return Ok(false);
         }
     }
-    true
+    Ok(true)
 }
 
 /// What a pairing adds to the cost: its penalty if its number is the one for open, else nothing.
@@ -43,7 +50,7 @@ fn penalty_if_open(nobody: u16, pairing: &Pairing, place: u16) -> u64
 /// What the roster costs: the sum of the penalties of the pairings that are left open.
 pub(crate) fn cost_of(problem: &Problem, places: &[u16]) -> i64
     requires { length places.now ≡ length problem.now.pairings }
-    ensures { result ≡ cost_of_places problem.now places.now }
+    ensures { result ≡ model.cost_of problem.now places.now }
 {
     let nobody = open_number(problem);
     let pairings = problem.pairings();

@@ -1,12 +1,12 @@
 //! The search through all lists of places.
 
-ghost use Rattle.std.specs.Prelude.{◌≡◌, ◌≤◌, All, IfOk, length, take};
+ghost use Rattle.std.specs.Prelude.{◌≡◌, ◌≤◌, All, IfOk, OnOk, length, take};
 ghost use Rattle.roster_model.specs.Rosters.{IsBest, cost_of};
 ghost use Rattle.roster_combine.specs.Settled.{IsHeld, Settles};
 
 use crate::incumbent::Incumbent;
 use crate::rosters::open_number;
-use roster_book::{Problem, Roster};
+use roster_problem::{Problem, Roster};
 use std::alloc::{AllocError, Global};
 use thiserror::Error;
 
@@ -30,34 +30,40 @@ impl From<AllocError> for SolveFault {
 
 /// The legal roster of least cost, and among those the first in roster order.
 ///
-/// It tries every list of places, and no memory is asked for once the first is tried.
+/// It tries every list of places.
 pub fn solve(alloc: Global, problem: &Problem) -> Result<Roster, SolveFault>
     ensures { IfOk result (λ roster. IsBest problem.now roster.places
         × (roster.cost ≡ cost_of problem.now roster.places)) }
 {
     let mut best = Incumbent::all_open(alloc, problem)?;
     let mut places = vec![in alloc; 0; problem.pairings().len()]?;
-    try_all(problem, 0, &mut places, &mut best);
+    try_all(alloc, problem, 0, &mut places, &mut best)?;
     Ok(best.into_roster())
 }
 
 /// Offers every list of places whose numbers before `depth` are those of `places`.
-fn try_all(problem: &Problem, depth: usize, places: &mut [u16], best: &mut Incumbent)
+fn try_all(
+    alloc: Global,
+    problem: &Problem,
+    depth: usize,
+    places: &mut [u16],
+    best: &mut Incumbent,
+) -> Result<(), AllocError>
     requires covers { length places.old ≡ length problem.now.pairings }
     requires within { depth ≤ length places.old }
     requires numbers { All (λ x. x ≤ length problem.now.persons) places.old }
     requires held { IsHeld problem.now best.old }
-    ensures numbers { All (λ x. x ≤ length problem.now.persons) places.new }
-    ensures front { take depth places.new ≡ take depth places.old }
-    ensures settled { Settles problem.now (λ others. take depth others ≡ take depth places.old)
-        best.old best.new }
+    ensures numbers { OnOk result (All (λ x. x ≤ length problem.now.persons) places.new) }
+    ensures front { OnOk result (take depth places.new ≡ take depth places.old) }
+    ensures settled { OnOk result (Settles problem.now
+        (λ others. take depth others ≡ take depth places.old) best.old best.new) }
 {
     if depth == places.len() {
-        best.offer(problem, places);
-        return;
+        return best.offer(alloc, problem, places);
     }
     for place in 0..open_number(problem) + 1 {
         places[depth] = place;
-        try_all(problem, depth + 1, places, best);
+        try_all(alloc, problem, depth + 1, places, best)?;
     }
+    Ok(())
 }

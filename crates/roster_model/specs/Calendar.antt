@@ -4,6 +4,7 @@ use Rattle.std.specs.Prelude.{ℕ, ◌+◌, ◌-◌, ◌*◌, Bool, ◌&&◌, if
 use Rattle.std.specs.List.{range_with_len}
 use Rattle.std.specs.Int.{is_in_range}
 use Rattle.jiff_core.specs.Calendar.{days_in_month, days_from_civil}
+use Rattle.roster_model.specs.declared.limits.TheConstants.{DAYS_BEFORE, DAYS_AFTER}
 use Rattle.roster_model.specs.Form.{has_shape, number_at}
 
 -- days since 1 January 1970, for a date not before it
@@ -44,23 +45,18 @@ period_of text =
     && is_in_range 1 12 (number_at text 5 7)
     then Some (record { year = number_at text 0 4; month = number_at text 5 7 }) else None
 
--- The window of a book reaches from 35 days before the month's first day to 14 days after its last.
-abbrev pub days_before : ℕ
-days_before = 35
-
-abbrev pub days_after : ℕ
-days_after = 14
-
+-- The window of a book reaches from `DAYS_BEFORE` days before the month's first day to `DAYS_AFTER`
+-- days after its last.
 abbrev pub days_of_month : Period → ℕ
 days_of_month period = days_in_month (pos period.year) period.month
 
 -- the days of the window, N
 abbrev pub days_of_window : Period → ℕ
-days_of_window period = days_before + days_of_month period + days_after
+days_of_window period = DAYS_BEFORE + days_of_month period + DAYS_AFTER
 
 -- the day number of the window's first day, which is day 0 of the window
 abbrev pub first_day : Period → ℕ
-first_day period = day_number period.year period.month 1 - days_before
+first_day period = day_number period.year period.month 1 - DAYS_BEFORE
 
 -- The days of a window as a base's clocks show them. Day i reaches from `mid` at i to `mid` at
 -- i + 1, so `mid` has one instant more than the window has days. `eight` and `ten` are the instants

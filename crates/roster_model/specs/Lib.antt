@@ -1,7 +1,10 @@
 pub mod Form
 pub mod Calendar
 pub mod Zone
-pub mod Book
+pub mod Record
+pub mod Code
+pub mod records
+pub mod Problem
 pub mod Faults
 pub mod Rules
 pub mod Rosters

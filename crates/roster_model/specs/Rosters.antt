@@ -5,7 +5,8 @@
 -- left open at a penalty is this project's own, as are the costs and the order of rosters.
 use Rattle.std.specs.Prelude.{◌≡◌, ℕ, ◌+◌, ◌<◌, ◌≤◌, Bool, true, false, ◌&&◌, ◌||◌, ◌==◌, nat_lt, if◌then◌else◌, List, [], ◌∷◌, length, ℤ, pos, int_lt, All}
 use Rattle.std.specs.Ordering.{int_eq}
-use Rattle.roster_model.specs.Book.{Book, Pairing}
+use Rattle.roster_model.specs.Problem.{Problem}
+use Rattle.roster_model.specs.records.Pairing.{Pairing}
 use Rattle.roster_model.specs.Rules.{IsLegal}
 
 -- the places from p on, in ascending order, at which the list has the number k
@@ -19,14 +20,14 @@ abbrev pub set_of : ℕ → List ℕ → List ℕ
 set_of k places = places_with k 0 places
 
 -- the number that stands for open
-abbrev pub open_number : Book → ℕ
-open_number book = length book.persons
+abbrev pub open_number : Problem → ℕ
+open_number problem = length problem.persons
 
 -- one number for each pairing, a person's place or open, and the set of each person is legal
-pub record IsLegalRoster (book : Book) (places : List ℕ) : Type 0 where
-  pub covers : length places ≡ length book.pairings
-  pub numbers : All (λ x. x ≤ length book.persons) places
-  pub legal : (k : ℕ) → k < length book.persons → IsLegal book k (set_of k places)
+pub record IsLegalRoster (problem : Problem) (places : List ℕ) : Type 0 where
+  pub covers : length places ≡ length problem.pairings
+  pub numbers : All (λ x. x ≤ length problem.persons) places
+  pub legal : (k : ℕ) → k < length problem.persons → IsLegal problem k (set_of k places)
 
 -- the penalties of the pairings that are left open
 abbrev pub open_penalties : ℕ → List Pairing → List ℕ → ℕ
@@ -36,16 +37,16 @@ open_penalties nobody (pairing ∷ pairings) (x ∷ places) =
     (if x == nobody then pairing.penalty else 0) + open_penalties nobody pairings places
 
 -- what a roster costs
-abbrev pub cost_of : Book → List ℕ → ℤ
-cost_of book places = pos (open_penalties (open_number book) book.pairings places)
+abbrev pub cost_of : Problem → List ℕ → ℤ
+cost_of problem places = pos (open_penalties (open_number problem) problem.pairings places)
 
 -- a roster's key: its cost, and then its list
 pub record Key : Type 0 where
   pub cost : ℤ
   pub places : List ℕ
 
-abbrev pub key_of : Book → List ℕ → Key
-key_of book places = record { cost = cost_of book places; places = places }
+abbrev pub key_of : Problem → List ℕ → Key
+key_of problem places = record { cost = cost_of problem places; places = places }
 
 -- the first list isn't after the second, compared from the front
 abbrev pub places_le : List ℕ → List ℕ → Bool
@@ -58,6 +59,6 @@ abbrev pub key_le : Key → Key → Bool
 key_le a b = int_lt a.cost b.cost || int_eq a.cost b.cost && places_le a.places b.places
 
 -- the legal roster whose key isn't after that of any legal roster
-pub record IsBest (book : Book) (places : List ℕ) : Type 0 where
-  pub is_legal : IsLegalRoster book places
-  pub least : (others : List ℕ) → IsLegalRoster book others → key_le (key_of book places) (key_of book others) ≡ true
+pub record IsBest (problem : Problem) (places : List ℕ) : Type 0 where
+  pub is_legal : IsLegalRoster problem places
+  pub least : (others : List ℕ) → IsLegalRoster problem others → key_le (key_of problem places) (key_of problem others) ≡ true

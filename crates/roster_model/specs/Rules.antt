@@ -1,11 +1,15 @@
 -- Which sets of pairings are legal for a person. A set is the ascending list of the places of its
--- pairings. Base and Overlap are this project's own; Rest is ORO.FTL.235(a)(1) and (b) of Regulation
--- (EU) No 83/2014 in this project's profile. No further rule is judged so far.
-use Rattle.std.specs.Prelude.{◌≡◌, ◌⊎◌, ℕ, ◌+◌, ◌-◌, ◌≤◌, Bool, true, ◌||◌, ◌==◌, if◌then◌else◌, List, [], Some, slice_get, max, Contains, AllPairs}
+-- pairings. Each rule stands in a file of its own; no further rule is judged so far.
+pub mod Base
+pub mod Overlap
+pub mod Rest
+use Rattle.std.specs.Prelude.{◌≡◌, ◌<◌, ◌⊎◌, ℕ, Bool, ◌==◌, List, [], Option, Some, None, codes}
 use Rattle.std.specs.List.{filter, list_any}
-use Rattle.std.specs.Str.{bytes_eq}
-use Rattle.roster_model.specs.Calendar.{common}
-use Rattle.roster_model.specs.Book.{Book, Base, Duty, Holder, OfPairing, Pairing, Person, home_of}
+use Rattle.roster_model.specs.records.Duty.{Duty, Holder, OfPairing}
+use Rattle.roster_model.specs.Problem.{Problem, home_of}
+use Rattle.roster_model.specs.Rules.Base.{KeepsBase}
+use Rattle.roster_model.specs.Rules.Overlap.{NoOverlap}
+use Rattle.roster_model.specs.Rules.Rest.{KeepsRest}
 
 -- whether the pairing at place p is in the set
 abbrev pub is_among : List ℕ → ℕ → Bool
@@ -16,35 +20,9 @@ abbrev pub is_listed : List ℕ → Holder → Bool
 is_listed set (OfPairing p) = is_among set p
 
 -- The duty list of person k with a set: the duties of the pairings in the set, by report, release
--- and record number.
-abbrev pub duty_list : Book → ℕ → List ℕ → List Duty
-duty_list book k set = filter (λ duty. is_listed set duty.holder) book.duties
-
--- Base: each pairing of the set has the person's base.
-abbrev pub KeepsBase : Book → ℕ → List ℕ → Type 0
-KeepsBase book k set = (p : ℕ) (pairing : Pairing) (person : Person) → Contains set p
-    → slice_get book.pairings p ≡ Some pairing → slice_get book.persons k ≡ Some person → pairing.base ≡ person.base
-
--- Overlap: no two duties share a minute.
-abbrev pub NoOverlap : List Duty → Type 0
-NoOverlap list = AllPairs (λ a b. common a.report a.release b.report b.release ≡ 0) list
-
--- The least rest before a duty, in minutes: 12 hours where it reports at home, and 10 hours away
--- from base. (ORO.FTL.235(a)(1) and (b).)
-abbrev pub least_rest : Base → Duty → ℕ
-least_rest home next = if bytes_eq next.place home.id then 720 else 600
-
--- Between a and b lies a rest at least as long as the duty before it and the least rest.
-abbrev pub IsRested : Base → Duty → Duty → Type 0
-IsRested home a b = a.release + max (a.release - a.report) (least_rest home b) ≤ b.report
-
-abbrev pub is_of_pairing : Holder → Bool
-is_of_pairing (OfPairing p) = true
-
--- Rest: between any two neighbours of which at least one belongs to a pairing.
-abbrev pub KeepsRest : Base → List Duty → Type 0
-KeepsRest home list = (i : ℕ) (a b : Duty) → slice_get list i ≡ Some a → slice_get list (i + 1) ≡ Some b
-    → (is_of_pairing a.holder || is_of_pairing b.holder) ≡ true → IsRested home a b
+-- and row.
+abbrev pub duty_list : Problem → ℕ → List ℕ → List Duty
+duty_list problem k set = filter (λ duty. is_listed set duty.holder) problem.duties
 
 -- the rules, in the order in which they are judged
 pub data Rule : Type 0 where
@@ -52,12 +30,32 @@ pub data Rule : Type 0 where
   OverlapRule : Rule
   RestRule : Rule
 
+-- how many rules are judged before it
+abbrev pub rank_of : Rule → ℕ
+rank_of BaseRule = 0
+rank_of OverlapRule = 1
+rank_of RestRule = 2
+
+-- the word that tells it
+abbrev pub word_of_rule : Rule → List ℕ
+word_of_rule BaseRule = codes "BASE"
+word_of_rule OverlapRule = codes "OVERLAP"
+word_of_rule RestRule = codes "REST"
+
 -- what the rule says of person k with the set
-abbrev pub Holds : Book → ℕ → List ℕ → Rule → Type 0
-Holds book k set BaseRule = KeepsBase book k set
-Holds book k set OverlapRule = NoOverlap (duty_list book k set)
-Holds book k set RestRule = KeepsRest (home_of book k) (duty_list book k set)
+abbrev pub Holds : Problem → ℕ → List ℕ → Rule → Type 0
+Holds problem k set BaseRule = KeepsBase problem k set
+Holds problem k set OverlapRule = NoOverlap (duty_list problem k set)
+Holds problem k set RestRule = KeepsRest (home_of problem k) (duty_list problem k set)
 
 -- A set is legal for a person where it is empty or no rule is broken.
-abbrev pub IsLegal : Book → ℕ → List ℕ → Type 0
-IsLegal book k set = (set ≡ []) ⊎ ((rule : Rule) → Holds book k set rule)
+abbrev pub IsLegal : Problem → ℕ → List ℕ → Type 0
+IsLegal problem k set = (set ≡ []) ⊎ ((rule : Rule) → Holds problem k set rule)
+
+-- The first rule that person k breaks with the set, if there is one: the rules before it hold.
+-- Rules are facts, so this is a relation.
+abbrev pub IsFirstBroken : Problem → ℕ → List ℕ → Option Rule → Type 0
+IsFirstBroken problem k set None = (rule : Rule) → Holds problem k set rule
+IsFirstBroken problem k set (Some broken) =
+    (¬ Holds problem k set broken)
+    × ((rule : Rule) → rank_of rule < rank_of broken → Holds problem k set rule)

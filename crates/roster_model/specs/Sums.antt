@@ -1,8 +1,9 @@
 -- Duty by local day, in minutes. (ORO.FTL.210(a): a day's share of a duty is what lies in the day.)
 use Rattle.std.specs.Prelude.{ℕ, ◌+◌, ◌-◌, List, length, map, max, slice_index}
 use Rattle.std.specs.List.{sum_by, range_with_len, fold}
-use Rattle.roster_model.specs.Calendar.{Days, common, days_before}
-use Rattle.roster_model.specs.Book.{Duty}
+use Rattle.roster_model.specs.declared.limits.TheConstants.{DAYS_BEFORE}
+use Rattle.roster_model.specs.Calendar.{Days, common}
+use Rattle.roster_model.specs.records.Duty.{Duty}
 
 -- the minutes that the duties of a list share with day i
 abbrev pub duty_on : Days → List Duty → ℕ → ℕ
@@ -15,7 +16,7 @@ duty_in_run days list n last = sum_by (duty_on days list) (range_with_len (last 
 
 -- the last days of the runs that are judged: from the month's first day to the window's last
 abbrev pub judged_days : Days → List ℕ
-judged_days days = range_with_len days_before (length days.eight - days_before)
+judged_days days = range_with_len DAYS_BEFORE (length days.eight - DAYS_BEFORE)
 
 -- the greatest duty of a judged run of n days
 abbrev pub greatest_duty : Days → List Duty → ℕ → ℕ

@@ -1,15 +1,23 @@
-//! What a roster is: the book, its first fault, the rules, costs, the best roster and the texts.
+//! What a roster is: the records of a book, its first fault, the problem that it gives, the rules,
+//! costs, the best roster and the texts.
 //!
-//! This crate has no code. Its files of definitions, lowest first:
+//! This crate has no functions: its constants are the limits, and the rest is definitions in `specs`.
+//! In reading order:
 //!
+//! - `limits`: how many, how long and how much, each number once
 //! - `Form`: what the bytes of a field must look like
 //! - `Calendar`: instants, periods, and the days round a month
 //! - `Zone`: the local days that a base's zone text stands for
-//! - `Book`: the tables that records make
-//! - `Faults`: what may be wrong with a record, and the first fault of all
+//! - `Record`: records, their kinds, and the tables that are gathered from them
+//! - `Code`: what may be wrong with a record, by its number
+//! - `records`: for each kind its columns, what it adds, and what may be wrong with it
+//! - `Problem`: what is to be rostered
+//! - `Faults`: the code of a record, and the first fault of all
 //! - `Rules`: which sets of pairings are legal for a person
 //! - `Rosters`: legal rosters, their cost and order, and the best one
 //! - `Sums`: duty by local day
 //! - `Texts`: the lines that are written
 //! - `Answer`: the records of the bytes, and the text that answers them
 #![tactic(auto)]
+
+pub mod limits;

@@ -1,6 +1,5 @@
-pub mod Writes
-pub mod Filtered
-pub mod Totals
-pub mod SetNames
-pub mod WholeLines
-pub mod Months
+pub mod Appends
+pub mod PeriodText
+pub mod LineOf
+pub mod NamesOf
+pub mod DutyOn

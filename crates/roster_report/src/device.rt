@@ -2,11 +2,11 @@
 
 ghost use Rattle.std.specs.Prelude.{◌≡◌, false, true, OnOk, OnErr};
 ghost use Rattle.std.specs.Io.KnownBytes.{Appends};
-ghost use Rattle.roster_book.specs.Watch.{inner_of, has_failed, is_flushed};
+ghost use Rattle.roster_watched.specs.Watch.{inner_of, has_failed, is_flushed};
 ghost use Rattle.roster_report.specs.Writing.{AppendsPrefix};
 
 use crate::fault::TextFault;
-use roster_book::Watched;
+use roster_watched::Watched;
 use std::io::Write;
 
 /// Writes the whole text, and then flushes. An interrupted write is a failure too.

@@ -2,13 +2,13 @@
 
 ghost use Rattle.std.specs.Prelude.{◌≡◌, false, true, IfOk, OnOk, IsErrOf, string_bytes};
 ghost use Rattle.std.specs.Io.KnownBytes.{Appends};
-ghost use Rattle.roster_book.specs.Watch.{inner_of, has_failed, is_flushed};
+ghost use Rattle.roster_watched.specs.Watch.{inner_of, has_failed, is_flushed};
 ghost use Rattle.roster_model.specs.Texts.{fault_text};
 ghost use Rattle.roster_report.specs.Writing.{AppendsPrefix};
 
 use crate::device::write_whole;
 use crate::fault::TextFault;
-use roster_book::Watched;
+use roster_watched::Watched;
 use std::alloc::{AllocError, Global};
 use std::io::Write;
 
@@ -36,7 +36,8 @@ pub fn write_fault<W: Write>(
 
 #[tactic(auto, unfolding(roster_model::specs::Texts::fault_text))]
 fn fault_line(alloc: Global, row: usize, code: u8) -> Result<String, AllocError>
-    ensures { IfOk result (λ line. string_bytes line ≡ fault_text (record { row = row; code = code })) }
+    ensures { IfOk result (λ line. string_bytes line
+        ≡ fault_text (record { row = row; code = code })) }
 {
     format!(in alloc; "FAULT {row} {code}\n")
 }

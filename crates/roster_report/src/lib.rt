@@ -1,7 +1,16 @@
 //! The two texts that the program writes: the report of a roster, and the line of a fault.
 //!
 //! Each is whole in memory before its first byte is written. So where memory runs out, nothing is
-//! written, and where the writer fails, a prefix of the text.
+//! written, and where the writer fails, a prefix of the text. In reading order:
+//!
+//! - `report`: the report of a roster, written whole
+//! - `lines`: its lines
+//! - `names`: the names of the pairings of one number
+//! - `sums`: the greatest duty of a run of days
+//! - `words`: words and numbers behind one another
+//! - `fault_line`: the line of a fault, written whole
+//! - `device`: a text that is written and flushed
+//! - `fault`: why a text was not written
 #![tactic(auto)]
 
 mod device;

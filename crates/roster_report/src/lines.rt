@@ -1,25 +1,26 @@
 //! The lines of a report.
 
-ghost use Rattle.std.specs.Prelude.{◌≡◌, ◌<◌, ℕ, ◌∷◌, [], ◌++◌, Some, length, slice_get, string_bytes, codes, IfOk, OnOk};
-ghost use Rattle.std.specs.List.{enumerate_from, flat_map};
+ghost use Rattle.std.specs.Prelude.{◌≡◌, ◌≤◌, ◌<◌, ◌∷◌, [], ◌++◌, Some, length, slice_get, string_bytes, codes, map, IfOk, OnOk};
 ghost use Rattle.std.specs.Fmt.{decimal, signed_decimal};
-ghost use Rattle.roster_model.specs.Book.{home_of, Person as PersonRow};
+ghost use Rattle.roster_model.specs.Problem.{home_of};
 ghost use Rattle.roster_model.specs.Rosters.{set_of, open_number};
 ghost use Rattle.roster_model.specs.Rules.{duty_list};
-ghost use Rattle.roster_model.specs.Sums.{greatest_duty};
-ghost use Rattle.roster_model.specs.Texts.{line_of, period_text, names_of, crew_line};
+ghost use Rattle.roster_model.specs.Texts as texts;
+ghost use Rattle.roster_model.specs.Texts.{line_of, names_of};
 ghost use Rattle.roster_report.specs.Words.{further};
 
 use crate::names::push_names;
-use crate::sums::{duty_by_day, greatest_total};
+use crate::sums::greatest_duty;
 use crate::words::{end_line, push_number, push_signed, push_word};
-use roster_book::{Person, Problem};
-use roster_instants::Period;
+use roster_instants::{BaseDays, Period};
+use roster_legal::merge;
+use roster_model::limits::MOST_PAIRINGS;
+use roster_problem::{DutyList, Person, Problem, Set};
 use std::alloc::{AllocError, Global};
 
 /// The month as `YYYY-MM`.
 fn period_text(alloc: Global, period: Period) -> Result<String, AllocError>
-    ensures { IfOk result (λ text. string_bytes text ≡ period_text period) }
+    ensures { IfOk result (λ text. string_bytes text ≡ texts.period_text period) }
 {
     let year = period.year();
     let month = period.month() as u8;
@@ -33,8 +34,8 @@ pub(crate) fn push_heading(
     out: &mut Vec<u8>,
     period: Period,
 ) -> Result<(), AllocError>
-    ensures { OnOk result
-        (out.new.items ≡ out.old.items ++ line_of (codes "ROSTER" ∷ period_text period ∷ [])) }
+    ensures { OnOk result (out.new.items
+        ≡ out.old.items ++ line_of (codes "ROSTER" ∷ texts.period_text period ∷ [])) }
 {
     let month = period_text(alloc, period)?;
     out.extend_from_slice(b"ROSTER")?;
@@ -52,29 +53,53 @@ pub(crate) fn push_cost(alloc: Global, out: &mut Vec<u8>, cost: i64) -> Result<(
     end_line(out)
 }
 
-/// Appends the greatest duty of a judged run of 7, 14 and 28 days of person `k`.
-fn push_duty(
+/// How many numbers a person's line has.
+const NUMBERS: usize = 5;
+
+/// The numbers of the line of a person with these duties and days, in minutes. No flight is read so
+/// far, so both sums of flight are 0.
+fn numbers_of(list: &DutyList, days: &BaseDays) -> [u64; NUMBERS]
+    ensures { result ≡ texts.numbers_of days.now list.now }
+{
+    [
+        0,
+        greatest_duty(list, days, 7),
+        greatest_duty(list, days, 14),
+        greatest_duty(list, days, 28),
+        0,
+    ]
+}
+
+/// The numbers of the line of person `k`.
+fn numbers_of_person(
     alloc: Global,
-    out: &mut Vec<u8>,
     problem: &Problem,
     places: &[u16],
     k: usize,
-) -> Result<(), AllocError>
-    requires { k < length problem.now.persons }
+) -> Result<[u64; NUMBERS], AllocError>
+    requires person { k < length problem.now.persons }
+    requires covers { length places.now ≡ length problem.now.pairings }
+    requires limit { length places.now ≤ MOST_PAIRINGS }
     ensures { let list = duty_list problem.now k (set_of k places.now) in
-        let days = (home_of problem.now k).days in
-        OnOk result (out.new.items ≡ out.old.items
-        ++ further (decimal (greatest_duty days list 7) ∷ decimal (greatest_duty days list 14)
-        ∷ decimal (greatest_duty days list 28) ∷ [])) }
+        IfOk result (λ numbers. numbers ≡ texts.numbers_of (home_of problem.now k).days list) }
 {
-    let days = problem.days_of(k);
-    let table = duty_by_day(alloc, problem, places, k, days)?;
-    push_number(alloc, out, greatest_total(&table, 7))?;
-    push_number(alloc, out, greatest_total(&table, 14))?;
-    push_number(alloc, out, greatest_total(&table, 28))
+    let set = Set::of_places(places, k);
+    let list = merge(alloc, problem, k, &set)?;
+    Ok(numbers_of(&list, problem.days_of(k)))
 }
 
-/// Appends the line of person `k`. No flight is read so far, so both sums of flight are 0.
+/// Appends numbers, each behind a word.
+fn push_numbers(alloc: Global, out: &mut Vec<u8>, numbers: &[u64]) -> Result<(), AllocError>
+    ensures { OnOk result
+        (out.new.items ≡ out.old.items ++ further (map decimal numbers.now)) }
+{
+    for number in numbers {
+        push_number(alloc, out, *number)?;
+    }
+    Ok(())
+}
+
+/// Appends the line of person `k`.
 fn push_crew(
     alloc: Global,
     out: &mut Vec<u8>,
@@ -84,20 +109,21 @@ fn push_crew(
     person: &Person,
 ) -> Result<(), AllocError>
     requires covers { length places.now ≡ length problem.now.pairings }
+    requires limit { length places.now ≤ MOST_PAIRINGS }
     requires person { slice_get problem.now.persons k ≡ Some person.now }
-    ensures { OnOk result
-        (out.new.items ≡ out.old.items ++ crew_line problem.now places.now k person.now) }
+    ensures { OnOk result (out.new.items
+        ≡ out.old.items ++ texts.crew_line problem.now (set_of k places.now) k person.now) }
 {
+    let numbers = numbers_of_person(alloc, problem, places, k)?;
     out.extend_from_slice(b"CREW")?;
     push_word(out, person.id.as_bytes())?;
-    push_number(alloc, out, 0)?;
-    push_duty(alloc, out, problem, places, k)?;
-    push_number(alloc, out, 0)?;
+    push_numbers(alloc, out, &numbers)?;
     push_names(out, problem, places, k)?;
     end_line(out)
 }
 
 /// Appends the lines of all persons, in book order.
+#[tactic(auto, unfolding(roster_model::specs::Texts::crew_lines))]
 pub(crate) fn push_crews(
     alloc: Global,
     out: &mut Vec<u8>,
@@ -105,10 +131,8 @@ pub(crate) fn push_crews(
     places: &[u16],
 ) -> Result<(), AllocError>
     requires { length places.now ≡ length problem.now.pairings }
-    ensures { let line = λ (entry : ℕ × PersonRow).
-        crew_line problem.now places.now entry.0 entry.1 in
-        OnOk result (out.new.items ≡ out.old.items
-        ++ flat_map line (enumerate_from 0 problem.now.persons)) }
+    ensures { OnOk result
+        (out.new.items ≡ out.old.items ++ texts.crew_lines problem.now places.now) }
 {
     for (k, person) in problem.persons().iter().enumerate() {
         push_crew(alloc, out, problem, places, k, person)?;

@@ -6,7 +6,7 @@ ghost use Rattle.roster_model.specs.Texts.{names_of};
 ghost use Rattle.roster_report.specs.Words.{further};
 
 use crate::words::push_word;
-use roster_book::Problem;
+use roster_problem::Problem;
 use std::alloc::AllocError;
 
 /// Appends the names of the pairings that have the number, in book order, or a dash.

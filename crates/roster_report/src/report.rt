@@ -2,7 +2,7 @@
 
 ghost use Rattle.std.specs.Prelude.{◌≡◌, false, true, length, IfOk, OnOk, IsErrOf};
 ghost use Rattle.std.specs.Io.KnownBytes.{Appends};
-ghost use Rattle.roster_book.specs.Watch.{inner_of, has_failed, is_flushed};
+ghost use Rattle.roster_watched.specs.Watch.{inner_of, has_failed, is_flushed};
 ghost use Rattle.roster_model.specs.Rosters.{cost_of};
 ghost use Rattle.roster_model.specs.Texts.{report_text};
 ghost use Rattle.roster_report.specs.Writing.{AppendsPrefix};
@@ -10,12 +10,13 @@ ghost use Rattle.roster_report.specs.Writing.{AppendsPrefix};
 use crate::device::write_whole;
 use crate::fault::TextFault;
 use crate::lines::{push_cost, push_crews, push_heading, push_open};
-use roster_book::{Problem, Roster, Watched};
+use roster_problem::{Problem, Roster};
+use roster_watched::Watched;
 use std::alloc::{AllocError, Global};
 use std::io::Write;
 
-/// Writes the report of a roster: a line of the month, one of the cost, one for each person, and one
-/// of the pairings that are left open.
+/// Writes the report of a roster: a line of the month, one of the cost, one for each person, and
+/// one of the pairings that are left open.
 pub fn write_report<W: Write>(
     alloc: Global,
     problem: &Problem,

@@ -1,7 +1,6 @@
 use super::*;
 use crate::lines::push_cost;
-use crate::sums::greatest_total;
-use roster_book::Watched;
+use roster_watched::Watched;
 use std::io;
 use std::io::{ErrorKind, Write};
 use std::test::*;
@@ -127,24 +126,6 @@ fn costs_below_zero(rt: HostRuntime) {
     assert!(rt; push_cost(rt.alloc(), &mut out, -120).is_ok());
     assert!(rt; push_cost(rt.alloc(), &mut out, 5_000).is_ok());
     assert_eq!(rt; out.as_slice(), b"COST -120\nCOST 5000\n".as_slice());
-}
-
-// Days 10 and 11 have 500 minutes each, and days 33 to 36 have 60, 70, 80 and 90. The run of seven
-// days up to day 35 has 60 + 70 + 80, that up to day 36 has 90 more; days 10 and 11 lie in a run of 28
-// that ends on day 37, with the four later ones.
-#[test]
-fn greatest_run_of_days(rt: HostRuntime) {
-    let mut table = [0u64; 40];
-    table[10] = 500;
-    table[11] = 500;
-    table[33] = 60;
-    table[34] = 70;
-    table[35] = 80;
-    table[36] = 90;
-    assert_eq!(rt; table.len(), 40);
-    assert_eq!(rt; greatest_total(&table, 1), 90);
-    assert_eq!(rt; greatest_total(&table, 7), 300);
-    assert_eq!(rt; greatest_total(&table, 28), 1300);
 }
 
 #[test]

@@ -9,6 +9,7 @@ use Rattle.csv.specs.declared.reader.Reader.{Reader}
 use Rattle.csv.specs.declared.reader.Trim.TheVariants as trim
 use Rattle.roster_book.specs.Reading.{AreSeen, IsOpen, records_left}
 use Rattle.roster_book.proofs.RecordsLeft.{found-left, none-left}
+use Rattle.roster_book.proofs.reading.next_record.Goals.{in-Ok, in-Err}
 use Rattle.roster_book.proofs.reading.next_record.Goals as goal
 
 -- what csv says of a read at a reader that takes each record as it is
@@ -44,29 +45,13 @@ no-record remaining old new fields (Ok false) is_open reads = λ found.
     (rw read.1 (rw is_open.config at read.0))
 no-record remaining old new fields (Err e) is_open reads = tt
 
--- records of any length leave no error but those that stop the reader
-stops : {R : Type 0} (remaining : R → Option (List ℕ)) (old new : Reader R) (k : ErrorKind)
-    → IsOpen old → ExplainsRead remaining old new false k → stops_reader k ≡ true
-stops remaining old new (kind.Io e) is_open why = refl
-stops remaining old new kind.OutOfMemory is_open why = refl
-stops remaining old new (kind.UnequalLengths pos expected len) is_open why = cc (why.0, is_open.flexible)
-stops remaining old new (kind.Utf8 pos err) is_open why = cc why.0
-stops remaining old new (kind.Serialize text) is_open why = absurd why
-stops remaining old new (kind.Deserialize pos err) is_open why = absurd why
-
-error-stops : {R : Type 0} (remaining : R → Option (List ℕ)) (old new : Reader R) (r : Result Bool Error)
-    → IsOpen old → IfErr r (λ e. Ready old → ExplainsRead remaining old new false (error_kind e))
-    → IfErr r (λ e. stops_reader (error_kind e) ≡ true)
-error-stops remaining old new (Ok found) is_open why = tt
-error-stops remaining old new (Err e) is_open why = stops remaining old new (error_kind e) is_open (why is_open.ready)
-
 pub returns-clause-record : goal.returns-clause-record
 returns-clause-record g c =
     let read = c.read_byte_record.ensures in
-    found-record g.R.Read.remaining c.args.rows.now c.read_byte_record.new.self (fields_of c.read_byte_record.new.row) c.read_byte_record.result c.requires read.reads read.goes read.flexible read.ready
+    let held = found-record g.R.Read.remaining c.args.reader.now c.read_byte_record.new.self (fields_of c.read_byte_record.new.row) c.read_byte_record.result c.requires read.reads read.goes read.flexible read.ready in
+    elim c.match-read_byte_record.branch [ in-Ok w ↦ rw w.result-is (rw w.in-Ok.is at held) | in-Err w ↦ rw w.result-is tt ]
 
 pub returns-clause-end : goal.returns-clause-end
-returns-clause-end g c = no-record g.R.Read.remaining c.args.rows.now c.read_byte_record.new.self (fields_of c.read_byte_record.new.row) c.read_byte_record.result c.requires c.read_byte_record.ensures.reads
-
-pub returns-clause-stops : goal.returns-clause-stops
-returns-clause-stops g c = error-stops g.R.Read.remaining c.args.rows.now c.read_byte_record.new.self c.read_byte_record.result c.requires c.read_byte_record.ensures.why
+returns-clause-end g c =
+    let held = no-record g.R.Read.remaining c.args.reader.now c.read_byte_record.new.self (fields_of c.read_byte_record.new.row) c.read_byte_record.result c.requires c.read_byte_record.ensures.reads in
+    elim c.match-read_byte_record.branch [ in-Ok w ↦ rw w.result-is (rw w.in-Ok.is at held) | in-Err w ↦ rw w.result-is tt ]

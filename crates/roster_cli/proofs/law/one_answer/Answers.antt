@@ -1,4 +1,4 @@
-use Rattle.roster_cli.proofs.Answering.{same_answer}
+use Rattle.roster_cli.proofs.IsAnswer.{same_answer}
 use Rattle.roster_cli.proofs.law.one_answer.Goals as goal
 
 pub returns : goal.returns

@@ -1,7 +1,7 @@
 use Rattle.std.proofs.Common.{◌≡◌, ℕ, ◌+◌, ◌<◌, List, length, take, get_or, set, refl, sym, ◌∙◌, inl, inr, arith}
 use Rattle.std.proofs.lemmas.Bool.{cases_lt}
 use Rattle.std.proofs.lemmas.List.{take-set}
-use Rattle.roster_combine.proofs.Region.{Settles-nothing, Settles-then, front_more, front_less}
+use Rattle.roster_combine.proofs.Settles.{Settles-nothing, Settles-then, front_more, front_less}
 use Rattle.roster_combine.proofs.search.+try_all.Goals as goal
 
 pub loop-place-init : goal.loop-place-init
@@ -19,13 +19,13 @@ loop-place-preserved t c =
     let place : ℕ = c.loop-place.place in
     let within : depth < length first = omega (arith, c.requires.within) in
     record {
-      numbers = c.try_all.ensures.numbers;
-      front = front_less _ _ depth c.try_all.ensures.front ∙ take-set places depth place ∙ c.loop-place.invariant.front;
+      numbers = c.in_ok-try_all.ensures.numbers;
+      front = front_less _ _ depth c.in_ok-try_all.ensures.front ∙ take-set places depth place ∙ c.loop-place.invariant.front;
       settled = Settles-then c.args.problem.now
           (λ others. (take depth others ≡ take depth first) × (get_or others depth 0 < place))
           (λ others. take (depth + 1) others ≡ take (depth + 1) (set places depth place))
           (λ others. (take depth others ≡ take depth first) × (get_or others depth 0 < place + 1))
-          c.args.best.now c.loop-place.best c.try_all.new.best c.loop-place.invariant.settled c.try_all.ensures.settled
+          c.args.best.now c.loop-place.best c.try_all.new.best c.loop-place.invariant.settled c.in_ok-try_all.ensures.settled
           (λ others legal both. elim (cases_lt (get_or others depth 0) place) [
             | inl before ↦ inl (both.0, before)
             | inr here ↦ inr (front_more others places depth place (omega (arith, legal.covers, c.requires.covers)) (omega (arith, c.loop-place.auto.places)) (both.0 ∙ sym c.loop-place.invariant.front) (omega (arith, both.1)))

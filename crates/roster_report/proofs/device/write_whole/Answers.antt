@@ -1,7 +1,7 @@
 use Rattle.std.proofs.Common.{arith}
 use Rattle.std.proofs.lemmas.Bool.Decides.{nat_tests}
 use Rattle.std.proofs.lemmas.List.{take_rest}
-use Rattle.roster_report.proofs.Writes.{Appends-front}
+use Rattle.roster_report.proofs.Appends.{Appends-front}
 use Rattle.roster_report.proofs.device.write_whole.Goals as goal
 
 pub loop-written-preserved : goal.loop-written-preserved

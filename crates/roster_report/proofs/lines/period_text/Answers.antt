@@ -1,6 +1,6 @@
 use Rattle.std.proofs.Common.{◌∙◌}
 use Rattle.std.proofs.lemmas.Result.{IfOk-weaker}
-use Rattle.roster_report.proofs.Months.{period_text-written}
+use Rattle.roster_report.proofs.PeriodText.{period_text-written}
 use Rattle.roster_report.proofs.lines.period_text.Goals as goal
 
 pub returns : goal.returns

@@ -3,21 +3,19 @@ use Rattle.std.specs.Int.{w64}
 use Rattle.std.proofs.lemmas.Int.{to_z-of_z}
 use Rattle.std.specs.Int.RustNames.{FitsSigned}
 use Rattle.std.specs.Fmt.{signed_decimal}
-use Rattle.std.specs.List.{flat_map, enumerate_from}
-use Rattle.roster_model.specs.Book.{Person}
 use Rattle.roster_model.specs.Calendar.{Period}
 use Rattle.roster_model.specs.Rosters.{set_of, open_number}
-use Rattle.roster_model.specs.Texts.{report_text, line_of, period_text, crew_line, names_of}
-use Rattle.roster_report.proofs.WholeLines.{four-texts}
+use Rattle.roster_model.specs.Texts.{report_text, line_of, period_text, crew_lines, names_of}
+use Rattle.roster_report.proofs.LineOf.{four-texts}
 use Rattle.roster_report.proofs.report.report.Goals as goal
 
 pub returns : goal.returns
 unfolding report_text
 returns c =
-    let book = c.args.problem.now in
+    let problem = c.args.problem.now in
     let heading = c.in_ok-push_heading.ensures ∙ ap (λ (t : List ℕ). t ++ line_of (codes "ROSTER" ∷ period_text c.period.result ∷ [])) c.new-text.ensures.items ∙ ap (λ (p : Period). line_of (codes "ROSTER" ∷ period_text p ∷ [])) c.period.ensures in
     let fits : FitsSigned w64 c.args.roster.now.cost = search rules in
     let cost = c.in_ok-push_cost.ensures ∙ ap (λ (z : ℤ). c.push_heading.new.out.items ++ line_of (codes "COST" ∷ signed_decimal z ∷ [])) (to_z-of_z w64 c.args.roster.now.cost fits ∙ c.requires.cost) in
-    let crews = c.in_ok-push_crews.ensures ∙ ap (λ (places : List ℕ). c.push_cost.new.out.items ++ flat_map (λ (entry : ℕ × Person). crew_line book places entry.0 entry.1) (enumerate_from 0 book.persons)) c.as_slice-places.ensures in
-    let open_line = c.in_ok-push_open.ensures ∙ ap (λ (places : List ℕ). c.push_crews.new.out.items ++ line_of (codes "OPEN" ∷ names_of book (set_of (open_number book) places))) c.as_slice-places.ensures in
+    let crews = c.in_ok-push_crews.ensures ∙ ap (λ (places : List ℕ). c.push_cost.new.out.items ++ crew_lines problem places) c.as_slice-places.ensures in
+    let open_line = c.in_ok-push_open.ensures ∙ ap (λ (places : List ℕ). c.push_crews.new.out.items ++ line_of (codes "OPEN" ∷ names_of problem (set_of (open_number problem) places))) c.as_slice-places.ensures in
     four-texts _ _ _ _ _ _ _ _ heading cost crews open_line

@@ -1,7 +1,50 @@
+use Rattle.std.proofs.Common.{◌∙◌, sym, refl}
+use Rattle.std.proofs.lemmas.Result.{err_from_is_err_and}
 use Rattle.csv.specs.Records.{fields_of}
-use Rattle.roster_book.specs.View.{contents_of}
-use Rattle.roster_book.proofs.DraftFacts.{HasRecords-taking}
+use Rattle.roster_model.specs.Record.{BaseRecord, CrewRecord, PairingRecord, DutyRecord, PeriodRecord}
+use Rattle.roster_model.specs.records.Base.{base_of}
+use Rattle.roster_model.specs.records.Crew.{person_of}
+use Rattle.roster_model.specs.records.Pairing.{pairing_of}
+use Rattle.roster_model.specs.records.Duty.{duty_of}
+use Rattle.roster_book.specs.Draft.{tables_of_draft}
+use Rattle.roster_book.specs.View.{command_of}
+use Rattle.roster_book.proofs.Drafts.{code_of-later, code_of-unknown, Takes-pushed}
 use Rattle.roster_book.proofs.draft.Draft.take.Goals as goal
 
-pub invariant_of-self : goal.invariant_of-self
-invariant_of-self c = HasRecords-taking (contents_of c.self.inside.tables) (contents_of c.take.new.self) (fields_of c.args.row.now) c.take.result c.self.invariant c.take.ensures
+pub returns-in-None : goal.returns-in-None
+returns-in-None c = λ before d. code_of-unknown (command_of c.args.command) before (fields_of c.args.fields.now) d.begun (sym c.in-None.ensures)
+
+pub returns-in-Some-Period : goal.returns-in-Some-Period
+returns-in-Some-Period c = λ before d.
+    code_of-later (command_of c.args.command) PeriodRecord before (fields_of c.args.fields.now) d.begun (sym (rw c.in-Some-Period.field-0-is at c.in-Some-Period.ensures))
+    ∙ c.fault_of_later.ensures (command_of c.args.command) before d.begun d.faultless
+
+pub returns-in_err-base-in-Some-Base : goal.returns-in_err-base-in-Some-Base
+returns-in_err-base-in-Some-Base c = λ before d.
+    let p = err_from_is_err_and c.from_residual.result c.from_residual.ensures.1 in
+    rw (p.1, p.2, code_of-later (command_of c.args.command) BaseRecord before (fields_of c.args.fields.now) d.begun (sym (rw c.in-Some-Base.field-0-is at c.in-Some-Base.ensures)))
+    (c.in_err-base-in-Some-Base.ensures (command_of c.args.command) c.args.row before d)
+
+pub returns-in_ok-base-in-Some-Base : goal.returns-in_ok-base-in-Some-Base
+returns-in_ok-base-in-Some-Base c = λ before d.
+    let fields = fields_of c.args.fields.now in
+    Takes-pushed (command_of c.args.command) c.args.row BaseRecord before fields (tables_of_draft c.args.self.now) _ (base_of before fields) _ _ _ d (rw c.in-Some-Base.field-0-is at c.in-Some-Base.ensures)
+    (c.push.ensures _ (base_of before fields) (c.in_ok-base-in-Some-Base.ensures (command_of c.args.command) c.args.row before d)) (λ same. rw same refl)
+
+pub returns-in-Some-Crew : goal.returns-in-Some-Crew
+returns-in-Some-Crew c = λ before d.
+    let fields = fields_of c.args.fields.now in
+    Takes-pushed (command_of c.args.command) c.args.row CrewRecord before fields (tables_of_draft c.args.self.now) _ (person_of before fields) _ _ _ d (rw c.in-Some-Crew.field-0-is at c.in-Some-Crew.ensures)
+    (c.push-in-Some-Crew.ensures _ (person_of before fields) (c.judge_person-person.ensures (command_of c.args.command) before d)) (λ same. rw same refl)
+
+pub returns-in-Some-Pairing : goal.returns-in-Some-Pairing
+returns-in-Some-Pairing c = λ before d.
+    let fields = fields_of c.args.fields.now in
+    Takes-pushed (command_of c.args.command) c.args.row PairingRecord before fields (tables_of_draft c.args.self.now) _ (pairing_of before fields) _ _ _ d (rw c.in-Some-Pairing.field-0-is at c.in-Some-Pairing.ensures)
+    (c.push-in-Some-Pairing.ensures _ (pairing_of before fields) (c.judge_pairing-pairing.ensures (command_of c.args.command) before d)) (λ same. rw same refl)
+
+pub returns-in-Some-Duty : goal.returns-in-Some-Duty
+returns-in-Some-Duty c = λ before d.
+    let fields = fields_of c.args.fields.now in
+    Takes-pushed (command_of c.args.command) c.args.row DutyRecord before fields (tables_of_draft c.args.self.now) _ (duty_of before fields) _ _ _ d (rw c.in-Some-Duty.field-0-is at c.in-Some-Duty.ensures)
+    (c.push-in-Some-Duty.ensures _ (duty_of before fields) (c.judge_duty-duty.ensures (command_of c.args.command) before d)) (λ same. rw same refl)

@@ -1,15 +1,15 @@
 use Rattle.std.proofs.Common.{◌≡◌, length, replicate, sym, ap, ◌∙◌, subst, SFits, w64, rules}
 use Rattle.std.proofs.lemmas.Int.{to_z-of_z}
 use Rattle.roster_model.specs.Rosters.{IsLegalRoster, cost_of}
-use Rattle.roster_combine.proofs.Open.{all_open_legal}
+use Rattle.roster_combine.proofs.AllOpen.{all_open_legal}
 use Rattle.roster_combine.proofs.incumbent.Incumbent.all_open.Goals as goal
 
 pub returns-clause-held : goal.returns-clause-held
 returns-clause-held c =
-    let book = c.args.problem.now in
-    let items : c.in_ok-places.places.items ≡ replicate (length book.pairings) (length book.persons) = search rules in
+    let problem = c.args.problem.now in
+    let items : c.in_ok-places.places.items ≡ replicate (length problem.pairings) (length problem.persons) = search rules in
     let fits : SFits w64 c.cost_of-cost.result = search rules in
     record {
-      legal = subst (IsLegalRoster book) (sym items) (all_open_legal book);
-      cost = to_z-of_z w64 c.cost_of-cost.result fits ∙ c.cost_of-cost.ensures ∙ ap (cost_of book) c.deref.ensures.value;
+      legal = subst (IsLegalRoster problem) (sym items) (all_open_legal problem);
+      cost = to_z-of_z w64 c.cost_of-cost.result fits ∙ c.cost_of-cost.ensures ∙ ap (cost_of problem) c.deref.ensures.value;
     }

@@ -1,0 +1,294 @@
+-- The tables of records without a fault are sound: each kind of record keeps them so.
+use Rattle.std.proofs.Common.{◌≡◌, ℕ, ◌+◌, ◌*◌, ◌<◌, ◌≤◌, Bool, true, false, cond, not, ◌&&◌, List, [], ◌∷◌, ◌++◌, length, ℤ, pos, negsuc, Option, Some, None, refl, sym, ◌∙◌, ap, subst, length-append, append-nil, arith}
+use Rattle.std.specs.Prelude.{All, unsigned_abs, nat_lt, is_some, option_map, position, unwrap_or}
+use Rattle.std.specs.List.{find, list_any, position_or_len}
+use Rattle.std.proofs.Props.{props}
+use Rattle.std.proofs.Math.Logic.{∥∥₁_elim}
+use Rattle.std.proofs.Math.Seq.{append_snoc}
+use Rattle.std.proofs.lemmas.Bool.Decides.{nat_tests}
+use Rattle.std.proofs.lemmas.List.Elements.{All-nil, All-push, All-weaker}
+use Rattle.std.proofs.lemmas.List.Folds.{list_any-append}
+use Rattle.std.proofs.lemmas.List.Sorted.{All-permutation, length_permutation}
+use Rattle.roster_model.specs.declared.limits.TheConstants.{MOST_BASES, MOST_PERSONS, MOST_PAIRINGS, MOST_DUTIES, MOST_PENALTY, MOST_RECORDS}
+use Rattle.roster_model.specs.Form.{is_amount, number_of}
+use Rattle.roster_model.specs.Record.{Record, Command, Kind, PeriodRecord, BaseRecord, CrewRecord, PairingRecord, DutyRecord, is_of}
+use Rattle.roster_model.specs.Code.{Code, first_unmet, NoPeriod}
+use Rattle.roster_model.specs.Problem.{Problem, tables_in, in_order}
+use Rattle.roster_model.specs.Faults.{IsFaultlessSoFar, IsFaultlessAfter, code_of, code_of_kind, kind_in}
+use Rattle.roster_model.specs.Calendar.{Period}
+use Rattle.roster_model.specs.records.Period as period
+use Rattle.roster_model.specs.records.Base as base
+use Rattle.roster_model.specs.records.Crew as crew
+use Rattle.roster_model.specs.records.Pairing as pairing
+use Rattle.roster_model.specs.records.Duty as duty
+use Rattle.roster_model.specs.records.Base.{base_of, bases_in}
+use Rattle.roster_model.specs.records.Crew.{person_of}
+use Rattle.roster_model.specs.records.Pairing.{Pairing, pairing_of, pairing_place}
+use Rattle.roster_model.specs.records.Duty.{Duty, Holder, OfPairing, duty_of, duties_in, holder_name_in, conditions_held}
+use Rattle.roster_problem.specs.Sound.{IsSound, IsHolder}
+use Rattle.roster_problem.proofs.Ordering.{IsPermutation-in_order}
+use Rattle.roster_book.specs.Draft.{HasRecords, IsDraftOf}
+use Rattle.roster_book.proofs.Drafts.{kind_is, code_of-later, code_of-unknown}
+use Rattle.roster_book.proofs.Tables.{tables_in-first, tables_in-append, tables_with}
+
+-- ---- what conditions that are all met say
+
+abbrev AreMet : List (Code × Bool) → Type 0
+AreMet [] = Unit {0}
+AreMet (condition ∷ conditions) = (condition.1 ≡ true) × AreMet conditions
+
+AreMet-none : (conditions : List (Code × Bool)) → first_unmet conditions ≡ None → AreMet conditions
+AreMet-none [] h = tt
+AreMet-none ((code, true) ∷ conditions) h = (refl, AreMet-none conditions h)
+AreMet-none ((code, false) ∷ conditions) h = cc
+
+found : (i n : ℕ) (b : Bool) → nat_lt i n ≡ b → is_some (cond {A = Option ℕ} b (Some i) None) ≡ true → unwrap_or (cond b (Some i) None) 0 < n
+found i n true h some = grind (arith, nat_tests)
+found i n false h some = cc
+
+below : (n most : ℕ) → nat_lt n most ≡ true → n < most
+below n most h = grind (arith, nat_tests)
+
+-- a name that is known has a place
+place-below : {X : Type 0} (p : X → Bool) (xs : List X) → is_some (position p xs) ≡ true → unwrap_or (position p xs) 0 < length xs
+place-below p xs some = found (position_or_len p xs) (length xs) (nat_lt (position_or_len p xs) (length xs)) refl some
+
+amount-below : (most : ℕ) (z : ℤ) → is_amount most z ≡ true → unsigned_abs z ≤ most
+amount-below most (pos n) h = grind (arith, nat_tests)
+amount-below most (negsuc n) h = cc
+
+-- ---- what one more entry keeps
+
+longer : {X : Type 0} (n : ℕ) (xs : List X) (x : X) → n < length xs → n < length (xs ++ x ∷ [])
+longer {X = X} n xs x h = omega (arith, length-append {A = X})
+
+one_more : {X : Type 0} (xs : List X) (x : X) → length (xs ++ x ∷ []) ≡ length xs + 1
+one_more {X = X} xs x = omega (arith, length-append {A = X})
+
+holder_longer : (pairings : List Pairing) (pairing : Pairing) (holder : Holder) → IsHolder (length pairings) holder → IsHolder (length (pairings ++ pairing ∷ [])) holder
+holder_longer pairings pairing (OfPairing p) h = longer p pairings pairing h
+
+-- The tables of so many records are sound.
+record AreSound (count : ℕ) (tables : Problem) : Type 0 where
+  sound : IsSound tables
+  count_is : count ≤ 1 + length tables.bases + length tables.persons + length tables.pairings + length tables.duties
+
+sound-none : {period : Period} → AreSound 1 (record { period = period; bases = []; persons = []; pairings = []; duties = [] })
+sound-none = record {
+  sound = record {
+    bases = omega arith;
+    persons = omega arith;
+    pairings = omega arith;
+    duties = omega arith;
+    penalties = All-nil _;
+    homes = All-nil _;
+    starts = All-nil _;
+    holders = All-nil _;
+  };
+  count_is = omega arith;
+}
+
+-- what is known where a record of the kind is taken
+record IsTaken (count : ℕ) (kind : Kind) (before : List Record) (fields : Record) (tables : Problem) : Type 0 where
+  sound : AreSound count tables
+  tables_are : tables ≡ tables_in before
+  met : code_of_kind kind before fields ≡ None
+
+sound-base : (count : ℕ) (before : List Record) (fields : Record) (t : Problem) → IsTaken count BaseRecord before fields t → AreSound (count + 1) (tables_with BaseRecord before fields t)
+unfolding code_of_kind
+sound-base count before fields t k =
+    let s = k.sound.sound in
+    let made = base_of before fields in
+    let n = one_more t.bases made in
+    let met = AreMet-none (base.conditions before fields) k.met in
+    let few : length t.bases < MOST_BASES = rw k.tables_are (below _ MOST_BASES met.1.1.1.1.0) in
+    record {
+      sound = record {
+        bases = omega arith;
+        persons = s.persons;
+        pairings = s.pairings;
+        duties = s.duties;
+        penalties = s.penalties;
+        homes = All-weaker (λ person. person.base < length t.bases) _ (λ person. longer person.base t.bases made) t.persons s.homes;
+        starts = All-weaker (λ q. q.base < length t.bases) _ (λ q. longer q.base t.bases made) t.pairings s.starts;
+        holders = s.holders;
+      };
+      count_is = omega (arith, k.sound.count_is);
+    }
+
+sound-person : (count : ℕ) (before : List Record) (fields : Record) (t : Problem) → IsTaken count CrewRecord before fields t → AreSound (count + 1) (tables_with CrewRecord before fields t)
+unfolding code_of_kind person_of
+sound-person count before fields t k =
+    let s = k.sound.sound in
+    let made = person_of before fields in
+    let n = one_more t.persons made in
+    let met = AreMet-none (crew.conditions before fields) k.met in
+    let few : length t.persons < MOST_PERSONS = rw k.tables_are (below _ MOST_PERSONS met.1.1.1.1.1.0) in
+    let home : made.base < length t.bases = rw k.tables_are (place-below _ (bases_in before) met.1.1.1.1.0) in
+    record {
+      sound = record {
+        bases = s.bases;
+        persons = omega arith;
+        pairings = s.pairings;
+        duties = s.duties;
+        penalties = s.penalties;
+        homes = All-push (λ person. person.base < length t.bases) t.persons made s.homes home;
+        starts = s.starts;
+        holders = s.holders;
+      };
+      count_is = omega (arith, k.sound.count_is);
+    }
+
+sound-pairing : (count : ℕ) (before : List Record) (fields : Record) (t : Problem) → IsTaken count PairingRecord before fields t → AreSound (count + 1) (tables_with PairingRecord before fields t)
+unfolding code_of_kind pairing_of
+sound-pairing count before fields t k =
+    let s = k.sound.sound in
+    let made = pairing_of before fields in
+    let n = one_more t.pairings made in
+    let met = AreMet-none (pairing.conditions before fields) k.met in
+    let few : length t.pairings < MOST_PAIRINGS = rw k.tables_are (below _ MOST_PAIRINGS met.1.1.1.1.1.0) in
+    let start : made.base < length t.bases = rw k.tables_are (place-below _ (bases_in before) met.1.1.1.1.0) in
+    record {
+      sound = record {
+        bases = s.bases;
+        persons = s.persons;
+        pairings = omega arith;
+        duties = s.duties;
+        penalties = All-push (λ q. q.penalty ≤ MOST_PENALTY) t.pairings made s.penalties (amount-below MOST_PENALTY (number_of (pairing.penalty_in fields)) met.1.1.0);
+        homes = s.homes;
+        starts = All-push (λ q. q.base < length t.bases) t.pairings made s.starts start;
+        holders = All-weaker (λ d. IsHolder (length t.pairings) d.holder) _ (λ d. holder_longer t.pairings made d.holder) t.duties s.holders;
+      };
+      count_is = omega (arith, k.sound.count_is);
+    }
+
+-- a duty's holder is known, and there is room for one more
+record IsHeld (before : List Record) (place : Option ℕ) : Type 0 where
+  known : is_some place ≡ true
+  room : length (duties_in before) < MOST_DUTIES
+
+held : (before : List Record) (place : Option ℕ) (station : List ℕ) (report release : ℕ)
+    → AreMet (conditions_held before (option_map OfPairing place) station report release) → IsHeld before place
+held before None station report release h = cc h.0
+held before (Some p) station report release h = record { known = refl; room = below _ MOST_DUTIES h.1.1.0 }
+
+holder-below : (place : Option ℕ) (n : ℕ) → is_some place ≡ true → unwrap_or place 0 < n → IsHolder n (unwrap_or (option_map OfPairing place) (OfPairing 0))
+holder-below None n some below = cc
+holder-below (Some p) n some below = below
+
+sound-duty : (count : ℕ) (before : List Record) (fields : Record) (t : Problem) → IsTaken count DutyRecord before fields t → AreSound (count + 1) (tables_with DutyRecord before fields t)
+unfolding code_of_kind duty_of
+sound-duty count before fields t k =
+    let s = k.sound.sound in
+    let made = duty_of before fields in
+    let n = one_more t.duties made in
+    let place = pairing_place before (holder_name_in fields) in
+    let met = AreMet-none (duty.conditions before fields) k.met in
+    let h = held before place _ _ _ met.1.1.1 in
+    let few : length t.duties < MOST_DUTIES = rw k.tables_are h.room in
+    let holder : IsHolder (length t.pairings) made.holder = rw k.tables_are (holder-below place _ h.known (place-below _ _ h.known)) in
+    record {
+      sound = record {
+        bases = s.bases;
+        persons = s.persons;
+        pairings = s.pairings;
+        duties = omega arith;
+        penalties = s.penalties;
+        homes = s.homes;
+        starts = s.starts;
+        holders = All-push (λ d. IsHolder (length t.pairings) d.holder) t.duties made s.holders holder;
+      };
+      count_is = omega (arith, k.sound.count_is);
+    }
+
+-- ---- the records of a draft
+
+step_kind : (kind : Kind) (before : List Record) (fields : Record) → list_any (is_of PeriodRecord) before ≡ true
+    → IsTaken (length before) kind before fields (tables_in before) → AreSound (length before + 1) (tables_with kind before fields (tables_in before))
+unfolding code_of_kind
+step_kind PeriodRecord before fields begun k = absurd (cc (begun, (AreMet-none (period.conditions before fields) k.met).1.1.0))
+step_kind BaseRecord before fields begun k = sound-base _ before fields _ k
+step_kind CrewRecord before fields begun k = sound-person _ before fields _ k
+step_kind PairingRecord before fields begun k = sound-pairing _ before fields _ k
+step_kind DutyRecord before fields begun k = sound-duty _ before fields _ k
+
+step : (command : Command) (before : List Record) (fields : Record) → 0 < length before → list_any (is_of PeriodRecord) before ≡ true
+    → AreSound (length before) (tables_in before) → code_of command before fields ≡ None
+    → AreSound (length (before ++ fields ∷ [])) (tables_in (before ++ fields ∷ []))
+step command before fields some begun s none =
+    let P : Option Kind → Type 0 = λ o. kind_in command fields ≡ o → AreSound (length (before ++ fields ∷ [])) (tables_in (before ++ fields ∷ [])) in
+    elim (kind_in command fields) as P [
+      | None ↦ λ k. cc (code_of-unknown command before fields some k, none)
+      | Some kind ↦ λ k.
+          let taken : IsTaken (length before) kind before fields (tables_in before) = record { sound = s; tables_are = refl; met = sym (code_of-later command kind before fields some k) ∙ none } in
+          rw (one_more before fields, tables_in-append kind before fields some (kind_is command kind fields k)) (step_kind kind before fields begun taken)
+    ] refl
+
+is_period : (b : Bool) (code : Option Code) → cond (true && not b) (Some NoPeriod) code ≡ None → b ≡ true
+is_period true code h = refl
+is_period false code h = cc
+
+-- the first record is a period
+pub first_is_period : (command : Command) (fields : Record) → code_of command [] fields ≡ None → is_of PeriodRecord fields ≡ true
+unfolding code_of
+first_is_period command fields h = is_period (is_of PeriodRecord fields) _ h
+
+sound-first : (fields : Record) → is_of PeriodRecord fields ≡ true → AreSound 1 (tables_in (fields ∷ []))
+sound-first fields h = rw (tables_in-first fields h) sound-none
+
+sound_after : (command : Command) (before records : List Record) → 0 < length before → list_any (is_of PeriodRecord) before ≡ true
+    → AreSound (length before) (tables_in before) → IsFaultlessAfter command before records
+    → AreSound (length (before ++ records)) (tables_in (before ++ records))
+sound_after command before [] some begun s h = rw append-nil s
+sound_after command before (fields ∷ records) some begun s h =
+    let P : List Record → Type 0 = λ all. AreSound (length all) (tables_in all) in
+    let longer = one_more before fields in
+    let still : list_any (is_of PeriodRecord) (before ++ fields ∷ []) ≡ true = rw (list_any-append (is_of PeriodRecord) before (fields ∷ []), begun) refl in
+    subst P (append_snoc before fields records) (sound_after command (before ++ fields ∷ []) records (omega arith) still (step command before fields some begun s h.0) h.1)
+
+sound-all : (command : Command) (records : List Record) → 0 < length records → IsFaultlessSoFar command records → AreSound (length records) (tables_in records)
+sound-all command [] some h = absurd (omega arith)
+sound-all command (fields ∷ records) some h =
+    let first = first_is_period command fields h.0 in
+    let begun : list_any (is_of PeriodRecord) (fields ∷ []) ≡ true = rw first refl in
+    sound_after command (fields ∷ []) records (omega arith) begun (sound-first fields first) h.1
+
+-- the records begin with a period
+pub has_period : (command : Command) (records : List Record) → 0 < length records → IsFaultlessSoFar command records → list_any (is_of PeriodRecord) records ≡ true
+has_period command [] some h = absurd (omega arith)
+has_period command (fields ∷ records) some h = rw (first_is_period command fields h.0) refl
+
+-- there are no more records than the limits of their kinds allow
+pub few_records : (command : Command) (records : List Record) → 0 < length records → IsFaultlessSoFar command records → length records ≤ MOST_RECORDS
+few_records command records some h =
+    let s = sound-all command records some h in
+    omega (arith, s.count_is, s.sound.bases, s.sound.persons, s.sound.pairings, s.sound.duties)
+
+pub IsSound-draft : (command : Command) (row : ℕ) (before : List Record) (tables : Problem) → IsDraftOf command row before tables → IsSound tables
+IsSound-draft command row before tables d = rw d.tables_are (sound-all command before d.begun d.faultless).sound
+
+IsHolder-prop : (n : ℕ) (holder : Holder) → IsProp (IsHolder n holder)
+IsHolder-prop n (OfPairing p) = hlevel props
+
+IsSound-prop : (tables : Problem) → IsProp (IsSound tables)
+IsSound-prop tables = hlevel (props, IsHolder-prop)
+
+pub IsSound-records : (tables : Problem) → HasRecords tables → IsSound tables
+unfolding HasRecords
+IsSound-records tables h = ∥∥₁_elim h (IsSound-prop tables) (λ (command, row, before, d). IsSound-draft command row before tables d)
+
+-- the same with the duties in their order in time
+pub IsSound-in_order : (tables : Problem) → IsSound tables → IsSound (record tables { duties = in_order tables.duties })
+IsSound-in_order tables s =
+    let order = IsPermutation-in_order tables.duties in
+    let same = length_permutation tables.duties (in_order tables.duties) order in
+    record {
+      bases = s.bases;
+      persons = s.persons;
+      pairings = s.pairings;
+      duties = omega (arith, s.duties);
+      penalties = s.penalties;
+      homes = s.homes;
+      starts = s.starts;
+      holders = All-permutation (λ d. IsHolder (length tables.pairings) d.holder) tables.duties (in_order tables.duties) order s.holders;
+    }

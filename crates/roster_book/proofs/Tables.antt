@@ -1,0 +1,88 @@
+-- One more record adds at most one entry to one table, and changes no entry before it.
+use Rattle.std.proofs.Common.{◌≡◌, ◌<◌, ◌+◌, Bool, true, false, cond, List, [], ◌∷◌, ◌++◌, length, Option, Some, None, refl, sym, ◌∙◌, ap, append-nil, arith}
+use Rattle.std.specs.List.{cons_option}
+use Rattle.std.specs.Str.{bytes_eq}
+use Rattle.std.proofs.Math.Seq.{append_snoc}
+use Rattle.std.proofs.lemmas.Slice.Eq.{bytes_eq-Decides}
+use Rattle.roster_model.specs.Record.{Record, Kind, PeriodRecord, BaseRecord, CrewRecord, PairingRecord, DutyRecord, field, word_of, is_of, entry_of, gather_after, table_of}
+use Rattle.roster_model.specs.Problem.{Problem, tables_in}
+use Rattle.roster_model.specs.records.Period.{period_in}
+use Rattle.roster_model.specs.records.Base.{base_of}
+use Rattle.roster_model.specs.records.Crew.{person_of}
+use Rattle.roster_model.specs.records.Pairing.{pairing_of}
+use Rattle.roster_model.specs.records.Duty.{duty_of}
+
+cons_option-append : {X : Type 0} (o : Option X) (xs ys : List X) → cons_option o (xs ++ ys) ≡ cons_option o xs ++ ys
+cons_option-append None xs ys = refl
+cons_option-append (Some x) xs ys = refl
+
+-- the entries, and the one that one more record adds
+gather_after-append : {X : Type 0} (entry : List Record → Record → Option X) (before records : List Record) (fields : Record)
+    → gather_after entry before (records ++ fields ∷ []) ≡ gather_after entry before records ++ cons_option (entry (before ++ records) fields) []
+unfolding gather_after
+gather_after-append entry before [] fields = rw append-nil refl
+gather_after-append entry before (first ∷ records) fields =
+    ap (cons_option (entry before first)) (gather_after-append entry (before ++ first ∷ []) records fields)
+    ∙ cons_option-append (entry before first) _ _
+    ∙ ap (λ all. cons_option (entry before first) (gather_after entry (before ++ first ∷ []) records) ++ cons_option (entry all fields) []) (append_snoc before first records)
+
+-- whether two kinds are one, by their words
+abbrev pub is_same : Kind → Kind → Bool
+is_same kind other = bytes_eq (word_of kind) (word_of other)
+
+-- a record is of one kind
+is_of-other : (kind other : Kind) (fields : Record) → is_of kind fields ≡ true → is_of other fields ≡ is_same kind other
+is_of-other kind other fields h = ap (λ word. bytes_eq word (word_of other)) ((bytes_eq-Decides (field fields 0) (word_of kind)).0 h)
+
+-- a table with one more entry, or as it is
+abbrev pub grown : {X : Type 0} → Bool → List X → X → List X
+grown true entries entry = entries ++ entry ∷ []
+grown false entries entry = entries
+
+grown-by : {X : Type 0} (b : Bool) (entries : List X) (entry : X) → entries ++ cons_option (cond b (Some entry) None) [] ≡ grown b entries entry
+grown-by true entries entry = refl
+grown-by false entries entry = append-nil entries
+
+-- a table grows by records of its own kind alone
+table_of-append : {X : Type 0} (kind other : Kind) (made : List Record → Record → X) (before : List Record) (fields : Record)
+    → is_of kind fields ≡ true → table_of other made (before ++ fields ∷ []) ≡ grown (is_same kind other) (table_of other made before) (made before fields)
+table_of-append kind other made before fields h =
+    gather_after-append (entry_of other made) [] before fields
+    ∙ ap (λ b. table_of other made before ++ cons_option (cond b (Some (made before fields)) None) []) (is_of-other kind other fields h)
+    ∙ grown-by (is_same kind other) (table_of other made before) (made before fields)
+
+period_in-append : (before : List Record) (fields : Record) → 0 < length before → period_in (before ++ fields ∷ []) ≡ period_in before
+unfolding period_in
+period_in-append [] fields h = absurd (omega arith)
+period_in-append (first ∷ rest) fields h = refl
+
+-- the tables with what a record of the kind adds
+abbrev pub tables_with : Kind → List Record → Record → Problem → Problem
+tables_with kind before fields tables = record {
+  period = tables.period;
+  bases = grown (is_same kind BaseRecord) tables.bases (base_of before fields);
+  persons = grown (is_same kind CrewRecord) tables.persons (person_of before fields);
+  pairings = grown (is_same kind PairingRecord) tables.pairings (pairing_of before fields);
+  duties = grown (is_same kind DutyRecord) tables.duties (duty_of before fields);
+}
+
+pub tables_in-append : (kind : Kind) (before : List Record) (fields : Record) → 0 < length before → is_of kind fields ≡ true
+    → tables_in (before ++ fields ∷ []) ≡ tables_with kind before fields (tables_in before)
+tables_in-append kind before fields begun h = rw (
+  period_in-append before fields begun,
+  table_of-append kind BaseRecord base_of before fields h,
+  table_of-append kind CrewRecord person_of before fields h,
+  table_of-append kind PairingRecord pairing_of before fields h,
+  table_of-append kind DutyRecord duty_of before fields h,
+)
+
+-- the tables of a period alone
+pub tables_in-first : (fields : Record) → is_of PeriodRecord fields ≡ true
+    → tables_in (fields ∷ []) ≡ record { period = period_in (fields ∷ []); bases = []; persons = []; pairings = []; duties = [] }
+unfolding gather_after
+tables_in-first fields h = rw (
+  is_of-other PeriodRecord BaseRecord fields h,
+  is_of-other PeriodRecord CrewRecord fields h,
+  is_of-other PeriodRecord PairingRecord fields h,
+  is_of-other PeriodRecord DutyRecord fields h,
+) refl

@@ -1,0 +1,118 @@
+use Rattle.std.proofs.Common.{[], ◌∷◌, ◌++◌, refl, arith}
+use Rattle.std.proofs.lemmas.Result.{IfErr-weaker, IfOk-weaker}
+use Rattle.csv.specs.Records.{fields_of}
+use Rattle.roster_book.specs.Draft.{tables_of_draft}
+use Rattle.roster_book.specs.Reading.{IsProblemOf, TellsFirst, records_left}
+use Rattle.roster_book.specs.View.{command_of}
+use Rattle.roster_book.specs.declared.refusal.Refusal.TheVariants as refusals
+use Rattle.roster_book.proofs.Drafts.{HasRecords-draft}
+use Rattle.roster_book.proofs.FirstFaultLemmas.{first_fault-of-none}
+use Rattle.roster_book.proofs.SeenRecords.{refused-first, seen-all, seen-more, seen-next, seen-none}
+use Rattle.roster_book.proofs.Sound.{few_records}
+use Rattle.roster_book.proofs.reading.read_all.Goals as goal
+
+-- ---- no record, or a first one that is refused
+
+pub returns-then-not-branch-clause-fault : goal.returns-then-not-branch-clause-fault
+returns-then-not-branch-clause-fault g c =
+    let command = command_of c.args.command in
+    seen-all _ _ [] (λ all. TellsFirst command all c.at.result) (seen-none (records_left g.R.Read.remaining c.args.reader.now)) (c.in_ok-next_record.ensures.end c.if-not-branch.true)
+    (rw c.at.ensures (first_fault-of-none command))
+
+pub returns-then-not-branch-clause-some_fault : goal.returns-then-not-branch-clause-some_fault
+returns-then-not-branch-clause-some_fault g c = ([], rw c.at.ensures (first_fault-of-none (command_of c.args.command)))
+
+pub returns-in-Err-clause-fault : goal.returns-in-Err-clause-fault
+returns-in-Err-clause-fault g c =
+    let command = command_of c.args.command in
+    let fields = fields_of c.next_record.new.fields in
+    let next = c.in_ok-next_record.ensures.record c.if-not-branch.false in
+    seen-next _ _ _ [] fields (λ all. TellsFirst command all c.at-in-Err.result) (seen-none (records_left g.R.Read.remaining c.args.reader.now)) next.1
+    (λ last. refused-first command 1 [] fields last (refusals.Fault c.in-Err.code) c.at-in-Err.result (omega arith) tt c.in-Err.ensures c.at-in-Err.ensures)
+
+pub returns-in-Err-clause-some_fault : goal.returns-in-Err-clause-some_fault
+returns-in-Err-clause-some_fault g c =
+    let fields = fields_of c.next_record.new.fields in
+    (fields ∷ [], refused-first (command_of c.args.command) 1 [] fields [] (refusals.Fault c.in-Err.code) c.at-in-Err.result (omega arith) tt c.in-Err.ensures c.at-in-Err.ensures)
+
+-- ---- the end of the records
+
+pub finish-requires : goal.finish-requires
+finish-requires g c = record {
+  records = HasRecords-draft (command_of c.args.command) c.loop-row.row c.loop-row.invariant.0 (tables_of_draft c.loop-row.draft) c.loop-row.invariant.1.draft;
+}
+
+pub returns-then-not-branch-2-clause-book : goal.returns-then-not-branch-2-clause-book
+returns-then-not-branch-2-clause-book g c =
+    let seen = c.loop-row.invariant.0 in
+    let h = c.loop-row.invariant.1 in
+    let command = command_of c.args.command in
+    IfOk-weaker c.finish.result _ _
+    (λ problem held. seen-all _ _ seen (λ all. IsProblemOf command all problem) h.follows (c.in_ok-next_record-2.ensures.end c.if-not-branch-2.true) held)
+    (c.finish.ensures.book command c.loop-row.row seen h.draft)
+
+pub returns-then-not-branch-2-clause-fault : goal.returns-then-not-branch-2-clause-fault
+returns-then-not-branch-2-clause-fault g c =
+    let seen = c.loop-row.invariant.0 in
+    let h = c.loop-row.invariant.1 in
+    let command = command_of c.args.command in
+    IfErr-weaker c.finish.result _ _
+    (λ fault held. seen-all _ _ seen (λ all. TellsFirst command all fault) h.follows (c.in_ok-next_record-2.ensures.end c.if-not-branch-2.true) held)
+    (c.finish.ensures.fault command c.loop-row.row seen h.draft)
+
+pub returns-then-not-branch-2-clause-some_book : goal.returns-then-not-branch-2-clause-some_book
+returns-then-not-branch-2-clause-some_book g c =
+    let seen = c.loop-row.invariant.0 in
+    IfOk-weaker c.finish.result _ _ (λ problem held. (seen, held))
+    (c.finish.ensures.book (command_of c.args.command) c.loop-row.row seen c.loop-row.invariant.1.draft)
+
+pub returns-then-not-branch-2-clause-some_fault : goal.returns-then-not-branch-2-clause-some_fault
+returns-then-not-branch-2-clause-some_fault g c =
+    let seen = c.loop-row.invariant.0 in
+    IfErr-weaker c.finish.result _ _ (λ fault held. (seen, held))
+    (c.finish.ensures.fault (command_of c.args.command) c.loop-row.row seen c.loop-row.invariant.1.draft)
+
+-- ---- one more record
+
+pub take-requires : goal.take-requires
+take-requires g c = record {
+  records = HasRecords-draft (command_of c.args.command) c.loop-row.row c.loop-row.invariant.0 (tables_of_draft c.loop-row.draft) c.loop-row.invariant.1.draft;
+}
+
+pub returns-in-Err-take-clause-fault : goal.returns-in-Err-take-clause-fault
+returns-in-Err-take-clause-fault g c =
+    let seen = c.loop-row.invariant.0 in
+    let h = c.loop-row.invariant.1 in
+    let command = command_of c.args.command in
+    let fields = fields_of c.next_record-in-loop-row.new.fields in
+    let next = c.in_ok-next_record-2.ensures.record c.if-not-branch-2.false in
+    seen-next _ _ _ seen fields (λ all. TellsFirst command all c.at-in-Err-take.result) h.follows next.1
+    (λ last. refused-first command c.loop-row.row seen fields last c.in-Err-take.refusal c.at-in-Err-take.result h.draft.row_is h.draft.faultless (c.in-Err-take.ensures seen h.draft) c.at-in-Err-take.ensures)
+
+pub returns-in-Err-take-clause-some_fault : goal.returns-in-Err-take-clause-some_fault
+returns-in-Err-take-clause-some_fault g c =
+    let seen = c.loop-row.invariant.0 in
+    let h = c.loop-row.invariant.1 in
+    let fields = fields_of c.next_record-in-loop-row.new.fields in
+    (seen ++ fields ∷ [], refused-first (command_of c.args.command) c.loop-row.row seen fields [] c.in-Err-take.refusal c.at-in-Err-take.result h.draft.row_is h.draft.faultless (c.in-Err-take.ensures seen h.draft) c.at-in-Err-take.ensures)
+
+-- ---- the loop
+
+pub loop-row-init : goal.loop-row-init
+loop-row-init g c =
+    let next = c.in_ok-next_record.ensures.record c.if-not-branch.false in
+    (fields_of c.next_record.new.fields ∷ [], record { is_open = next.0; follows = next.1; draft = c.in-Ok.ensures })
+
+pub loop-row-preserved : goal.loop-row-preserved
+loop-row-preserved g c =
+    let seen = c.loop-row.invariant.0 in
+    let h = c.loop-row.invariant.1 in
+    let fields = fields_of c.next_record-in-loop-row.new.fields in
+    let next = c.in_ok-next_record-2.ensures.record c.if-not-branch-2.false in
+    (seen ++ fields ∷ [], record { is_open = next.0; follows = seen-more _ _ _ seen fields h.follows next.1; draft = (c.in-Ok-take.ensures seen h.draft).1 })
+
+pub unreachable-requires : goal.unreachable-requires
+unreachable-requires g c =
+    let d = c.loop-row.invariant.1.draft in
+    let few = few_records (command_of c.args.command) c.loop-row.invariant.0 d.begun d.faultless in
+    omega (arith, d.row_is)

@@ -1,0 +1,8 @@
+//! What the program is asked to do.
+
+/// What the program is asked to do.
+#[derive(Clone, Copy, Debug, PartialEq, Eq)]
+pub enum Command {
+    /// Find the best roster of the book.
+    Solve,
+}

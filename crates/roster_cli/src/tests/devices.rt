@@ -1,0 +1,133 @@
+//! Readers and writers that fail.
+
+use super::{BOOK, REPORT};
+use crate::run::run;
+use crate::status::Status;
+use roster_book::{Command, Watched};
+use std::io;
+use std::io::{Read, Write};
+use std::process::Abort;
+
+/// Gives a byte at a time. After so many reads one fails, and then it goes on.
+#[derive(Drop)]
+struct FailingReader<'a> {
+    bytes: &'a [u8],
+    reads: usize,
+}
+
+impl Read for FailingReader<'_> {
+    fn read(&mut self, buf: &mut [u8]) -> io::Result<usize> {
+        if self.reads == 0 {
+            self.reads = usize::MAX;
+            return Err(io::Error::from(io::ErrorKind::Other));
+        }
+        self.reads -= 1;
+        match (self.bytes.split_first(), buf.is_empty()) {
+            (Some((byte, rest)), false) => {
+                buf[0] = *byte;
+                self.bytes = rest;
+                Ok(1)
+            }
+            _ => Ok(0),
+        }
+    }
+}
+
+#[test]
+fn tells_a_failed_reader(rt: HostRuntime) {
+    // One read for each byte, and one that meets the end.
+    for reads in 0..BOOK.len() + 1 {
+        let mut reader = Watched::new(FailingReader { bytes: BOOK, reads });
+        let mut writer = Watched::new(Vec::new(rt.alloc()));
+        let status = run(rt.alloc(), Command::Solve, &mut reader, &mut writer);
+        assert!(rt; matches!(status, Status::ReadFailed), "after {reads} reads");
+        assert!(rt; reader.failed() && !writer.failed());
+        assert!(rt; writer.inner().is_empty());
+    }
+    let mut reader = Watched::new(FailingReader {
+        bytes: BOOK,
+        reads: BOOK.len() + 2,
+    });
+    let mut writer = Watched::new(Vec::new(rt.alloc()));
+    let status = run(rt.alloc(), Command::Solve, &mut reader, &mut writer);
+    assert!(rt; matches!(status, Status::Answered));
+    assert_eq!(rt; writer.inner().as_slice(), REPORT);
+    assert!(rt; writer.flushed());
+}
+
+/// How a writer fails.
+#[derive(Clone, Copy, Debug)]
+enum Failure {
+    Error,
+    TakesNothing,
+    Flush,
+}
+
+/// Takes three bytes at a time. After so many writes one fails, and then it goes on.
+#[derive(Drop)]
+struct FailingWriter {
+    taken: Vec<u8>,
+    writes: u16,
+    failure: Failure,
+    flushes: u16,
+}
+
+impl Write for FailingWriter {
+    fn write(&mut self, buf: &[u8]) -> io::Result<usize> {
+        if self.writes == 0 {
+            self.writes = 1000;
+            match self.failure {
+                Failure::Error => return Err(io::Error::from(io::ErrorKind::Other)),
+                Failure::TakesNothing => return Ok(0),
+                Failure::Flush => {}
+            }
+        }
+        self.writes -= 1;
+        let n = buf.len().min(3);
+        self.taken.extend_from_slice(&buf[..n])?;
+        Ok(n)
+    }
+
+    fn flush(&mut self) -> io::Result<()> {
+        self.flushes = self.flushes.saturating_add(1);
+        match self.failure {
+            Failure::Flush => Err(io::Error::from(io::ErrorKind::Other)),
+            _ => Ok(()),
+        }
+    }
+}
+
+fn tells<R: Abort + AllocGlobal>(rt: &R, writes: u16, failure: Failure) {
+    let mut reader = Watched::new(BOOK);
+    let mut writer = Watched::new(FailingWriter {
+        taken: Vec::new(rt.alloc()),
+        writes,
+        failure,
+        flushes: 0,
+    });
+    let status = run(rt.alloc(), Command::Solve, &mut reader, &mut writer);
+    assert!(rt;
+        matches!(status, Status::WriteFailed),
+        "{failure:?} after {writes} writes"
+    );
+    assert!(rt; writer.failed() && !reader.failed());
+    let taken = &writer.inner().taken;
+    assert_eq!(rt; taken.len(), REPORT.len().min(3 * usize::from(writes)));
+    assert!(rt; REPORT.starts_with(taken.as_slice()));
+    let flushes = if matches!(failure, Failure::Flush) {
+        1
+    } else {
+        0
+    };
+    assert_eq!(rt; writer.inner().flushes, flushes);
+}
+
+#[test]
+fn tells_a_failed_writer(rt: HostRuntime) {
+    // The report has more than 70 bytes, so 20 writes are not all of it.
+    for writes in 0..20 {
+        tells(&rt, writes, Failure::Error);
+        tells(&rt, writes, Failure::TakesNothing);
+    }
+    tells(&rt, 1000, Failure::Flush);
+}

@@ -1,0 +1,89 @@
+//! Legal sets.
+
+ghost use Rattle.std.specs.Prelude.{◌<◌, All, IfSome, length};
+
+use super::{long_book, problem_of};
+use roster_legal::{first_broken, is_legal, merge, part_of_legal_is_legal};
+use roster_problem::{Problem, Rule, Set};
+use std::test::Fail;
+
+// One person, and with the first pairing: the second overlaps, and the third follows ten hours later
+// at home. The fourth is another base's, and the fifth is two days later.
+const CASES: &[u8] = b"period,2024-03
+base,AMS,UTC0
+base,BER,UTC0
+crew,A,AMS,0,0,0
+pairing,P1,AMS,1
+pairing,P2,AMS,1
+pairing,P3,AMS,1
+pairing,P4,BER,1
+pairing,P5,AMS,1
+duty,D5,P,P5,AMS,2024-03-06T06:00Z,2024-03-06T14:00Z
+duty,D1,P,P1,AMS,2024-03-04T06:00Z,2024-03-04T14:00Z
+duty,D2,P,P2,AMS,2024-03-04T13:59Z,2024-03-04T18:00Z
+duty,D3,P,P3,AMS,2024-03-05T00:00Z,2024-03-05T08:00Z
+duty,D4,P,P4,BER,2024-03-08T06:00Z,2024-03-08T14:00Z
+";
+
+/// The set of a number in a list of one number for each pairing.
+#[tactic(auto, using(roster_model::proofs::SetLemmas::places_of_number))]
+fn set_of(problem: &Problem, places: &[u16], number: usize) -> Option<Set>
+    ensures { IfSome result (λ set. All (λ p. p < length problem.now.pairings) set) }
+{
+    if places.len() != problem.pairings().len() {
+        return None;
+    }
+    Some(Set::of_places(places, number))
+}
+
+#[test]
+fn sets_are_judged(rt: HostRuntime) -> Result<(), Fail> {
+    let problem = problem_of(rt.alloc(), CASES)?;
+    assert_eq!(rt; problem.persons().len(), 1);
+    let cases: [([u16; 5], Option<Rule>); 6] = [
+        ([1, 1, 1, 1, 1], None),
+        ([0, 1, 1, 1, 1], None),
+        ([0, 1, 1, 1, 0], None),
+        ([0, 0, 1, 1, 1], Some(Rule::Overlap)),
+        ([0, 1, 0, 1, 1], Some(Rule::Rest)),
+        ([0, 1, 1, 0, 1], Some(Rule::Base)),
+    ];
+    for (places, want) in cases {
+        let set = set_of(&problem, &places, 0).ok_or("a set")?;
+        let broken = first_broken(rt.alloc(), &problem, 0, &set)?;
+        let told = broken.map(|rule| rule.word());
+        assert_eq!(rt; told, want.map(|rule| rule.word()), "{places:?}");
+        let legal = is_legal(rt.alloc(), &problem, 0, &set)?;
+        assert_eq!(rt; legal, want.is_none(), "{places:?}");
+    }
+    part_of_legal_is_legal();
+    Ok(())
+}
+
+#[test]
+fn duties_are_merged_in_their_order(rt: HostRuntime) -> Result<(), Fail> {
+    let problem = problem_of(rt.alloc(), CASES)?;
+    assert_eq!(rt; problem.persons().len(), 1);
+    let set = set_of(&problem, &[0, 0, 1, 1, 0], 0).ok_or("a set")?;
+    let list = merge(rt.alloc(), &problem, 0, &set)?;
+    let names: [&[u8]; 3] = [b"D1", b"D2", b"D5"];
+    assert_eq!(rt; list.len(), 3);
+    for i in 0..list.len() {
+        let duty = list.duty(i);
+        assert_eq!(rt; duty.id.as_bytes(), names[i]);
+    }
+    Ok(())
+}
+
+#[test]
+fn as_many_duties_as_pairings(rt: HostRuntime) -> Result<(), Fail> {
+    let book = long_book(rt.alloc(), 64, 256)?;
+    let problem = problem_of(rt.alloc(), book.as_bytes())?;
+    assert_eq!(rt; problem.persons().len(), 64);
+    let set = set_of(&problem, &[63; 256], 63).ok_or("a set")?;
+    assert_eq!(rt; merge(rt.alloc(), &problem, 63, &set)?.len(), 256);
+    let broken = first_broken(rt.alloc(), &problem, 63, &set)?;
+    assert!(rt; matches!(broken, Some(Rule::Overlap)));
+    assert!(rt; !is_legal(rt.alloc(), &problem, 63, &set)?);
+    Ok(())
+}

@@ -1,0 +1,4 @@
+pub mod Gathered
+pub mod Apart
+pub mod Parts
+pub mod FirstBroken

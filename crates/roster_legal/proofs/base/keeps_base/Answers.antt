@@ -1,0 +1,48 @@
+use Rattle.std.proofs.Common.{◌≡◌, ◌<◌, length, Some, refl, sym, ap, subst, ◌∙◌, inl, inr, arith}
+use Rattle.std.specs.Prelude.{slice_get}
+use Rattle.std.proofs.lemmas.Bool.{false≢true, cases_eq, cases_lt, both_ways}
+use Rattle.std.proofs.lemmas.Option.{same_Some}
+use Rattle.roster_model.specs.records.Crew.{Person}
+use Rattle.roster_model.specs.records.Pairing.{Pairing}
+use Rattle.roster_model.proofs.SetLemmas.{All-is_among, is_among-from_Contains, Contains-from_is_among}
+use Rattle.roster_legal.proofs.base.keeps_base.Goals as goal
+
+pub pairing-requires : goal.pairing-requires
+pairing-requires c = All-is_among (λ p. p < length c.args.problem.now.pairings) c.args.set.now c.in-Some.p c.requires.places c.in-Some.ensures.place.2
+
+pub returns-then-pairing-base : goal.returns-then-pairing-base
+returns-then-pairing-base c = (
+  λ h. absurd (false≢true h),
+  λ keeps.
+      let member = Contains-from_is_among c.args.set.now c.in-Some.p c.in-Some.ensures.place.2 in
+      let same = keeps c.in-Some.p c.pairing.result.now c.person.result.now member c.pairing.ensures c.person.ensures in
+      let of_pairing = ap (λ (x : Pairing). x.base) c.behind-problem-in-Some.view_is in
+      let of_person = ap (λ (x : Person). x.base) c.behind-problem.view_is in
+      absurd (c.if-pairing-base.true (of_pairing ∙ same ∙ sym of_person)),
+)
+
+pub loop-p-preserved : goal.loop-p-preserved
+loop-p-preserved c q pairing below member at =
+    elim (cases_eq q c.in-Some.p) [
+      | inl here ↦
+          let there = subst (λ i. slice_get c.args.problem.now.pairings i ≡ Some pairing) here at in
+          let same = same_Some _ _ (sym there ∙ c.pairing.ensures) in
+          ap (λ (x : Pairing). x.base) (same ∙ sym c.behind-problem-in-Some.view_is) ∙ c.if-pairing-base.false
+      | inr other ↦ elim (cases_lt q c.loop-p.from) [
+        | inl before ↦ c.loop-p.invariant q pairing before member at
+        | inr on ↦ absurd (both_ways _ (c.in-Some.ensures.least q on (omega arith)) member)
+      ]
+    ]
+
+pub returns : goal.returns
+returns c = (
+  λ _ p pairing person member pairing_is person_is.
+      let same = same_Some _ _ (sym person_is ∙ c.person.ensures) in
+      let among = is_among-from_Contains c.args.set.now p member in
+      let base = elim (cases_lt p c.loop-p.from) as (λ _. pairing.base ≡ c.behind-problem.inside.base) [
+        | inl before ↦ c.loop-p.invariant p pairing before among pairing_is
+        | inr on ↦ absurd (both_ways _ (c.in_default.ensures.least p on) among)
+      ] in
+      base ∙ ap (λ (x : Person). x.base) (c.behind-problem.view_is ∙ sym same),
+  λ _. refl,
+)

@@ -1,0 +1,74 @@
+//! The rules together.
+
+ghost use Rattle.std.specs.Prelude.{◌≡◌, ◌<◌, ◌↔◌, IfOk, IsTrue, All, length, option_map};
+ghost use Rattle.roster_model.specs.Rules.{duty_list, Holds, IsFirstBroken, IsLegal};
+ghost use Rattle.roster_problem.specs.Duties.{AreTimed, IsInOrder};
+ghost use Rattle.roster_problem.specs.View.{rule_of};
+
+use crate::base::keeps_base;
+use crate::listing::merge;
+use crate::overlap::no_overlap;
+use roster_problem::{DutyList, Problem, Rule, Set};
+use roster_restrules::rest_ok;
+use std::alloc::{AllocError, Global};
+
+/// Whether person `k` keeps the rule with the set, whose duty list is `list`.
+fn holds(rule: Rule, problem: &Problem, k: usize, set: &Set, list: &DutyList) -> bool
+    requires person { k < length problem.now.persons }
+    requires places { All (λ p. p < length problem.now.pairings) set.now }
+    requires list { list.now ≡ duty_list problem.now k set.now }
+    requires ordered { IsInOrder list.now }
+    requires timed { AreTimed list.now }
+    ensures { IsTrue result ↔ Holds problem.now k set.now (rule_of rule) }
+{
+    match rule {
+        Rule::Base => keeps_base(problem, k, set),
+        Rule::Overlap => no_overlap(list),
+        Rule::Rest => rest_ok(list, problem.home(k)),
+    }
+}
+
+/// The first rule that person `k` breaks with the set, whose duty list is `list`.
+fn first_broken_on(problem: &Problem, k: usize, set: &Set, list: &DutyList) -> Option<Rule>
+    requires person { k < length problem.now.persons }
+    requires places { All (λ p. p < length problem.now.pairings) set.now }
+    requires list { list.now ≡ duty_list problem.now k set.now }
+    requires ordered { IsInOrder list.now }
+    requires timed { AreTimed list.now }
+    ensures { IsFirstBroken problem.now k set.now (option_map rule_of result) }
+{
+    for rule in Rule::ALL {
+        if !holds(rule, problem, k, set, list) {
+            return Some(rule);
+        }
+    }
+    None
+}
+
+/// The first rule that person `k` breaks with the set, if there is one.
+pub fn first_broken(
+    alloc: Global,
+    problem: &Problem,
+    k: usize,
+    set: &Set,
+) -> Result<Option<Rule>, AllocError>
+    requires person { k < length problem.now.persons }
+    requires places { All (λ p. p < length problem.now.pairings) set.now }
+    ensures { IfOk result
+        (λ broken. IsFirstBroken problem.now k set.now (option_map rule_of broken)) }
+{
+    let list = merge(alloc, problem, k, set)?;
+    Ok(first_broken_on(problem, k, set, &list))
+}
+
+/// Whether the set is legal for person `k`: it is empty, or no rule is broken.
+pub fn is_legal(alloc: Global, problem: &Problem, k: usize, set: &Set) -> Result<bool, AllocError>
+    requires person { k < length problem.now.persons }
+    requires places { All (λ p. p < length problem.now.pairings) set.now }
+    ensures { IfOk result (λ is_legal. IsTrue is_legal ↔ IsLegal problem.now k set.now) }
+{
+    if set.is_empty() {
+        return Ok(true);
+    }
+    Ok(first_broken(alloc, problem, k, set)?.is_none())
+}

@@ -1,0 +1,31 @@
+//! What follows from the definitions alone.
+
+ghost use Rattle.std.specs.Prelude.{◌≡◌, ℕ, true, List, Option};
+ghost use Rattle.roster_model.specs.Problem.{Problem as Tables};
+ghost use Rattle.roster_model.specs.Rules.{is_among, IsFirstBroken, IsLegal, Rule};
+ghost use Rattle.roster_problem.specs.Duties.{AreTimed, IsInOrder};
+
+/// A person breaks at most one rule first with a set.
+pub fn one_first_broken()
+    ensures { (problem : Tables) (k : ℕ) (set : List ℕ) (a b : Option Rule)
+        → IsFirstBroken problem k set a → IsFirstBroken problem k set b → a ≡ b }
+{}
+
+/// What is part of a legal set is legal, where the duties are in their order in time.
+pub fn part_of_legal_is_legal()
+    ensures { (problem : Tables) (k : ℕ) (set part : List ℕ)
+        → IsInOrder problem.duties → AreTimed problem.duties
+        → ((p : ℕ) → is_among part p ≡ true → is_among set p ≡ true)
+        → IsLegal problem k set → IsLegal problem k part }
+{}
+
+#[cfg(test)]
+mod tests {
+    use super::*;
+
+    #[test]
+    fn can_be_called() {
+        one_first_broken();
+        part_of_legal_is_legal();
+    }
+}

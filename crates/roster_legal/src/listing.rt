@@ -1,0 +1,58 @@
+//! The duty list of a person.
+
+ghost use Rattle.std.specs.Prelude.{◌≡◌, ◌<◌, ℕ, false, IfOk, All, length, slice_get, nat_eq};
+ghost use Rattle.std.specs.List.{IsDistinct};
+ghost use Rattle.roster_model.specs.Rules.{duty_list, is_among, is_listed};
+ghost use Rattle.roster_problem.specs.Duties.{AreTimed, IsInOrder, passes_at};
+
+use roster_problem::{DutyList, Problem, Set};
+use std::alloc::{AllocError, Global};
+
+/// The duties of the pairings in the set, as the list of person `k`. It looks at no other duty, and
+/// grows memory once.
+pub fn merge<'a>(
+    alloc: Global,
+    problem: &'a Problem,
+    k: usize,
+    set: &Set,
+) -> Result<DutyList<'a>, AllocError>
+    requires person { k < length problem.now.persons }
+    requires places { All (λ p. p < length problem.now.pairings) set.now }
+    ensures value { IfOk result (λ list. list ≡ duty_list problem.now k set.now) }
+    ensures ordered { IfOk result IsInOrder }
+    ensures timed { IfOk result AreTimed }
+{
+    let duties = problem.duties();
+    let mut positions = positions_of(alloc, problem, set)?;
+    positions.sort_unstable();
+    Ok(DutyList::new(duties, positions))
+}
+
+// The positions of the duties of the pairings in the set, one pairing after another.
+fn positions_of(alloc: Global, problem: &Problem, set: &Set) -> Result<Vec<u16>, AllocError>
+    requires { All (λ p. p < length problem.now.pairings) set.now }
+    ensures distinct { IfOk result (λ positions. IsDistinct nat_eq positions.items) }
+    ensures members { IfOk result (λ positions. (i : ℕ) → is_among positions.items i
+        ≡ passes_at (λ duty. is_listed set.now duty.holder) problem.now.duties i) }
+{
+    let mut positions = Vec::with_capacity(alloc, count_of(problem, set))?;
+    let mut from = 0;
+    while let Some(p) = set.first_from(from) {
+        positions.extend_from_slice(problem.duties_of(p))?;
+        from = p + 1;
+    }
+    Ok(positions)
+}
+
+// How many duties the pairings in the set have.
+fn count_of(problem: &Problem, set: &Set) -> usize
+    requires { All (λ p. p < length problem.now.pairings) set.now }
+{
+    let mut count = 0;
+    let mut from = 0;
+    while let Some(p) = set.first_from(from) {
+        count += problem.duties_of(p).len();
+        from = p + 1;
+    }
+    count
+}

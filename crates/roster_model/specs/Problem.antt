@@ -1,0 +1,62 @@
+-- What is to be rostered: the tables that the records of a book make.
+use Rattle.std.specs.Prelude.{ℕ, Bool, ◌&&◌, ◌||◌, ◌==◌, nat_lt, if◌then◌else◌, List, [], ◌∷◌, option_map, unwrap_or, slice_get}
+use Rattle.std.specs.List.{fold}
+use Rattle.roster_model.specs.Calendar.{Period}
+use Rattle.roster_model.specs.Record.{Record}
+use Rattle.roster_model.specs.records.Period.{period_in}
+use Rattle.roster_model.specs.records.Base.{Base, bases_in, base_at}
+use Rattle.roster_model.specs.records.Crew.{Person, persons_in}
+use Rattle.roster_model.specs.records.Pairing.{Pairing, pairings_in}
+use Rattle.roster_model.specs.records.Duty.{Duty, duties_in}
+
+-- A month, and bases, persons, pairings and duties. A base, a person and a pairing is named by its
+-- place in book order, from 0.
+pub record Problem : Type 0 where
+  pub period : Period
+  pub bases : List Base
+  pub persons : List Person
+  pub pairings : List Pairing
+  pub duties : List Duty
+
+-- the tables of some records, in their order
+abbrev pub tables_in : List Record → Problem
+tables_in records = record {
+  period = period_in records;
+  bases = bases_in records;
+  persons = persons_in records;
+  pairings = pairings_in records;
+  duties = duties_in records;
+}
+
+-- ---- the order of duties
+
+-- a stands before b: by report, then by release, then by its row
+abbrev pub precedes : Duty → Duty → Bool
+precedes a b =
+    nat_lt a.report b.report || (a.report == b.report)
+    && (nat_lt a.release b.release || (a.release == b.release) && nat_lt a.row b.row)
+
+-- the duties with one more, before the first that it precedes
+abbrev pub insert_duty : Duty → List Duty → List Duty
+insert_duty duty [] = duty ∷ []
+insert_duty duty (first ∷ rest) =
+    if precedes duty first then duty ∷ first ∷ rest else first ∷ insert_duty duty rest
+
+-- the same duties in their order in time
+unfoldable pub in_order : List Duty → List Duty
+in_order duties = fold (λ sorted duty. insert_duty duty sorted) [] duties
+
+-- ---- the problem of a book
+
+-- the tables of its records, and the duties in their order in time
+abbrev pub problem_of : List Record → Problem
+problem_of records = record (tables_in records) { duties = in_order (duties_in records) }
+
+-- the base of the person at place k
+abbrev pub home_of : Problem → ℕ → Base
+home_of problem k =
+    base_at problem.bases (unwrap_or (option_map (λ person. person.base) (slice_get problem.persons k)) 0)
+
+-- the name of the pairing at place p
+abbrev pub pairing_name : Problem → ℕ → List ℕ
+pairing_name problem p = unwrap_or (option_map (λ pairing. pairing.id) (slice_get problem.pairings p)) []

@@ -1,0 +1,5 @@
+pub mod Period
+pub mod Base
+pub mod Crew
+pub mod Pairing
+pub mod Duty

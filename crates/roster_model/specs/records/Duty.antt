@@ -1,0 +1,135 @@
+-- `duty,ID,P,PAIRING,STATION,REPORT,RELEASE`: a duty of a pairing.
+use Rattle.std.specs.Prelude.{ℕ, ◌+◌, Bool, true, false, not, ◌&&◌, ◌||◌, ◌==◌, List, [], ◌∷◌, length, Option, Some, None, is_some, option_map, nat_lt, nat_le, position, unwrap_or, slice_get, slice_index, codes}
+use Rattle.std.specs.List.{filter, last_or}
+use Rattle.std.specs.Option.{option_map_or}
+use Rattle.std.specs.Str.{bytes_eq}
+use Rattle.roster_model.specs.declared.limits.TheConstants.{MOST_DUTIES, DAYS_BEFORE}
+use Rattle.roster_model.specs.Form.{is_identifier}
+use Rattle.roster_model.specs.Calendar.{Days, instant_of}
+use Rattle.roster_model.specs.Record.{Record, DutyRecord, field, minute_of, next_row, table_of}
+use Rattle.roster_model.specs.Code.{Code, FieldCount, FieldForm, GivenTwice, NotGiven, OutOfSequence, OutOfWindow, NoRoom, WrongStart}
+use Rattle.roster_model.specs.records.Base.{Base, bases_in, base_at}
+use Rattle.roster_model.specs.records.Pairing.{pairings_in, pairing_place}
+
+-- whose duty it is: that of a pairing, by its place
+pub data Holder : Type 0 where
+  OfPairing : ℕ → Holder
+
+abbrev pub is_held_by_pairing : ℕ → Holder → Bool
+is_held_by_pairing p (OfPairing q) = q == p
+
+-- A duty from its report to its later release, both instants; `station` is where it reports.
+pub record Duty : Type 0 where
+  pub id : List ℕ
+  pub holder : Holder
+  pub station : List ℕ
+  pub report : ℕ
+  pub release : ℕ
+  pub row : ℕ
+
+-- ---- columns
+
+abbrev pub id_in : Record → List ℕ
+id_in fields = field fields 1
+
+abbrev pub letter_in : Record → List ℕ
+letter_in fields = field fields 2
+
+abbrev pub holder_name_in : Record → List ℕ
+holder_name_in fields = field fields 3
+
+abbrev pub station_in : Record → List ℕ
+station_in fields = field fields 4
+
+abbrev pub report_in : Record → List ℕ
+report_in fields = field fields 5
+
+abbrev pub release_in : Record → List ℕ
+release_in fields = field fields 6
+
+-- ---- what a record of a duty adds
+
+-- its holder, if that was given before
+abbrev pub holder_in : List Record → Record → Option Holder
+holder_in before fields = option_map OfPairing (pairing_place before (holder_name_in fields))
+
+unfoldable pub duty_of : List Record → Record → Duty
+duty_of before fields = record {
+  id = id_in fields;
+  holder = unwrap_or (holder_in before fields) (OfPairing 0);
+  station = station_in fields;
+  report = minute_of (report_in fields);
+  release = minute_of (release_in fields);
+  row = next_row before;
+}
+
+abbrev pub duties_in : List Record → List Duty
+duties_in records = table_of DutyRecord duty_of records
+
+abbrev pub is_duty_named : List ℕ → Duty → Bool
+is_duty_named name duty = bytes_eq duty.id name
+
+-- the place of the duty with the name, if it is among those of the records
+abbrev pub duty_place : List Record → List ℕ → Option ℕ
+duty_place records name = position (is_duty_named name) (duties_in records)
+
+-- the duty of the pairing that was given last, of some duties in the order given
+abbrev pub last_duty : List Duty → ℕ → Option Duty
+last_duty duties p = last_or None (filter (λ duty. is_held_by_pairing p duty.holder) duties)
+
+-- ---- what it has to meet
+
+abbrev pub is_formed : Record → Bool
+is_formed fields =
+    is_identifier (id_in fields) && bytes_eq (letter_in fields) (codes "P")
+    && is_identifier (holder_name_in fields) && is_identifier (station_in fields)
+    && is_some (instant_of (report_in fields)) && is_some (instant_of (release_in fields))
+
+-- the base by whose clocks it is judged
+abbrev pub base_of_holder : List Record → Holder → Base
+base_of_holder before (OfPairing p) =
+    base_at (bases_in before) (unwrap_or (option_map (λ pairing. pairing.base) (slice_get (pairings_in before) p)) 0)
+
+-- the last given duty of the holder, where duties have to follow each other
+abbrev pub last_of : List Record → Holder → Option Duty
+last_of before (OfPairing p) = last_duty (duties_in before) p
+
+-- it is released after it reports, no earlier than the last duty was released
+abbrev pub is_in_sequence : Option Duty → ℕ → ℕ → Bool
+is_in_sequence last report release =
+    nat_lt report release && option_map_or (λ duty. nat_le duty.release report) last true
+
+-- the instant at which the local day i begins
+abbrev pub midnight : Days → ℕ → ℕ
+midnight days i = slice_index days.mid i
+
+-- the time from one instant to another lies in the window
+abbrev pub is_in_window : Days → ℕ → ℕ → Bool
+is_in_window days from to = nat_le (midnight days 0) from && nat_le to (midnight days (length days.eight))
+
+-- the instant lies in the month
+abbrev pub is_in_month : Days → ℕ → Bool
+is_in_month days t = nat_le (midnight days DAYS_BEFORE) t && nat_lt t (midnight days (DAYS_BEFORE + days.month_days))
+
+-- it isn't the first duty of its pairing, or it reports at the pairing's base in the month there
+abbrev pub starts_well : Option Duty → Base → List ℕ → ℕ → Bool
+starts_well last base station report =
+    is_some last || bytes_eq station base.id && is_in_month base.days report
+
+-- what it has to meet besides, as the duty of a holder that was given before, or of none
+abbrev pub conditions_held : List Record → Option Holder → List ℕ → ℕ → ℕ → List (Code × Bool)
+conditions_held before None station report release = (NotGiven, false) ∷ []
+conditions_held before (Some holder) station report release =
+    (OutOfSequence, is_in_sequence (last_of before holder) report release)
+    ∷ (OutOfWindow, is_in_window (base_of_holder before holder).days report release)
+    ∷ (NoRoom, nat_lt (length (duties_in before)) MOST_DUTIES)
+    ∷ (WrongStart, starts_well (last_of before holder) (base_of_holder before holder) station report)
+    ∷ []
+
+abbrev pub conditions : List Record → Record → List (Code × Bool)
+conditions before fields =
+    (FieldCount, length fields == 7)
+    ∷ (FieldForm, is_formed fields)
+    ∷ (GivenTwice, not (is_some (duty_place before (id_in fields))))
+    ∷ conditions_held before (holder_in before fields) (station_in fields)
+    (minute_of (report_in fields)) (minute_of (release_in fields))

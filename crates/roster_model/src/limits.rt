@@ -1,0 +1,37 @@
+//! The limits of a book. Each number stands here alone: definitions and code cite it.
+
+/// The bytes of an identifier, at most.
+pub const MOST_NAME_BYTES: usize = 16;
+
+/// The digits of a number, at most.
+pub const MOST_DIGITS: usize = 12;
+
+/// The bytes of a zone text, at most.
+pub const MOST_ZONE_BYTES: usize = 64;
+
+/// The bases of a book, at most.
+pub const MOST_BASES: usize = 16;
+
+/// The persons of a book, at most.
+pub const MOST_PERSONS: usize = 64;
+
+/// The pairings of a book, at most.
+pub const MOST_PAIRINGS: usize = 256;
+
+/// The duties of a book, at most.
+pub const MOST_DUTIES: usize = 4096;
+
+/// The records of a book without a fault, at most: a period, and of each other kind its limit.
+pub const MOST_RECORDS: usize = 1 + MOST_BASES + MOST_PERSONS + MOST_PAIRINGS + MOST_DUTIES;
+
+/// The minutes of a target, and of what was flown before the month, at most.
+pub const MOST_MINUTES: u32 = 60_000;
+
+/// What it costs to leave a pairing open, at most.
+pub const MOST_PENALTY: u32 = 1_000_000_000;
+
+/// The days of the window before the month's first day.
+pub const DAYS_BEFORE: usize = 35;
+
+/// The days of the window after the month's last day.
+pub const DAYS_AFTER: usize = 14;

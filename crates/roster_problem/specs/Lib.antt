@@ -1,0 +1,5 @@
+pub mod View
+pub mod Sound
+pub mod Set
+pub mod Bits
+pub mod Duties

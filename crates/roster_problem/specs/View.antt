@@ -1,0 +1,31 @@
+-- How the definitions see this crate's values.
+use Rattle.std.specs.Prelude.{List}
+use Rattle.roster_problem.specs.declared.duty.Holder.{Holder}
+use Rattle.roster_problem.specs.declared.duty.Holder.TheVariants as holders
+use Rattle.roster_problem.specs.declared.rule.Rule.{Rule}
+use Rattle.roster_problem.specs.declared.rule.Rule.TheVariants as rules
+use Rattle.roster_model.specs.Rules as judged
+use Rattle.roster_model.specs.Calendar.{Period}
+use Rattle.roster_model.specs.Problem.{Problem}
+use Rattle.roster_model.specs.records.Base.{Base}
+use Rattle.roster_model.specs.records.Crew.{Person}
+use Rattle.roster_model.specs.records.Pairing.{Pairing}
+use Rattle.roster_model.specs.records.Duty as model
+
+abbrev pub holder_of : Holder → model.Holder
+holder_of (holders.Pairing p) = model.OfPairing p
+
+abbrev pub rule_of : Rule → judged.Rule
+rule_of rules.Base = judged.BaseRule
+rule_of rules.Overlap = judged.OverlapRule
+rule_of rules.Rest = judged.RestRule
+
+-- the tables as one problem
+abbrev pub tables_of : Period → List Base → List Person → List Pairing → List model.Duty → Problem
+tables_of period bases persons pairings duties = record {
+  period = period;
+  bases = bases;
+  persons = persons;
+  pairings = pairings;
+  duties = duties;
+}

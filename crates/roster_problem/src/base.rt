@@ -1,0 +1,22 @@
+//! Bases.
+
+use crate::name::Name;
+use roster_instants::BaseDays;
+use std::marker::Model;
+
+/// Where pairings and persons begin and end.
+#[derive(Debug, Drop)]
+pub struct Base {
+    /// Its own among the bases.
+    pub id: Name,
+    /// The days of the window as the base's clocks show them.
+    pub days: BaseDays,
+}
+
+impl Model for Base {
+    ghost use Rattle.roster_model.specs.records.Base.{Base as Entry};
+
+    ghost Value = { Entry };
+
+    ghost view = { λ b. record { id = b.id; days = b.days } };
+}

@@ -1,0 +1,44 @@
+//! The values of a rostering problem, as the crates above see them.
+//!
+//! A `Problem` is what the records of some book without a fault make; its readers give the tables in
+//! book order. A `Roster` says who flies what. The crate reads no book: `roster_book` does. In reading
+//! order:
+//!
+//! - `name`: identifiers
+//! - `base`, `person`, `pairing`, `duty`: the entries of the tables
+//! - `order`: the order of duties in time
+//! - `index`: from a pairing to its duties
+//! - `problem`: the tables together
+//! - `set`: sets of pairings
+//! - `duty_list`: the duties of one person
+//! - `rule`: the rules by name
+//! - `roster`: who flies what
+#![tactic(auto)]
+
+mod base;
+mod duty;
+mod duty_list;
+mod index;
+mod name;
+mod order;
+mod pairing;
+mod person;
+mod problem;
+mod roster;
+mod rule;
+mod set;
+
+pub use base::Base;
+pub use duty::{Duty, Holder};
+pub use duty_list::DutyList;
+pub use name::{Name, is_identifier};
+pub use order::duties_in_order;
+pub use pairing::Pairing;
+pub use person::Person;
+pub use problem::Problem;
+pub use roster::{Places, Roster};
+pub use rule::Rule;
+pub use set::Set;
+
+#[cfg(test)]
+mod tests;

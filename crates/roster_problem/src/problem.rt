@@ -1,0 +1,163 @@
+//! What is to be rostered.
+
+ghost use Rattle.std.specs.Prelude.{◌≡◌, ◌<◌, ◌≤◌, ℕ, false, IfOk, Some, All, filter, length, slice_get};
+ghost use Rattle.std.specs.List.Sorted.{IsStrictlyIncreasing};
+ghost use Rattle.std.specs.Option.{option_map_or};
+ghost use Rattle.roster_model.specs.Faults.{IsFaultless};
+ghost use Rattle.roster_model.specs.Problem.{home_of, in_order};
+ghost use Rattle.roster_model.specs.Rules.{is_among};
+ghost use Rattle.roster_model.specs.records.Duty.{is_held_by_pairing};
+ghost use Rattle.roster_problem.specs.Duties.{AreTimed, IsInOrder, passes_at, picked, positions_of_pairing};
+ghost use Rattle.roster_problem.specs.Sound.{IsSound};
+
+use crate::base::Base;
+use crate::duty::Duty;
+use crate::index::{Lists, by_pairing};
+use crate::order::in_order;
+use crate::pairing::Pairing;
+use crate::person::Person;
+use roster_instants::{BaseDays, Period};
+use roster_model::limits::MOST_DUTIES;
+use std::alloc::{AllocError, Global};
+use std::marker::Model;
+
+/// What is to be rostered: the tables that the records of a book without a fault make.
+///
+/// A person and a pairing is named by its place in book order, from 0.
+#[derive(Debug, Drop)]
+pub struct Problem {
+    period: Period,
+    bases: Vec<Base>,
+    persons: Vec<Person>,
+    pairings: Vec<Pairing>,
+    duties: Vec<Duty>,
+    by_pairing: Lists,
+}
+
+impl Model for Problem {
+    ghost use Rattle.roster_model.specs.Problem.{Problem as Tables};
+
+    ghost Value = { Tables };
+
+    ghost use Rattle.roster_problem.specs.Duties.{IsKept};
+    ghost use Rattle.roster_problem.specs.View.{tables_of};
+
+    ghost view = { λ p. tables_of p.period p.bases.items p.persons.items p.pairings.items p.duties.items };
+
+    ghost invariant = { λ p. IsKept (tables_of p.period p.bases.items p.persons.items p.pairings.items p.duties.items) p.by_pairing };
+}
+
+impl Problem {
+    ghost use Rattle.roster_problem.specs.View.{tables_of};
+
+    /// The problem of a book without a fault. Duties are put into their order in time.
+    pub fn new(
+        alloc: Global,
+        period: Period,
+        bases: Vec<Base>,
+        persons: Vec<Person>,
+        pairings: Vec<Pairing>,
+        duties: Vec<Duty>,
+    ) -> Result<Problem, AllocError>
+        requires sound { IsSound (tables_of period bases.items persons.items pairings.items (in_order duties.items)) }
+        requires faultless { IsFaultless (tables_of period bases.items persons.items pairings.items (in_order duties.items)) }
+        ensures { IfOk result (λ problem. problem
+            ≡ tables_of period bases.items persons.items pairings.items (in_order duties.items)) }
+    {
+        let duties = in_order(alloc, duties)?;
+        let by_pairing = by_pairing(alloc, pairings.len(), &duties)?;
+        Ok(Problem {
+            period,
+            bases,
+            persons,
+            pairings,
+            duties,
+            by_pairing,
+        })
+    }
+
+    /// The month.
+    pub fn period(&self) -> Period
+        ensures { result ≡ self.now.period }
+    {
+        self.period
+    }
+
+    /// The persons, in book order.
+    pub fn persons(&self) -> &[Person]
+        ensures value { result.now ≡ self.now.persons }
+        ensures sound { IsSound self.now }
+        ensures faultless { IsFaultless self.now }
+    {
+        self.persons.as_slice()
+    }
+
+    /// The pairings, in book order.
+    pub fn pairings(&self) -> &[Pairing]
+        ensures value { result.now ≡ self.now.pairings }
+        ensures sound { IsSound self.now }
+        ensures faultless { IsFaultless self.now }
+    {
+        self.pairings.as_slice()
+    }
+
+    /// All duties, by report, release and row.
+    pub fn duties(&self) -> &[Duty]
+        ensures value { result.now ≡ self.now.duties }
+        ensures sound { IsSound self.now }
+        ensures faultless { IsFaultless self.now }
+        ensures ordered { IsInOrder self.now.duties }
+        ensures timed { AreTimed self.now.duties }
+    {
+        self.duties.as_slice()
+    }
+
+    /// The positions in `duties` of the duties of the pairing at place `p`, in ascending order. It
+    /// looks at no other duty.
+    pub fn duties_of(&self, p: usize) -> &[u16]
+        requires { p < length self.now.pairings }
+        ensures value { result.now ≡ positions_of_pairing p self.now.duties }
+        ensures duties { picked self.now.duties result.now
+            ≡ filter (λ duty. is_held_by_pairing p duty.holder) self.now.duties }
+        ensures ascending { IsStrictlyIncreasing result.now }
+        ensures members { (i : ℕ) → is_among result.now i
+            ≡ passes_at (λ duty. is_held_by_pairing p duty.holder) self.now.duties i }
+        ensures within { All (λ i. i < length self.now.duties) result.now }
+        ensures bound { length result.now ≤ MOST_DUTIES }
+    {
+        self.by_pairing.list(p)
+    }
+
+    /// The person at place `k`.
+    pub fn person(&self, k: usize) -> &Person
+        requires { k < length self.now.persons }
+        ensures { slice_get self.now.persons k ≡ Some result.now }
+    {
+        &self.persons[k]
+    }
+
+    /// The pairing at place `p`.
+    pub fn pairing(&self, p: usize) -> &Pairing
+        requires { p < length self.now.pairings }
+        ensures { slice_get self.now.pairings p ≡ Some result.now }
+    {
+        &self.pairings[p]
+    }
+
+    /// The home base of the person at place `k`.
+    pub fn home(&self, k: usize) -> &Base
+        requires { k < length self.now.persons }
+        ensures { result.now ≡ home_of self.now k }
+    {
+        let person = &self.persons[k];
+        &self.bases[person.base]
+    }
+
+    /// The days of the window as the clocks of that person's home base show them.
+    pub fn days_of(&self, k: usize) -> &BaseDays
+        requires { k < length self.now.persons }
+        ensures { result.now ≡ (home_of self.now k).days }
+    {
+        &self.home(k).days
+    }
+}

@@ -1,0 +1,53 @@
+//! Who flies what.
+
+ghost use Rattle.std.specs.Prelude.{◌≡◌};
+
+use std::marker::Model;
+
+/// For each pairing in book order the place of the person who flies it, or the number of persons
+/// where it is left open.
+#[derive(Debug, Drop)]
+pub struct Places {
+    places: Vec<u16>,
+}
+
+impl Model for Places {
+    ghost use Rattle.std.specs.Prelude.{List, ℕ};
+
+    ghost Value = { List ℕ };
+
+    ghost view = { λ p. p.places.items };
+}
+
+impl Places {
+    /// The places in the vector.
+    pub fn new(places: Vec<u16>) -> Places
+        ensures { result ≡ places.items }
+    {
+        Places { places }
+    }
+
+    /// One place for each pairing in book order.
+    pub fn as_slice(&self) -> &[u16]
+        ensures { result.now ≡ self.now }
+    {
+        &self.places
+    }
+
+    /// Gives the vector back.
+    pub fn into_vec(self) -> Vec<u16>
+        ensures { result.items ≡ self }
+    {
+        self.places
+    }
+}
+
+/// A roster, and a cost. That it is what the places cost is the word of whoever made it: plain data
+/// that a caller may write, so a reader that counts on it asks for it.
+#[derive(Debug, Drop)]
+pub struct Roster {
+    /// Who flies each pairing.
+    pub places: Places,
+    /// The sum of the penalties of the pairings that are left open.
+    pub cost: i64,
+}

@@ -1,0 +1,33 @@
+//! The rules by name.
+
+ghost use Rattle.std.specs.Prelude.{◌≡◌};
+ghost use Rattle.roster_model.specs.Rules.{word_of_rule};
+
+/// A rule that a person's set of pairings has to keep.
+#[derive(Clone, Copy, Debug, PartialEq, Eq)]
+pub enum Rule {
+    /// A person flies pairings of the home base alone.
+    Base,
+    /// No two duties share a minute.
+    Overlap,
+    /// Between two duties lies enough rest.
+    Rest,
+}
+
+impl Rule {
+    ghost use Rattle.roster_problem.specs.View.{rule_of};
+
+    /// All rules, in the order in which they are judged.
+    pub const ALL: [Rule; 3] = [Rule::Base, Rule::Overlap, Rule::Rest];
+
+    /// The word that tells it.
+    pub fn word(self) -> &'static str
+        ensures { result.now ≡ word_of_rule (rule_of self) }
+    {
+        match self {
+            Rule::Base => "BASE",
+            Rule::Overlap => "OVERLAP",
+            Rule::Rest => "REST",
+        }
+    }
+}

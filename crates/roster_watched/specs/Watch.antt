@@ -1,0 +1,15 @@
+-- What a clause reads of a watched reader or writer.
+use Rattle.std.specs.Prelude.{Bool}
+use Rattle.roster_watched.specs.declared.watched.Watched.{Watched}
+
+-- the reader or writer inside
+abbrev pub inner_of : {D : Type 0} → Watched D → D
+inner_of w = w.inner
+
+-- whether it has failed since it was made
+abbrev pub has_failed : {D : Type 0} → Watched D → Bool
+has_failed w = w.failed
+
+-- whether nothing was written since it was made or flushed
+abbrev pub is_flushed : {D : Type 0} → Watched D → Bool
+is_flushed w = w.flushed
