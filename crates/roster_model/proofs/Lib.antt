@@ -1,2 +1,3 @@
 pub mod PlacesLemmas
 pub mod SetLemmas
+pub mod WindowLemmas

@@ -1,7 +1,6 @@
 -- Instants, periods, and the days round a month. An instant is a number of minutes since
 -- 1970-01-01T00:00Z. The calendar is the Gregorian one, as `jiff` has it.
-use Rattle.std.specs.Prelude.{ℕ, ◌+◌, ◌-◌, ◌*◌, Bool, ◌&&◌, if◌then◌else◌, List, map, Option, Some, None, pos, unsigned_abs, min, max, nat_le, codes}
-use Rattle.std.specs.List.{range_with_len}
+use Rattle.std.specs.Prelude.{ℕ, ◌+◌, ◌-◌, ◌*◌, ◌≡◌, ◌<◌, ◌≤◌, Bool, ◌&&◌, if◌then◌else◌, List, length, slice_get, Option, Some, None, pos, unsigned_abs, min, max, nat_le, codes}
 use Rattle.std.specs.Int.{is_in_range}
 use Rattle.jiff_core.specs.Calendar.{days_in_month, days_from_civil}
 use Rattle.roster_model.specs.declared.limits.TheConstants.{DAYS_BEFORE, DAYS_AFTER}
@@ -67,18 +66,29 @@ pub record Days : Type 0 where
   pub eight : List ℕ
   pub ten : List ℕ
 
--- the instants of one minute of the day on each of n days, at UTC
-abbrev pub utc_instants : ℕ → ℕ → ℕ → List ℕ
-utc_instants minute day n = map (λ d. d * 1440 + minute) (range_with_len day n)
+-- On each day 00:00, 08:00, 22:00 and the next day's 00:00 follow one another.
+pub record IsRising (days : Days) : Type 0 where
+  pub on : (i mid eight ten next : ℕ) → slice_get days.mid i ≡ Some mid → slice_get days.eight i ≡ Some eight
+      → slice_get days.ten i ≡ Some ten → slice_get days.mid (i + 1) ≡ Some next
+      → (mid < eight) × (eight < ten) × (ten < next)
 
--- the days of a base whose clocks show UTC
-unfoldable pub utc_days : Period → Days
-utc_days period = record {
-  month_days = days_of_month period;
-  mid = utc_instants 0 (first_day period) (days_of_window period + 1);
-  eight = utc_instants 480 (first_day period) (days_of_window period);
-  ten = utc_instants 1320 (first_day period) (days_of_window period);
-}
+-- The tables are those of a window round a month of 28 to 31 days, and rise.
+pub record IsTable (days : Days) : Type 0 where
+  pub least : 28 ≤ days.month_days
+  pub most : days.month_days ≤ 31
+  pub eight : length days.eight ≡ days_before + days.month_days + days_after
+  pub mid : length days.mid ≡ length days.eight + 1
+  pub ten : length days.ten ≡ length days.eight
+  pub rising : IsRising days
+
+-- Day i holds the instant.
+pub record IsDayOf (days : Days) (instant i : ℕ) : Type 0 where
+  pub begins : ℕ
+  pub ends : ℕ
+  pub first : slice_get days.mid i ≡ Some begins
+  pub next : slice_get days.mid (i + 1) ≡ Some ends
+  pub from : begins ≤ instant
+  pub before : instant < ends
 
 -- the minutes that the interval from a to b shares with the one from c to d
 abbrev pub common : ℕ → ℕ → ℕ → ℕ → ℕ

@@ -1,5 +1,6 @@
 pub mod Form
 pub mod Calendar
+pub mod Clocks
 pub mod Zone
 pub mod Record
 pub mod Code

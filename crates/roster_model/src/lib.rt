@@ -7,6 +7,7 @@
 //! - `limits`: how many, how long and how much, each number once
 //! - `Form`: what the bytes of a field must look like
 //! - `Calendar`: instants, periods, and the days round a month
+//! - `Clocks`: what the clocks show where a zone text is the rule
 //! - `Zone`: the local days that a base's zone text stands for
 //! - `Record`: records, their kinds, and the tables that are gathered from them
 //! - `Code`: what may be wrong with a record, by its number

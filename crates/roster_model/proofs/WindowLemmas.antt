@@ -1,0 +1,102 @@
+-- The tables of a zone's days have the window's lengths, and rise.
+use Rattle.std.proofs.Common.{◌≡◌, ◌∙◌, sym, ℕ, pos, ◌+◌, ◌<◌, ◌≤◌, Bool, true, false, not, ◌&&◌, nat_lt, cond, List, [], ◌∷◌, length, map, zero, suc, refl, ap, arith, subst, Option, Some, None, Result, Ok, Err, get_or}
+use Rattle.std.specs.List.{list_all, range_with_len, slice_get}
+use Rattle.std.proofs.lemmas.Bool.{and_parts}
+use Rattle.std.proofs.lemmas.Bool.Decides.{nat_tests}
+use Rattle.std.proofs.lemmas.Option.{slice_get_within, get_or_from_slice_get}
+use Rattle.std.proofs.lemmas.List.FromFn.{length-map-range_with_len, get_or-map-range_with_len}
+use Rattle.jiff_core.proofs.CalendarLemmas.{days_in_month_bounds}
+use Rattle.jiff_tz.specs.PosixReader.{read_whole}
+use Rattle.jiff_tz.specs.PosixRule.{match_some}
+use Rattle.jiff_tz.specs.PosixText.{TzText}
+use Rattle.roster_model.specs.Calendar.{Period, Days, IsRising, IsTable, days_of_month, days_of_window, first_day}
+use Rattle.roster_model.specs.Clocks.{minute_at}
+use Rattle.roster_model.specs.Zone.{ZoneRefusal, NotRead, NotMinutes, NotRising, days_of_zone, days_by_rule, table_of, has_minutes, rises, rises_on, instants_at}
+
+-- what holds of each number of a range holds of the i-th
+pub all_of_range : (test : ℕ → Bool) (first n i : ℕ) → list_all test (range_with_len first n) ≡ true → i < n → test (first + i) ≡ true
+all_of_range test first zero i all h = absurd (omega arith)
+all_of_range test first (suc n) zero all h =
+    let same : first + 0 ≡ first = omega arith in
+    rw same ((and_parts (test first) (list_all test (range_with_len (first + 1) n)) all).0)
+all_of_range test first (suc n) (suc i) all h =
+    let same : first + suc i ≡ first + 1 + i = omega arith in
+    rw same (all_of_range test (first + 1) n i ((and_parts (test first) (list_all test (range_with_len (first + 1) n)) all).1) (omega arith))
+
+-- the i-th of the instants is that of the i-th day
+pub instant_is : (zone : TzText) (hour first n i x : ℕ) → slice_get (instants_at zone hour first n) i ≡ Some x → (i < n) × (x ≡ minute_at zone (first + i) hour)
+instant_is zone hour first n i x h =
+    let long = length-map-range_with_len (λ d. minute_at zone d hour) first n in
+    let below = slice_get_within (instants_at zone hour first n) i x h in
+    let within : i < n = omega arith in
+    (within, sym (get_or_from_slice_get (instants_at zone hour first n) i x 0 h) ∙ get_or-map-range_with_len (λ d. minute_at zone d hour) first n i (first + i) 0 within refl)
+
+below_from_test : (a b c d : ℕ) → (nat_lt a b && nat_lt b c && nat_lt c d) ≡ true → (a < b) × (b < c) × (c < d)
+below_from_test a b c d h = grind (arith, nat_tests)
+
+rises_at : (zone : TzText) (day : ℕ) → rises_on zone day ≡ true → (minute_at zone day 0 < minute_at zone day 8) × (minute_at zone day 8 < minute_at zone day 22) × (minute_at zone day 22 < minute_at zone (day + 1) 0)
+rises_at zone day h = below_from_test _ _ _ _ h
+
+ordered : (a b c d mid eight ten next : ℕ) → mid ≡ a → eight ≡ b → ten ≡ c → next ≡ d → (a < b) × (b < c) × (c < d) → (mid < eight) × (eight < ten) × (ten < next)
+ordered a b c d mid eight ten next e f g h (i, j, k) = (omega arith, omega arith, omega arith)
+
+-- where each day rises, the table does
+pub table-rises : (period : Period) (zone : TzText) → rises period zone ≡ true → IsRising (table_of period zone)
+table-rises period zone all = record {
+  on = λ i mid eight ten next is_mid is_eight is_ten is_next.
+      let n = days_of_window period in
+      let first = first_day period in
+      let a = instant_is zone 0 first (n + 1) i mid is_mid in
+      let b = instant_is zone 8 first n i eight is_eight in
+      let c = instant_is zone 22 first n i ten is_ten in
+      let d = instant_is zone 0 first (n + 1) (i + 1) next is_next in
+      let there : first + (i + 1) ≡ first + i + 1 = omega arith in
+      let after : next ≡ minute_at zone (first + i + 1) 0 = d.1 ∙ ap (λ day. minute_at zone day 0) there in
+      ordered _ _ _ _ mid eight ten next a.1 b.1 c.1 after
+      (rises_at zone (first + i) (all_of_range (λ day. rises_on zone day) first n i all b.0));
+}
+
+-- and it has the window's lengths
+pub table-whole : (period : Period) (zone : TzText) → rises period zone ≡ true → IsTable (table_of period zone)
+table-whole period zone all =
+    let n = days_of_window period in
+    let first = first_day period in
+    let month = days_in_month_bounds (pos period.year) period.month in
+    let eight = length-map-range_with_len (λ d. minute_at zone d 8) first n in
+    let mid = length-map-range_with_len (λ d. minute_at zone d 0) first (n + 1) in
+    let ten = length-map-range_with_len (λ d. minute_at zone d 22) first n in
+    record {
+      least = month.1;
+      most = month.0;
+      eight = eight;
+      mid = mid ∙ ap (λ k. k + 1) (sym eight);
+      ten = ten ∙ sym eight;
+      rising = table-rises period zone all;
+    }
+
+-- what a rule's days are, where it has some
+by_tests : (minutes rising : Bool) (table days : Days) → cond {A = Result Days ZoneRefusal} (not minutes) (Err NotMinutes) (cond (not rising) (Err NotRising) (Ok table)) ≡ Ok days → (minutes ≡ true) × (rising ≡ true) × (table ≡ days)
+by_tests true true table days h = (refl, refl, cc)
+by_tests true false table days h = absurd (cc)
+by_tests false rising table days h = absurd (cc)
+
+pub days_by_rule-table : (period : Period) (zone : TzText) (days : Days) → days_by_rule period zone ≡ Ok days → (has_minutes period zone ≡ true) × (rises period zone ≡ true) × (table_of period zone ≡ days)
+unfolding days_by_rule
+days_by_rule-table period zone days h = by_tests (has_minutes period zone) (rises period zone) (table_of period zone) days h
+
+by_reading : (period : Period) (read : Option TzText) (days : Days) → match_some {B = Result Days ZoneRefusal} read (Err NotRead) (days_by_rule period) ≡ Ok days → (zone : TzText) × (read ≡ Some zone) × (days_by_rule period zone ≡ Ok days)
+by_reading period None days h = absurd (cc)
+by_reading period (Some zone) days h = (zone, refl, h)
+
+-- the days of a zone text are the table of the rule that it spells
+pub days_of_zone-rule : (period : Period) (text : List ℕ) (days : Days) → days_of_zone period text ≡ Ok days → (zone : TzText) × (read_whole text ≡ Some zone) × (days_by_rule period zone ≡ Ok days)
+unfolding days_of_zone
+days_of_zone-rule period text days h = by_reading period (read_whole text) days h
+
+-- The days that a zone text stands for have the window's lengths, the month's days, and rise.
+pub days_of_zone-table : (period : Period) (text : List ℕ) (days : Days) → days_of_zone period text ≡ Ok days → IsTable days × (days.month_days ≡ days_of_month period)
+days_of_zone-table period text days h =
+    let rule = days_of_zone-rule period text days h in
+    let table = days_by_rule-table period rule.0 days rule.2 in
+    let P : Days → Type 0 = λ d. IsTable d × (d.month_days ≡ days_of_month period) in
+    subst P table.2 (table-whole period rule.0 table.1, refl)
