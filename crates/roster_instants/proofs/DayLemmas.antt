@@ -1,10 +1,10 @@
 -- Dates, and the numbers of their days.
-use Rattle.std.proofs.Common.{◌≡◌, ◌∙◌, ℕ, ◌+◌, ◌<◌, ◌≤◌, true, ℤ, pos, ◌≤ℤ◌, ap, arith, to_z, of_z, w8, w16, w32, inl, inr, Result, Ok, Err, Some}
+use Rattle.std.proofs.Common.{◌≡◌, ◌∙◌, ℕ, ◌+◌, ◌-◌, ◌<◌, ◌≤◌, true, ℤ, pos, ◌≤ℤ◌, ap, arith, to_z, of_z, w8, w16, w32, inl, inr, Result, Ok, Err, Some}
 use Rattle.std.specs.Result.{result_ok}
 use Rattle.std.proofs.lemmas.Bool.{and_from, le-leb, cases_lt}
 use Rattle.std.proofs.lemmas.Int.{ints}
 use Rattle.std.specs.Int.{is_in_range}
-use Rattle.jiff_core.proofs.CalendarLemmas.{day_count-epoch, days_from_civil-day_count, day_count-day_of_year, day_count-later_year}
+use Rattle.jiff_core.proofs.CalendarLemmas.{day_count-epoch, days_from_civil-day_count, day_count-day_of_year, day_count-later_year, day_count-end, days_in_year_bounds, days_of_months_mono, days_of_months_all}
 use Rattle.jiff_core.proofs.SignedLemmas.{signed_arith}
 use Rattle.jiff_core.specs.Calendar.{IsDate, IsEpochDay, days_in_month, days_from_civil, day_count}
 use Rattle.jiff_core.specs.Date.{IsYmd, epoch_day}
@@ -87,6 +87,21 @@ day_from_1971 year month day from first =
     let number = days_from_civil-day_count (pos year) month day in
     let same = day_number_is year month day (omega arith) first in
     omega (arith, ints, day_count-epoch)
+
+-- a month of the year 9997 or before begins two years before the last day that there is
+pub day_to_9997 : (year month : ℕ) → 1971 ≤ year → year ≤ 9997 → 1 ≤ month → month ≤ 12 → day_number year month 1 ≤ 2_932_167
+day_to_9997 year month from to low high =
+    let rest = day_count-later_year (pos year) (pos 9998) (omega (arith, signed_arith)) (omega (arith, signed_arith)) in
+    let last = day_count-later_year (pos 9998) (pos 9999) (omega (arith, signed_arith)) (omega (arith, signed_arith)) in
+    let end = day_count-later_year (pos 9999) (pos 10000) (omega (arith, signed_arith)) (omega (arith, signed_arith)) in
+    let days = (days_in_year_bounds (pos 9998)).1 in
+    let more = (days_in_year_bounds (pos 9999)).1 in
+    let in_year = day_count-day_of_year (pos year) month 1 (omega arith) in
+    let months = days_of_months_mono (pos year) (month - 1) 12 (omega arith) in
+    let all = days_of_months_all (pos year) in
+    let number = days_from_civil-day_count (pos year) month 1 in
+    let same = day_number_is year month 1 (omega arith) (omega arith) in
+    omega (arith, signed_arith, day_count-end)
 
 -- the first of a month, by its number in a signed type
 pub first_of_month : (first plain : Date) (year month : ℕ) (n : ℤ) → 1971 ≤ year → IsYmd (pos year) (pos month) (pos 1) first

@@ -1,4 +1,8 @@
 pub mod TextLemmas
 pub mod CalendarLemmas
 pub mod DayLemmas
-pub mod WindowLemmas
+pub mod MarkLemmas
+pub mod ClockLemmas
+pub mod UtcLemmas
+pub mod SecondLemmas
+pub mod ZoneLemmas

@@ -1,11 +1,12 @@
 //! The local days of a base round a month.
 
-ghost use Rattle.std.specs.Prelude.{◌≡◌, ◌↔◌, ◌+◌, ◌<◌, ◌≤◌, pos, Some, Ok, Err, IfOk, IsErrOf, length, slice_get};
-ghost use Rattle.std.specs.List.Sorted.{IsStrictlyIncreasing};
+ghost use Rattle.std.specs.Prelude.{◌≡◌, ◌+◌, ◌<◌, ◌≤◌, ℕ, true, pos, Some, Ok, IfOk, IfErr, MatchOption, nat_lt, position, length, slice_get};
 ghost use Rattle.jiff_core.specs.Date.{IsYmd};
-ghost use Rattle.roster_model.specs.Calendar.{Days, days_of_month, first_day, utc_days, utc_instants};
-ghost use Rattle.roster_model.specs.Zone.{days_of_zone, NotRead};
+ghost use Rattle.roster_model.specs.Calendar.{IsTable, IsDayOf, days_of_month, days_of_window, first_day};
+ghost use Rattle.roster_model.specs.Zone.{days_of_zone, has_minutes, rises, table_of};
+ghost use Rattle.roster_instants.specs.Refusals.{IsFaultOf};
 
+use crate::clocks::{Clocks, EIGHT, MIDNIGHT, TEN};
 use crate::minute::Minute;
 use crate::period::Period;
 use jiff::civil::{self, Date};
@@ -16,9 +17,15 @@ use thiserror::Error;
 /// Why a zone text has given no days.
 #[derive(Debug, Drop, Error)]
 pub enum ZoneFault {
-    /// The text is no zone that is read here.
-    #[error("the zone is not one that is read here")]
+    /// The text is no zone.
+    #[error("the text is no zone that is read here")]
     Refused,
+    /// A day of the window begins, or has its 08:00 or 22:00, at no whole minute.
+    #[error("the zone's clocks are not ahead of UTC by whole minutes")]
+    NotMinutes,
+    /// These instants do not follow one another on some day of the window.
+    #[error("the zone's clocks are shifted too far within a day")]
+    NotRising,
     /// There was no memory for the tables.
     #[error("out of memory")]
     Memory,
@@ -38,7 +45,8 @@ impl From<AllocError> for ZoneFault {
 /// The days of a book's window at one base, as its clocks show them.
 ///
 /// The window reaches from 35 days before the month's first day to 14 days after its last. Its days
-/// are numbered from 0, so the month's first day is day 35.
+/// are numbered from 0, so the month's first day is day 35. Each day's 00:00, 08:00 and 22:00 and
+/// the next day's 00:00 follow one another, which the type keeps.
 #[derive(Debug, Drop)]
 pub struct BaseDays {
     month_days: usize,
@@ -48,29 +56,32 @@ pub struct BaseDays {
 }
 
 impl Model for BaseDays {
-    ghost use Rattle.std.specs.Prelude.{◌≡◌, ◌+◌, ◌≤◌, length};
-    ghost use Rattle.std.specs.List.Sorted.{IsStrictlyIncreasing};
-    ghost use Rattle.roster_model.specs.Calendar.{Days};
+    ghost use Rattle.roster_model.specs.Calendar.{Days, IsTable};
 
     ghost Value = { Days };
 
     ghost view = { λ d. record { month_days = d.month_days; mid = d.mid.items; eight = d.eight.items; ten = d.ten.items } };
 
-    ghost invariant = { λ d. (length d.mid.items ≡ length d.eight.items + 1) × (length d.ten.items ≡ length d.eight.items)
-        × (length d.eight.items ≡ 35 + d.month_days + 14) × (d.month_days ≤ 31) × IsStrictlyIncreasing d.mid.items };
+    ghost invariant = { λ d. IsTable (record { month_days = d.month_days; mid = d.mid.items; eight = d.eight.items; ten = d.ten.items }) };
 }
 
 impl BaseDays {
-    /// The days of a period's window at a base with this zone text. `Refused` says that the text is
-    /// no zone that is read here; so far that is any text but `UTC0`.
+    /// The days of a period's window at a base with this zone text, or why it has none. The text is
+    /// judged before memory is asked for.
     pub fn build(alloc: Global, text: &str, period: Period) -> Result<BaseDays, ZoneFault>
         ensures days { IfOk result (λ days. days_of_zone period text.now ≡ Ok days) }
-        ensures refused { IsErrOf result ZoneFault.Refused ↔ (days_of_zone period text.now ≡ Err NotRead) }
+        ensures fault { IfErr result (λ fault. IsFaultOf (days_of_zone period text.now) fault) }
     {
-        if text != "UTC0" {
+        let Some(clocks) = Clocks::read(text) else {
             return Err(ZoneFault::Refused);
+        };
+        if !has_minutes(&clocks, period) {
+            return Err(ZoneFault::NotMinutes);
         }
-        let days = utc_days(alloc, period)?;
+        if !rises(&clocks, period) {
+            return Err(ZoneFault::NotRising);
+        }
+        let days = table(alloc, &clocks, period)?;
         Ok(days)
     }
 
@@ -79,14 +90,17 @@ impl BaseDays {
         ensures value { result ≡ length self.now.eight }
         ensures window { result ≡ 35 + self.now.month_days + 14 }
         ensures bound { result ≤ 80 }
+        ensures table { IsTable self.now }
     {
         self.eight.len()
     }
 
-    /// How many days the month has.
+    /// How many days the month has, from 28 to 31.
     pub fn month_days(&self) -> usize
         ensures value { result ≡ self.now.month_days }
-        ensures bound { result ≤ 31 }
+        ensures least { 28 ≤ result }
+        ensures most { result ≤ 31 }
+        ensures table { IsTable self.now }
     {
         self.month_days
     }
@@ -95,7 +109,7 @@ impl BaseDays {
     pub fn mid(&self, i: usize) -> Minute
         requires { i ≤ length self.now.eight }
         ensures value { slice_get self.now.mid i ≡ Some result }
-        ensures rising { IsStrictlyIncreasing self.now.mid }
+        ensures table { IsTable self.now }
     {
         self.mid[i]
     }
@@ -103,7 +117,8 @@ impl BaseDays {
     /// The instant of 08:00 on day `i`.
     pub fn eight(&self, i: usize) -> Minute
         requires { i < length self.now.eight }
-        ensures { slice_get self.now.eight i ≡ Some result }
+        ensures value { slice_get self.now.eight i ≡ Some result }
+        ensures table { IsTable self.now }
     {
         self.eight[i]
     }
@@ -111,9 +126,25 @@ impl BaseDays {
     /// The instant of 22:00 on day `i`.
     pub fn ten(&self, i: usize) -> Minute
         requires { i < length self.now.eight }
-        ensures { slice_get self.now.ten i ≡ Some result }
+        ensures value { slice_get self.now.ten i ≡ Some result }
+        ensures table { IsTable self.now }
     {
         self.ten[i]
+    }
+
+    /// The day, from 0, that holds the instant, if one of the window does.
+    pub fn day_of(&self, instant: Minute) -> Option<usize>
+        ensures { MatchOption result ((i : ℕ) → ¬ (IsDayOf self.now instant i)) (λ i. IsDayOf self.now instant i) }
+    {
+        self.next_mid(instant)?.checked_sub(1)
+    }
+
+    /// The first of the midnights that comes after the instant, if one does.
+    fn next_mid(&self, instant: Minute) -> Option<usize>
+        ensures value { result ≡ position (λ mid. nat_lt instant mid) self.now.mid }
+        ensures table { IsTable self.now }
+    {
+        self.mid.iter().position(|mid| instant < *mid)
     }
 }
 
@@ -122,23 +153,54 @@ const DAYS_BEFORE: u32 = 35;
 
 const DAYS_AFTER: u32 = 14;
 
-// The minutes of the day between which no night lies.
-const EIGHT: u32 = 8 * 60;
+/// The number of a window's first day, from 0 for 1970-01-01, and how many days it has.
+struct Window {
+    first: u32,
+    days: u32,
+}
 
-const TEN: u32 = 22 * 60;
-
-/// The days of a period's window at a base whose clocks show UTC.
-fn utc_days(alloc: Global, period: Period) -> Result<BaseDays, AllocError>
-    ensures { IfOk result (λ days. days ≡ utc_days period) }
+/// The window round a month.
+fn window_of(period: Period) -> Window
+    ensures first { result.first ≡ first_day period }
+    ensures days { result.days ≡ days_of_window period }
+    ensures from { 330 ≤ result.first }
+    ensures to { result.first + result.days < 2_932_300 }
 {
-    let month_days = days_of_month(period);
-    let first = first_day(period);
-    let days = DAYS_BEFORE + month_days + DAYS_AFTER;
+    Window {
+        first: first_day(period),
+        days: DAYS_BEFORE + days_of_month(period) + DAYS_AFTER,
+    }
+}
+
+/// Whether each instant of the window's days is a whole minute.
+fn has_minutes(clocks: &Clocks, period: Period) -> bool
+    ensures { result ≡ has_minutes period clocks.now }
+{
+    let Window { first, days } = window_of(period);
+    clocks.are_minutes(MIDNIGHT, first, days + 1)
+        && clocks.are_minutes(EIGHT, first, days)
+        && clocks.are_minutes(TEN, first, days)
+}
+
+/// Whether they follow one another on each day.
+fn rises(clocks: &Clocks, period: Period) -> bool
+    ensures { result ≡ rises period clocks.now }
+{
+    let Window { first, days } = window_of(period);
+    clocks.rise(first, days)
+}
+
+/// The tables of the window's days.
+fn table(alloc: Global, clocks: &Clocks, period: Period) -> Result<BaseDays, AllocError>
+    requires { rises period clocks.now ≡ true }
+    ensures { IfOk result (λ days. days ≡ table_of period clocks.now) }
+{
+    let Window { first, days } = window_of(period);
     Ok(BaseDays {
-        month_days: month_days as usize,
-        mid: utc_instants(alloc, 0, first, days + 1)?,
-        eight: utc_instants(alloc, EIGHT, first, days)?,
-        ten: utc_instants(alloc, TEN, first, days)?,
+        month_days: days_of_month(period) as usize,
+        mid: clocks.instants_at(alloc, MIDNIGHT, first, days + 1)?,
+        eight: clocks.instants_at(alloc, EIGHT, first, days)?,
+        ten: clocks.instants_at(alloc, TEN, first, days)?,
     })
 }
 
@@ -146,6 +208,9 @@ fn utc_days(alloc: Global, period: Period) -> Result<BaseDays, AllocError>
 fn first_of_month(period: Period) -> Date
     ensures value { IsYmd (pos period.year) (pos period.month) (pos 1) result }
     ensures from { 1971 ≤ period.year }
+    ensures to { period.year ≤ 9997 }
+    ensures low { 1 ≤ period.month }
+    ensures high { period.month ≤ 12 }
 {
     civil::date(period.year(), period.month(), 1)
 }
@@ -153,33 +218,18 @@ fn first_of_month(period: Period) -> Date
 /// How many days the month has.
 fn days_of_month(period: Period) -> u32
     ensures value { result ≡ days_of_month period }
-    ensures bound { result ≤ 31 }
+    ensures least { 28 ≤ result }
+    ensures most { result ≤ 31 }
 {
     first_of_month(period).days_in_month() as u32
 }
 
-/// The number of the window's first day, from 0 for 1970-01-01.
+/// The number of the window's first day.
 fn first_day(period: Period) -> u32
     ensures value { result ≡ first_day period }
-    ensures bound { result ≤ 2_932_896 }
+    ensures from { 330 ≤ result }
+    ensures to { result ≤ 2_932_132 }
 {
     let first = first_of_month(period).to_plain().to_unix_epoch_day();
     first as u32 - DAYS_BEFORE
-}
-
-/// The instants of one minute of the day on each of `count` days, at UTC. `first` is the number of
-/// the first of them, from 0 for 1970-01-01.
-fn utc_instants(
-    alloc: Global,
-    minute: u32,
-    first: u32,
-    count: u32,
-) -> Result<Vec<Minute>, AllocError>
-    requires within { minute < 1440 }
-    requires last { first + count ≤ 3_000_000 }
-    ensures { IfOk result (λ instants. instants.items ≡ utc_instants minute first count) }
-{
-    (first..first + count)
-        .map(move |day| Minute::on_day(day, minute))
-        .collect(alloc)
 }

@@ -2,16 +2,20 @@
 //!
 //! `read_minute` and `Period::read` read exactly the texts that `roster_model`'s calendar gives an
 //! instant or a month, `common` is the time that two intervals share, and `BaseDays::build` makes
-//! the table of local days that a zone text stands for, or refuses the text. Only the table takes
-//! memory.
+//! the table of local days that a zone text stands for, or tells why it stands for none. Only the
+//! table takes memory, and nothing is asked for before the text is judged. `laws` ties the
+//! definition of these days to `jiff`'s own conversion, whatever zone a text stands for.
 #![tactic(auto)]
 
+mod clocks;
 mod days;
+mod laws;
 mod minute;
 mod period;
 mod text;
 
 pub use days::{BaseDays, ZoneFault};
+pub use laws::{compatible_conversion, plain_at_utc};
 pub use minute::{Minute, common, read_minute};
 pub use period::Period;
 

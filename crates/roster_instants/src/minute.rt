@@ -1,6 +1,6 @@
 //! Instants to the minute.
 
-ghost use Rattle.std.specs.Prelude.{◌≡◌, ◌+◌, ◌*◌, ◌≤◌, ◌<◌, pos, ℕ, true, false, MatchOption};
+ghost use Rattle.std.specs.Prelude.{◌≡◌, ◌+◌, ◌*◌, ◌/◌, ◌≤◌, ◌<◌, pos, ℕ, true, false, MatchOption};
 ghost use Rattle.std.specs.Int.{is_in_range};
 ghost use Rattle.roster_model.specs.Calendar.{common as minutes_in_common, day_number, is_real_date, instant_of};
 
@@ -27,15 +27,24 @@ impl Model for Minute {
 }
 
 impl Minute {
-    /// The instant of a minute of the day, from 0 to 1439, on the day with this number at UTC, which
-    /// may lie some days past the year 9999.
-    pub(crate) fn on_day(day: u32, minute: u32) -> Minute
-        requires last { day ≤ 3_000_000 }
+    /// The instant of a minute of the day, from 0 to 1439, on the day with this number at UTC.
+    fn on_day(day: u32, minute: u32) -> Minute
+        requires last { day ≤ 2_932_896 }
         requires within { minute < 1440 }
         ensures { result ≡ day * 1440 + minute }
     {
         Minute {
             minutes: (u64::from(day) * 1440 + u64::from(minute)) as i64,
+        }
+    }
+
+    /// The minute that a second lies in, which counts from 1970-01-01T00:00:00Z.
+    pub(crate) fn from_seconds(second: u64) -> Minute
+        requires { second ≤ 299_999_999_999 }
+        ensures { result ≡ second / 60 }
+    {
+        Minute {
+            minutes: (second / 60) as i64,
         }
     }
 

@@ -100,7 +100,7 @@ fn the_shortest_and_the_last_window(rt: HostRuntime) {
 #[test]
 fn other_zones_are_refused(rt: HostRuntime) {
     let period = Period::read(b"2024-03").expect(&rt, "a month");
-    for zone in ["UTC1", "", "utc0", "UTC0 ", "UTC"] {
+    for zone in ["", "UTC0 ", "UTC"] {
         let refused = BaseDays::build(rt.alloc(), zone, period);
         assert!(rt; matches!(refused, Err(ZoneFault::Refused)), "{zone}");
     }
@@ -136,7 +136,7 @@ fn at(rt: &impl Abort, text: &str) -> Minute {
 #[test]
 fn faults_have_texts(rt: HostRuntime) {
     let refused = format!(in rt.alloc(); "{}", ZoneFault::Refused).expect(&rt, "memory");
-    assert_eq!(rt; refused.as_str(), "the zone is not one that is read here");
+    assert_eq!(rt; refused.as_str(), "the text is no zone that is read here");
     let memory = format!(in rt.alloc(); "{}", ZoneFault::Memory).expect(&rt, "memory");
     assert_eq!(rt; memory.as_str(), "out of memory");
 }

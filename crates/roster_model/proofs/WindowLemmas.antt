@@ -1,9 +1,9 @@
 -- The tables of a zone's days have the window's lengths, and rise.
-use Rattle.std.proofs.Common.{◌≡◌, ◌∙◌, sym, ℕ, pos, ◌+◌, ◌<◌, ◌≤◌, Bool, true, false, not, ◌&&◌, nat_lt, cond, List, [], ◌∷◌, length, map, zero, suc, refl, ap, arith, subst, Option, Some, None, Result, Ok, Err, get_or}
+use Rattle.std.proofs.Common.{◌≡◌, ◌∙◌, sym, ℕ, pos, ◌+◌, ◌-◌, ◌<◌, ◌≤◌, Bool, true, false, not, ◌&&◌, nat_lt, cond, List, length, zero, suc, refl, ap, arith, subst, Option, Some, None, Result, Ok, Err, get_or}
 use Rattle.std.specs.List.{list_all, range_with_len, slice_get}
 use Rattle.std.proofs.lemmas.Bool.{and_parts}
 use Rattle.std.proofs.lemmas.Bool.Decides.{nat_tests}
-use Rattle.std.proofs.lemmas.Option.{slice_get_within, get_or_from_slice_get}
+use Rattle.std.proofs.lemmas.Option.{slice_get_within, slice_get-get_or, get_or_from_slice_get}
 use Rattle.std.proofs.lemmas.List.FromFn.{length-map-range_with_len, get_or-map-range_with_len}
 use Rattle.jiff_core.proofs.CalendarLemmas.{days_in_month_bounds}
 use Rattle.jiff_tz.specs.PosixReader.{read_whole}
@@ -100,3 +100,29 @@ days_of_zone-table period text days h =
     let table = days_by_rule-table period rule.0 days rule.2 in
     let P : Days → Type 0 = λ d. IsTable d × (d.month_days ≡ days_of_month period) in
     subst P table.2 (table-whole period rule.0 table.1, refl)
+
+-- On each day of a table the instants follow one another,
+pub day-rises : (days : Days) → IsTable days → (i : ℕ) → i < length days.eight
+    → (get_or days.mid i 0 < get_or days.eight i 0) × (get_or days.eight i 0 < get_or days.ten i 0) × (get_or days.ten i 0 < get_or days.mid (i + 1) 0)
+day-rises days table i within =
+    let mid = table.mid in
+    let ten = table.ten in
+    table.rising.on i _ _ _ _ (slice_get-get_or days.mid i 0 (omega arith)) (slice_get-get_or days.eight i 0 within)
+    (slice_get-get_or days.ten i 0 (omega arith)) (slice_get-get_or days.mid (i + 1) 0 (omega arith))
+
+mid-later : (days : Days) → IsTable days → (i n : ℕ) → i + n ≤ length days.eight → get_or days.mid i 0 ≤ get_or days.mid (i + n) 0
+mid-later days table i zero within = let same : i + 0 ≡ i = omega arith in rw same (omega arith)
+mid-later days table i (suc n) within =
+    let next : i + suc n ≡ i + n + 1 = omega arith in
+    let before = mid-later days table i n (omega arith) in
+    let day = day-rises days table (i + n) (omega arith) in
+    rw next (omega (arith, day.0, day.1, day.2))
+
+-- so a later day begins later.
+pub mid-rises : (days : Days) → IsTable days → (i j : ℕ) → i < j → j ≤ length days.eight → get_or days.mid i 0 < get_or days.mid j 0
+mid-rises days table i j before within =
+    let day = day-rises days table i (omega arith) in
+    let rest = mid-later days table (i + 1) (j - (i + 1)) (omega arith) in
+    let there : i + 1 + (j - (i + 1)) ≡ j = omega arith in
+    let last : get_or days.mid (i + 1) 0 ≤ get_or days.mid j 0 = rw there at rest in
+    omega (arith, day.0, day.1, day.2)

@@ -8,7 +8,7 @@
 use Rattle.std.specs.Prelude.{ℕ, ◌+◌, ◌*◌, ◌/◌, ◌%◌, ℤ, pos, ◌+ℤ◌, ◌-ℤ◌, ◌*ℤ◌, int_lt, unsigned_abs, Bool, ◌==◌, ◌&&◌, not, if◌then◌else◌}
 use Rattle.jiff_core.specs.Calendar.{days_in_year}
 use Rattle.jiff_tz.specs.PosixRule.{first_day, rule_day, clamp_to, in_window, in_span, match_some}
-use Rattle.jiff_tz.specs.PosixText.{TzText, DstText}
+use Rattle.jiff_tz.specs.PosixText.{TzText}
 use Rattle.jiff_tz.specs.Year.{year_of_day}
 use Rattle.jiff_tz.specs.declared.posix.Day.{Day}
 
