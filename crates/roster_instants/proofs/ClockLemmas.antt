@@ -29,7 +29,6 @@ use Rattle.jiff.specs.Placed.{IsPosixZone}
 use Rattle.roster_model.specs.Clocks.{year_begins, year_ends, change_in, offset_ahead, offset_behind, offset_by, offset_at, moment, second_at}
 use Rattle.roster_instants.proofs.MarkLemmas.{nanos, IsNear, IsMark, IsNear-mark, clamp-mark, clamp_bounds, near-add, near-sub, same_window, same_span}
 use Rattle.roster_instants.specs.Rule.{IsRule, rule_of}
-use Rattle.roster_instants.specs.Laws.{IsCompatible}
 
 -- ---- the moments of a rule
 
@@ -220,10 +219,3 @@ rule_of_text text UTC is = absurd is
 rule_of_text text Unknown is = absurd is
 rule_of_text text (Fixed offset) is = absurd is
 rule_of_text text (Tzif table) is = absurd is
-
--- the law
-pub compatible : IsCompatible
-compatible text zone rule dt day hour is read date time from to =
-    let of_text = rule_of_text text zone is in
-    let same : rule_of zone ≡ rule = cc (of_text.1, read) in
-    instant_of_rule zone dt day hour of_text.0 date time to ∙ ap (λ z. nanos (second_at z day hour)) same

@@ -6,3 +6,4 @@ pub mod ClockLemmas
 pub mod UtcLemmas
 pub mod SecondLemmas
 pub mod ZoneLemmas
+pub mod LawLemmas

@@ -127,7 +127,8 @@ impl Clocks {
         requires from { 330 ≤ first }
         requires to { first + count ≤ 2_932_300 }
         requires hour { hour < 24 }
-        ensures { IfOk result (λ instants. instants.items ≡ instants_at self.now hour first count) }
+        ensures { IfOk result (λ instants.
+            instants.items ≡ instants_at self.now hour first count) }
     {
         (first..first + count)
             .map(|day| self.minute_at(day, hour))

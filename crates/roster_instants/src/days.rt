@@ -60,9 +60,19 @@ impl Model for BaseDays {
 
     ghost Value = { Days };
 
-    ghost view = { λ d. record { month_days = d.month_days; mid = d.mid.items; eight = d.eight.items; ten = d.ten.items } };
+    ghost view = { λ d. record {
+      month_days = d.month_days;
+      mid = d.mid.items;
+      eight = d.eight.items;
+      ten = d.ten.items;
+    } };
 
-    ghost invariant = { λ d. IsTable (record { month_days = d.month_days; mid = d.mid.items; eight = d.eight.items; ten = d.ten.items }) };
+    ghost invariant = { λ d. IsTable (record {
+      month_days = d.month_days;
+      mid = d.mid.items;
+      eight = d.eight.items;
+      ten = d.ten.items;
+    }) };
 }
 
 impl BaseDays {
@@ -134,7 +144,8 @@ impl BaseDays {
 
     /// The day, from 0, that holds the instant, if one of the window does.
     pub fn day_of(&self, instant: Minute) -> Option<usize>
-        ensures { MatchOption result ((i : ℕ) → ¬ (IsDayOf self.now instant i)) (λ i. IsDayOf self.now instant i) }
+        ensures { MatchOption result ((i : ℕ) → ¬ (IsDayOf self.now instant i))
+            (λ i. IsDayOf self.now instant i) }
     {
         self.next_mid(instant)?.checked_sub(1)
     }

@@ -15,7 +15,7 @@ mod period;
 mod text;
 
 pub use days::{BaseDays, ZoneFault};
-pub use laws::{compatible_conversion, plain_at_utc};
+pub use laws::{compatible_days, compatible_instants, plain_at_utc};
 pub use minute::{Minute, common, read_minute};
 pub use period::Period;
 

@@ -1,6 +1,8 @@
 use super::*;
 use std::process::Abort;
 
+mod zones;
+
 #[test]
 fn instants_are_read(rt: HostRuntime) {
     for (text, minutes) in [
@@ -98,15 +100,6 @@ fn the_shortest_and_the_last_window(rt: HostRuntime) {
 }
 
 #[test]
-fn other_zones_are_refused(rt: HostRuntime) {
-    let period = Period::read(b"2024-03").expect(&rt, "a month");
-    for zone in ["", "UTC0 ", "UTC"] {
-        let refused = BaseDays::build(rt.alloc(), zone, period);
-        assert!(rt; matches!(refused, Err(ZoneFault::Refused)), "{zone}");
-    }
-}
-
-#[test]
 fn minutes_in_common(rt: HostRuntime) {
     let six = at(&rt, "2024-03-04T06:00Z");
     let seven = at(&rt, "2024-03-04T07:00Z");
@@ -137,6 +130,16 @@ fn at(rt: &impl Abort, text: &str) -> Minute {
 fn faults_have_texts(rt: HostRuntime) {
     let refused = format!(in rt.alloc(); "{}", ZoneFault::Refused).expect(&rt, "memory");
     assert_eq!(rt; refused.as_str(), "the text is no zone that is read here");
+    let seconds = format!(in rt.alloc(); "{}", ZoneFault::NotMinutes).expect(&rt, "memory");
+    assert_eq!(rt;
+        seconds.as_str(),
+        "the zone's clocks are not ahead of UTC by whole minutes"
+    );
+    let shifted = format!(in rt.alloc(); "{}", ZoneFault::NotRising).expect(&rt, "memory");
+    assert_eq!(rt;
+        shifted.as_str(),
+        "the zone's clocks are shifted too far within a day"
+    );
     let memory = format!(in rt.alloc(); "{}", ZoneFault::Memory).expect(&rt, "memory");
     assert_eq!(rt; memory.as_str(), "out of memory");
 }

@@ -1,7 +1,7 @@
 -- The tables of a zone's days have the window's lengths, and rise.
-use Rattle.std.proofs.Common.{◌≡◌, ◌∙◌, sym, ℕ, pos, ◌+◌, ◌-◌, ◌<◌, ◌≤◌, Bool, true, false, not, ◌&&◌, nat_lt, cond, List, length, zero, suc, refl, ap, arith, subst, Option, Some, None, Result, Ok, Err, get_or}
+use Rattle.std.proofs.Common.{◌≡◌, ◌∙◌, sym, ℕ, pos, inl, inr, ◌+◌, ◌-◌, ◌<◌, ◌≤◌, Bool, true, false, not, ◌&&◌, nat_lt, cond, List, length, zero, suc, refl, ap, arith, subst, Option, Some, None, Result, Ok, Err, get_or}
 use Rattle.std.specs.List.{list_all, range_with_len, slice_get}
-use Rattle.std.proofs.lemmas.Bool.{and_parts}
+use Rattle.std.proofs.lemmas.Bool.{and_parts, cases_order}
 use Rattle.std.proofs.lemmas.Bool.Decides.{nat_tests}
 use Rattle.std.proofs.lemmas.Option.{slice_get_within, slice_get-get_or, get_or_from_slice_get}
 use Rattle.std.proofs.lemmas.List.FromFn.{length-map-range_with_len, get_or-map-range_with_len}
@@ -9,7 +9,7 @@ use Rattle.jiff_core.proofs.CalendarLemmas.{days_in_month_bounds}
 use Rattle.jiff_tz.specs.PosixReader.{read_whole}
 use Rattle.jiff_tz.specs.PosixRule.{match_some}
 use Rattle.jiff_tz.specs.PosixText.{TzText}
-use Rattle.roster_model.specs.Calendar.{Period, Days, IsRising, IsTable, days_of_month, days_of_window, first_day}
+use Rattle.roster_model.specs.Calendar.{Period, Days, IsDayOf, IsRising, IsTable, days_of_month, days_of_window, first_day}
 use Rattle.roster_model.specs.Clocks.{minute_at}
 use Rattle.roster_model.specs.Zone.{ZoneRefusal, NotRead, NotMinutes, NotRising, days_of_zone, days_by_rule, table_of, has_minutes, rises, rises_on, instants_at}
 
@@ -126,3 +126,25 @@ mid-rises days table i j before within =
     let there : i + 1 + (j - (i + 1)) ≡ j = omega arith in
     let last : get_or days.mid (i + 1) 0 ≤ get_or days.mid j 0 = rw there at rest in
     omega (arith, day.0, day.1, day.2)
+
+days_apart : (days : Days) → IsTable days → (t i j : ℕ) → IsDayOf days t i → IsDayOf days t j → i < j → ⊥
+days_apart days table t i j a b before =
+    let below = slice_get_within days.mid j b.begins b.first in
+    let length_is = table.mid in
+    let end = get_or_from_slice_get days.mid (i + 1) a.ends 0 a.next in
+    let begin = get_or_from_slice_get days.mid j b.begins 0 b.first in
+    let rest = mid-later days table (i + 1) (j - (i + 1)) (omega arith) in
+    let there : i + 1 + (j - (i + 1)) ≡ j = omega arith in
+    let last : get_or days.mid (i + 1) 0 ≤ get_or days.mid j 0 = rw there at rest in
+    let late = a.before in
+    let early = b.from in
+    omega arith
+
+-- An instant has one day.
+pub one_day : (days : Days) → IsTable days → (t i j : ℕ) → IsDayOf days t i → IsDayOf days t j → i ≡ j
+one_day days table t i j a b =
+    elim (cases_order i j) [
+      | inl same ↦ same
+      | inr (inl before) ↦ absurd (days_apart days table t i j a b before)
+      | inr (inr after) ↦ absurd (days_apart days table t j i b a after)
+    ]

@@ -68,8 +68,9 @@ pub record Days : Type 0 where
 
 -- On each day 00:00, 08:00, 22:00 and the next day's 00:00 follow one another.
 pub record IsRising (days : Days) : Type 0 where
-  pub on : (i mid eight ten next : ℕ) → slice_get days.mid i ≡ Some mid → slice_get days.eight i ≡ Some eight
-      → slice_get days.ten i ≡ Some ten → slice_get days.mid (i + 1) ≡ Some next
+  pub on : (i mid eight ten next : ℕ) → slice_get days.mid i ≡ Some mid
+      → slice_get days.eight i ≡ Some eight → slice_get days.ten i ≡ Some ten
+      → slice_get days.mid (i + 1) ≡ Some next
       → (mid < eight) × (eight < ten) × (ten < next)
 
 -- The tables are those of a window round a month of 28 to 31 days, and rise.

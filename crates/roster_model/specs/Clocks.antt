@@ -1,10 +1,11 @@
 -- What the clocks of a place show, where the text of its zone is the rule. The text is a POSIX rule
--- as `jiff` reads it (RFC 9636), and how a rule's day is counted, is `jiff`'s too. That a time of day
--- in a gap or a fold stands for one instant is the `compatible` way of RFC 5545 and of `jiff`.
+-- (RFC 9636): `jiff` says what it spells, and on which day of a year each of its changes falls. An
+-- hour that the clocks skip or show twice stands for one instant, as RFC 5545 (3.3.5) and `jiff`'s
+-- compatible conversion have it.
 --
--- Moments are seconds since 1970-01-01T00:00 on the clocks themselves, offsets are seconds ahead of
--- UTC. A rule has standard time and, if it has summer time, the change to it and the change back in
--- each year, each told on the clocks. They are judged year by year, on the clocks.
+-- Moments are seconds since 1970-01-01T00:00 as the clocks themselves count, offsets are seconds
+-- ahead of UTC. A rule has standard time and, where it has summer time too, the moments of a year at
+-- which the clocks are changed to it and back. These are judged year by year, on the clocks.
 use Rattle.std.specs.Prelude.{ℕ, ◌+◌, ◌*◌, ◌/◌, ◌%◌, ℤ, pos, ◌+ℤ◌, ◌-ℤ◌, ◌*ℤ◌, int_lt, unsigned_abs, Bool, ◌==◌, ◌&&◌, not, if◌then◌else◌}
 use Rattle.jiff_core.specs.Calendar.{days_in_year}
 use Rattle.jiff_tz.specs.PosixRule.{first_day, rule_day, clamp_to, in_window, in_span, match_some}
@@ -25,28 +26,28 @@ unfoldable pub change_in : ℤ → Day × ℤ → ℤ
 change_in year change = match_some (rule_day year change.0) (year_ends year) (λ day.
     clamp_to (year_begins year) (year_ends year) (day *ℤ pos 86_400 +ℤ change.1))
 
--- Summer time runs from the first moment of a window to the second, or, where the second comes
--- first, across the new year. Where it is ahead of standard time, the clocks skip a gap after its
--- start: there the offset is the one before, standard time's. They show a fold before its end twice:
--- there the earlier time counts, which is summer time.
+-- Summer time runs from the first moment of a season to the second; where the second comes first,
+-- it runs across the new year. Where it is ahead of standard time, the clocks skip a gap after its
+-- start. There the offset is the one before the gap, which is standard time's. They show a fold
+-- before its end twice. There the earlier one counts, which is in summer time.
 abbrev pub offset_ahead : ℤ → ℤ → ℤ × ℤ → ℤ → ℤ
-offset_ahead standard summer window at =
-    if in_window window at && not (in_span window.0 (window.0 +ℤ (summer -ℤ standard)) at)
+offset_ahead standard summer season at =
+    if in_window season at && not (in_span season.0 (season.0 +ℤ (summer -ℤ standard)) at)
     then summer else standard
 
--- Where it is behind standard time, as Ireland may write its winter, the clocks show a fold before
--- its start twice: there the earlier time counts, which is standard time. They skip a gap after its
--- end: there the offset is the one before, summer time's.
+-- Where it is behind standard time, as a winter time may be written, the clocks show a fold before
+-- its start twice. There the earlier one counts, which is in standard time. They skip a gap after
+-- its end. There the offset is the one before the gap, which is summer time's.
 abbrev pub offset_behind : ℤ → ℤ → ℤ × ℤ → ℤ → ℤ
-offset_behind standard summer window at =
-    if in_window window at then summer
-    else (if in_span (window.0 +ℤ (summer -ℤ standard)) window.0 at then standard
-    else (if in_span window.1 (window.1 -ℤ (summer -ℤ standard)) at then summer else standard))
+offset_behind standard summer season at =
+    if in_window season at then summer
+    else (if in_span (season.0 +ℤ (summer -ℤ standard)) season.0 at then standard
+    else (if in_span season.1 (season.1 -ℤ (summer -ℤ standard)) at then summer else standard))
 
 abbrev pub offset_by : ℤ → ℤ → ℤ × ℤ → ℤ → ℤ
-offset_by standard summer window at =
-    if int_lt summer standard then offset_behind standard summer window at
-    else offset_ahead standard summer window at
+offset_by standard summer season at =
+    if int_lt summer standard then offset_behind standard summer season at
+    else offset_ahead standard summer season at
 
 -- the offset at a moment of a year: in a gap the offset before it, in a fold the earlier one
 unfoldable pub offset_at : TzText → ℤ → ℤ → ℤ
