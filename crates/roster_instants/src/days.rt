@@ -14,7 +14,7 @@ use std::alloc::{AllocError, Global};
 use std::marker::Model;
 use thiserror::Error;
 
-/// Why a zone text has given no days.
+/// Why a zone text has given no days, in the order in which that is judged.
 #[derive(Debug, Drop, Error)]
 pub enum ZoneFault {
     /// The text is no zone.
