@@ -1,6 +1,7 @@
 //! The local days of a base round a month.
 
 ghost use Rattle.std.specs.Prelude.{◌≡◌, ◌+◌, ◌<◌, ◌≤◌, ℕ, true, pos, Some, Ok, IfOk, IfErr, MatchOption, nat_lt, position, length, slice_get};
+ghost use Rattle.std.specs.List.Sorted.{IsStrictlyIncreasing};
 ghost use Rattle.jiff_core.specs.Date.{IsYmd};
 ghost use Rattle.roster_model.specs.Calendar.{IsTable, IsDayOf, days_of_month, days_of_window, first_day};
 ghost use Rattle.roster_model.specs.Zone.{days_of_zone, has_minutes, rises, table_of};
@@ -119,6 +120,7 @@ impl BaseDays {
     pub fn mid(&self, i: usize) -> Minute
         requires { i ≤ length self.now.eight }
         ensures value { slice_get self.now.mid i ≡ Some result }
+        ensures rising { IsStrictlyIncreasing self.now.mid }
         ensures table { IsTable self.now }
     {
         self.mid[i]

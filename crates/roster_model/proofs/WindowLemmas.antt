@@ -1,6 +1,7 @@
 -- The tables of a zone's days have the window's lengths, and rise.
 use Rattle.std.proofs.Common.{◌≡◌, ◌∙◌, sym, ℕ, pos, inl, inr, ◌+◌, ◌-◌, ◌<◌, ◌≤◌, Bool, true, false, not, ◌&&◌, nat_lt, cond, List, length, zero, suc, refl, ap, arith, subst, Option, Some, None, Result, Ok, Err, get_or}
 use Rattle.std.specs.List.{list_all, range_with_len, slice_get}
+use Rattle.std.specs.List.Sorted.{IsStrictlyIncreasing}
 use Rattle.std.proofs.lemmas.Bool.{and_parts, cases_order}
 use Rattle.std.proofs.lemmas.Bool.Decides.{nat_tests}
 use Rattle.std.proofs.lemmas.Option.{slice_get_within, slice_get-get_or, get_or_from_slice_get}
@@ -126,6 +127,9 @@ mid-rises days table i j before within =
     let there : i + 1 + (j - (i + 1)) ≡ j = omega arith in
     let last : get_or days.mid (i + 1) 0 ≤ get_or days.mid j 0 = rw there at rest in
     omega (arith, day.0, day.1, day.2)
+
+pub mids-increase : (days : Days) → IsTable days → IsStrictlyIncreasing days.mid
+mids-increase days table = λ k within. let long = table.mid in mid-rises days table k (k + 1) (omega arith) (omega arith)
 
 days_apart : (days : Days) → IsTable days → (t i j : ℕ) → IsDayOf days t i → IsDayOf days t j → i < j → ⊥
 days_apart days table t i j a b before =
