@@ -11,6 +11,7 @@ use crate::clocks::{Clocks, EIGHT, MIDNIGHT, TEN};
 use crate::minute::Minute;
 use crate::period::Period;
 use jiff::civil::{self, Date};
+use roster_model::limits::{DAYS_AFTER, DAYS_BEFORE};
 use std::alloc::{AllocError, Global};
 use std::marker::Model;
 use thiserror::Error;
@@ -99,7 +100,7 @@ impl BaseDays {
     /// How many days the window has.
     pub fn days(&self) -> usize
         ensures value { result ≡ length self.now.eight }
-        ensures window { result ≡ 35 + self.now.month_days + 14 }
+        ensures window { result ≡ DAYS_BEFORE + self.now.month_days + DAYS_AFTER }
         ensures bound { result ≤ 80 }
         ensures table { IsTable self.now }
     {
@@ -161,11 +162,6 @@ impl BaseDays {
     }
 }
 
-// The window's days before the month and after it.
-const DAYS_BEFORE: u32 = 35;
-
-const DAYS_AFTER: u32 = 14;
-
 /// The number of a window's first day, from 0 for 1970-01-01, and how many days it has.
 struct Window {
     first: u32,
@@ -181,7 +177,7 @@ fn window_of(period: Period) -> Window
 {
     Window {
         first: first_day(period),
-        days: DAYS_BEFORE + days_of_month(period) + DAYS_AFTER,
+        days: DAYS_BEFORE as u32 + days_of_month(period) + DAYS_AFTER as u32,
     }
 }
 
@@ -244,5 +240,5 @@ fn first_day(period: Period) -> u32
     ensures to { result ≤ 2_932_132 }
 {
     let first = first_of_month(period).to_plain().to_unix_epoch_day();
-    first as u32 - DAYS_BEFORE
+    first as u32 - DAYS_BEFORE as u32
 }

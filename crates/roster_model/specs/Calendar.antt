@@ -77,7 +77,7 @@ pub record IsRising (days : Days) : Type 0 where
 pub record IsTable (days : Days) : Type 0 where
   pub least : 28 ≤ days.month_days
   pub most : days.month_days ≤ 31
-  pub eight : length days.eight ≡ days_before + days.month_days + days_after
+  pub eight : length days.eight ≡ DAYS_BEFORE + days.month_days + DAYS_AFTER
   pub mid : length days.mid ≡ length days.eight + 1
   pub ten : length days.ten ≡ length days.eight
   pub rising : IsRising days
