@@ -24,8 +24,8 @@ fn days_of(alloc: Global, zone: &str, period: Period) -> Result<BaseDays, Refusa
 {
     match BaseDays::build(alloc, zone, period) {
         Ok(days) => Ok(days),
-        Err(ZoneFault::Refused) => Err(Refusal::Fault(Code::ZoneRefused)),
         Err(ZoneFault::Memory) => Err(Refusal::Memory),
+        Err(_) => Err(Refusal::Fault(Code::ZoneRefused)),
     }
 }
 
