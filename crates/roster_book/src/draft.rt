@@ -55,8 +55,10 @@ impl Draft {
     /// The tables of the first record, which has to be a period, or what is wrong with it.
     pub(crate) fn begin(alloc: Global, command: Command, fields: &ByteRecord) -> Result<Draft, Code>
         ensures { MatchResult result
-            (λ draft. IsDraftOf (command_of command) 2 (fields_of fields.now ∷ []) (tables_of_draft draft))
-            (λ code. code_of (command_of command) [] (fields_of fields.now) ≡ Some (view_of_code code)) }
+            (λ draft. IsDraftOf (command_of command) 2 (fields_of fields.now ∷ [])
+            (tables_of_draft draft))
+            (λ code. code_of (command_of command) [] (fields_of fields.now)
+            ≡ Some (view_of_code code)) }
     {
         Ok(Draft {
             period: period::read_first(command, fields)?,
@@ -76,8 +78,10 @@ impl Draft {
         fields: &ByteRecord,
     ) -> Result<(), Refusal>
         requires records { HasRecords (tables_of_draft self.old) }
-        ensures { (before : List Record) → IsDraftOf (command_of command) row before (tables_of_draft self.old)
-            → Takes (command_of command) row before (fields_of fields.now) (tables_of_draft self.new) result }
+        ensures { (before : List Record)
+            → IsDraftOf (command_of command) row before (tables_of_draft self.old)
+            → Takes (command_of command) row before (fields_of fields.now)
+            (tables_of_draft self.new) result }
     {
         match kind_in(command, fields) {
             None => Err(Refusal::Fault(Code::UnknownKind)),
@@ -104,12 +108,15 @@ impl Draft {
     /// The problem of the records taken, or the row of the first pairing without a duty.
     pub(crate) fn finish(self, alloc: Global) -> Result<Problem, BookFault>
         requires records { HasRecords (tables_of_draft self) }
-        ensures book { (command : Asked) (row : ℕ) (book : List Record) → IsDraftOf command row book (tables_of_draft self)
+        ensures book { (command : Asked) (row : ℕ) (book : List Record)
+            → IsDraftOf command row book (tables_of_draft self)
             → IfOk result (λ problem. IsProblemOf command book problem) }
-        ensures fault { (command : Asked) (row : ℕ) (book : List Record) → IsDraftOf command row book (tables_of_draft self)
+        ensures fault { (command : Asked) (row : ℕ) (book : List Record)
+            → IsDraftOf command row book (tables_of_draft self)
             → IfErr result (λ fault. TellsFirst command book fault) }
         // Memory runs out where no pairing lacks a duty alone.
-        ensures memory { (command : Asked) (row : ℕ) (book : List Record) → IsDraftOf command row book (tables_of_draft self)
+        ensures memory { (command : Asked) (row : ℕ) (book : List Record)
+            → IsDraftOf command row book (tables_of_draft self)
             → IsErrOf result BookFault.Memory → first_fault command book ≡ None }
         ensures device { IfErr result (λ fault. fault ≢ BookFault.Device) }
     {
@@ -188,7 +195,8 @@ impl Draft {
 
     // Whether the pairing at the place has a duty.
     fn has_duty_of(&self, place: usize) -> bool
-        ensures { result ≡ list_any (λ duty. is_held_by_pairing place duty.holder) self.now.duties.items }
+        ensures { result
+            ≡ list_any (λ duty. is_held_by_pairing place duty.holder) self.now.duties.items }
     {
         self.duties.iter().any(|duty| is_of_pairing(duty, place))
     }

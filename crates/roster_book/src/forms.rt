@@ -80,10 +80,11 @@ fn has_graphic_bytes(text: &[u8]) -> bool
     text.iter().all(|c| c.is_ascii_graphic())
 }
 
-/// The text, if it is 1 to 64 visible ASCII bytes.
+/// The text, if it is of visible ASCII bytes, one at least and as many as a zone text may have.
 #[tactic(auto, unfolding(roster_model::specs::Form::is_zone_text))]
 pub(crate) fn zone_text(text: &[u8]) -> Option<&str>
-    ensures { option_map (λ s. s.now) result ≡ (if form.is_zone_text text.now then Some text.now else None) }
+    ensures { option_map (λ s. s.now) result
+        ≡ (if form.is_zone_text text.now then Some text.now else None) }
 {
     if (1..=MOST_ZONE_BYTES).contains(&text.len()) && has_graphic_bytes(text) {
         Some(ascii(text))

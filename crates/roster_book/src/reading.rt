@@ -118,7 +118,8 @@ fn read_all<R: Read>(
 fn next_record<R: Read>(reader: &mut Reader<R>, fields: &mut ByteRecord) -> Result<bool, AllocError>
     requires { IsOpen reader.old }
     ensures record { IfOk result (λ found. found ≡ true → IsOpen reader.new
-        × AreSeen (records_left R.remaining reader.old) (fields_of fields.new ∷ []) (records_left R.remaining reader.new)) }
+        × AreSeen (records_left R.remaining reader.old) (fields_of fields.new ∷ [])
+        (records_left R.remaining reader.new)) }
     ensures end { IfOk result (λ found. found ≡ false
         → IfSome (records_left R.remaining reader.old) (λ left. left ≡ [])) }
 {

@@ -33,7 +33,7 @@ fn long_book(alloc: Global, persons: usize, pairings: usize) -> Result<String, A
     let mut book = format!(in alloc; "period,9997-12\nbase,BASE-OF-THE-ID00,UTC0\n")?;
     for k in 0..persons {
         let crew = format!(in alloc;
-            "crew,CREW-OF-THE-ID{k:02},BASE-OF-THE-ID00,60000,60000,60000\n"
+            "crew,CREW-OF-THE-I{k:03},BASE-OF-THE-ID00,60000,60000,60000\n"
         )?;
         book.push_str(&crew)?;
     }

@@ -4,13 +4,14 @@ ghost use Rattle.std.specs.Prelude.{◌≡◌, ◌^◌, ◌≤◌, ◌<◌, ◌=
 ghost use Rattle.roster_model.specs.Rosters as model;
 
 use roster_legal::is_legal;
+use roster_model::limits::MOST_PERSONS;
 use roster_problem::{Pairing, Problem, Set};
 use std::alloc::{AllocError, Global};
 
 /// The number that stands for open.
 pub(crate) fn open_number(problem: &Problem) -> u16
     ensures value { result ≡ model.open_number problem.now }
-    ensures bound { result ≤ 64 }
+    ensures bound { result ≤ MOST_PERSONS }
 {
     problem.persons().len() as u16
 }

@@ -46,9 +46,9 @@ impl From<AllocError> for ZoneFault {
 
 /// The days of a book's window at one base, as its clocks show them.
 ///
-/// The window reaches from 35 days before the month's first day to 14 days after its last. Its days
-/// are numbered from 0, so the month's first day is day 35. Each day's 00:00, 08:00 and 22:00 and
-/// the next day's 00:00 follow one another, which the type keeps.
+/// The window reaches from [`DAYS_BEFORE`] days before the month's first day to [`DAYS_AFTER`] days
+/// after its last. Its days are numbered from 0, so the month's first day is day `DAYS_BEFORE`. Each
+/// day's 00:00, 08:00 and 22:00 and the next day's 00:00 follow one another, which the type keeps.
 #[derive(Debug, Drop)]
 pub struct BaseDays {
     month_days: usize,

@@ -77,7 +77,8 @@ fn day_number(year: u16, month: u16, day: u16) -> Option<u32>
     requires month_fits { month < 100 }
     requires day_fits { day < 100 }
     ensures { MatchOption result (is_real_date year month day ≡ false)
-        (λ n. (is_real_date year month day ≡ true) × (n ≡ day_number year month day) × (n ≤ 2_932_896)) }
+        (λ n. (is_real_date year month day ≡ true) × (n ≡ day_number year month day)
+        × (n ≤ 2_932_896)) }
 {
     let date = Date::new(year as i16, month as i8, day as i8).ok()?;
     Some(date.to_plain().to_unix_epoch_day() as u32)

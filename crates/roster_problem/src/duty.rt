@@ -36,7 +36,14 @@ impl Model for Duty {
 
     ghost use Rattle.roster_problem.specs.View.{holder_of};
 
-    ghost view = { λ d. record { id = d.id; holder = holder_of d.holder; station = d.station; report = d.report; release = d.release; row = d.row } };
+    ghost view = { λ d. record {
+      id = d.id;
+      holder = holder_of d.holder;
+      station = d.station;
+      report = d.report;
+      release = d.release;
+      row = d.row;
+    } };
 
     ghost invariant = { λ d. d.report < d.release };
 }

@@ -23,7 +23,8 @@ impl Model for Name {
 
     ghost view = { λ n. take n.len n.bytes };
 
-    ghost invariant = { λ n. (n.len ≤ MOST_NAME_BYTES) × (is_identifier (take n.len n.bytes) ≡ true) };
+    ghost invariant = { λ n. (n.len ≤ MOST_NAME_BYTES)
+        × (is_identifier (take n.len n.bytes) ≡ true) };
 }
 
 impl Name {

@@ -25,5 +25,12 @@ impl Model for Person {
 
     ghost Value = { Entry };
 
-    ghost view = { λ p. record { id = p.id; base = p.base; target = p.target; year = p.year; eleven = p.eleven; row = p.row } };
+    ghost view = { λ p. record {
+      id = p.id;
+      base = p.base;
+      target = p.target;
+      year = p.year;
+      eleven = p.eleven;
+      row = p.row;
+    } };
 }

@@ -42,9 +42,12 @@ impl Model for Problem {
     ghost use Rattle.roster_problem.specs.Duties.{IsKept};
     ghost use Rattle.roster_problem.specs.View.{tables_of};
 
-    ghost view = { λ p. tables_of p.period p.bases.items p.persons.items p.pairings.items p.duties.items };
+    ghost view = { λ p.
+        tables_of p.period p.bases.items p.persons.items p.pairings.items p.duties.items };
 
-    ghost invariant = { λ p. IsKept (tables_of p.period p.bases.items p.persons.items p.pairings.items p.duties.items) p.by_pairing };
+    ghost invariant = { λ p. IsKept
+        (tables_of p.period p.bases.items p.persons.items p.pairings.items p.duties.items)
+        p.by_pairing };
 }
 
 impl Problem {
@@ -59,8 +62,10 @@ impl Problem {
         pairings: Vec<Pairing>,
         duties: Vec<Duty>,
     ) -> Result<Problem, AllocError>
-        requires sound { IsSound (tables_of period bases.items persons.items pairings.items (in_order duties.items)) }
-        requires faultless { IsFaultless (tables_of period bases.items persons.items pairings.items (in_order duties.items)) }
+        requires sound { IsSound
+            (tables_of period bases.items persons.items pairings.items (in_order duties.items)) }
+        requires faultless { IsFaultless
+            (tables_of period bases.items persons.items pairings.items (in_order duties.items)) }
         ensures { IfOk result (λ problem. problem
             ≡ tables_of period bases.items persons.items pairings.items (in_order duties.items)) }
     {

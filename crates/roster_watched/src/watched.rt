@@ -63,7 +63,8 @@ impl<R: Read> Read for Watched<R> {
 
     fn read(&mut self, buf: &mut [u8]) -> io::Result<usize>
         ensures bound { ReadsAtMost result buf.new }
-        ensures bytes { ReadConsumes (R.remaining self.old.inner) (R.remaining self.new.inner) result buf.new }
+        ensures bytes { ReadConsumes (R.remaining self.old.inner)
+            (R.remaining self.new.inner) result buf.new }
         ensures goes { OnOk result (has_failed self.new ≡ has_failed self.old) }
         ensures fails { OnErr result (has_failed self.new ≡ true) }
         ensures flushed { is_flushed self.new ≡ is_flushed self.old }
@@ -83,8 +84,10 @@ impl<W: Write> Write for Watched<W> {
 
     fn write(&mut self, buf: &[u8]) -> io::Result<usize>
         ensures bound { WritesAtMost result buf.now }
-        ensures bytes { WriteAppends (W.contents self.old.inner) (W.contents self.new.inner) result buf.now }
-        ensures goes { IfOk result (λ n. has_failed self.new ≡ (has_failed self.old || (n == 0) && nat_lt 0 (length buf.now))) }
+        ensures bytes { WriteAppends (W.contents self.old.inner)
+            (W.contents self.new.inner) result buf.now }
+        ensures goes { IfOk result (λ n. has_failed self.new
+            ≡ (has_failed self.old || (n == 0) && nat_lt 0 (length buf.now))) }
         ensures fails { OnErr result (has_failed self.new ≡ true) }
         ensures flushed { is_flushed self.new ≡ false }
     {

@@ -33,8 +33,10 @@ impl Draft {
     /// The base that a record of one gives, or why it gives none.
     #[tactic(auto, unfolding(roster_model::specs::Faults::code_of_kind, roster_model::specs::records::Base::base_of))]
     pub(crate) fn read_base(&self, alloc: Global, fields: &ByteRecord) -> Result<Base, Refusal>
-        ensures { (command : Command) (row : ℕ) (before : List Record) → IsDraftOf command row before (tables_of_draft self.now)
-            → Reads (code_of_kind BaseRecord before (fields_of fields.now)) (base_of before (fields_of fields.now)) result }
+        ensures { (command : Command) (row : ℕ) (before : List Record)
+            → IsDraftOf command row before (tables_of_draft self.now)
+            → Reads (code_of_kind BaseRecord before (fields_of fields.now))
+            (base_of before (fields_of fields.now)) result }
     {
         if fields.len() != 3 {
             return Err(Refusal::Fault(Code::FieldCount));

@@ -46,8 +46,10 @@ impl Draft {
     /// The person that a record of one gives, or what is wrong with it.
     #[tactic(auto, unfolding(roster_model::specs::Faults::code_of_kind, roster_model::specs::records::Crew::person_of))]
     pub(crate) fn judge_person(&self, row: usize, fields: &ByteRecord) -> Result<Person, Code>
-        ensures { (command : Command) (before : List Record) → IsDraftOf command row before (tables_of_draft self.now)
-            → Judges (code_of_kind CrewRecord before (fields_of fields.now)) (person_of before (fields_of fields.now)) result }
+        ensures { (command : Command) (before : List Record)
+            → IsDraftOf command row before (tables_of_draft self.now)
+            → Judges (code_of_kind CrewRecord before (fields_of fields.now))
+            (person_of before (fields_of fields.now)) result }
     {
         if fields.len() != 6 {
             return Err(Code::FieldCount);

@@ -46,7 +46,8 @@ fn formed(fields: &ByteRecord) -> Option<Form>
 
 // Whether it is released after it reports, no earlier than the last duty was released.
 fn is_in_sequence(last: Option<&Duty>, report: Minute, release: Minute) -> bool
-    ensures value { result ≡ model.is_in_sequence (option_map (λ duty. duty.now) last.entry) report release }
+    ensures value { result
+        ≡ model.is_in_sequence (option_map (λ duty. duty.now) last.entry) report release }
     ensures order { result ≡ true → report < release }
 {
     report < release && last.is_none_or(|duty| duty.release <= report)
@@ -77,7 +78,8 @@ fn is_in_month(days: &BaseDays, minute: Minute) -> bool
 
 // Whether it isn't the first duty of its pairing, or reports at the pairing's base in the month there.
 fn starts_well(last: Option<&Duty>, base: &Base, station: &Name, report: Minute) -> bool
-    ensures { result ≡ model.starts_well (option_map (λ duty. duty.now) last.entry) base.now station.now report }
+    ensures { result
+        ≡ model.starts_well (option_map (λ duty. duty.now) last.entry) base.now station.now report }
 {
     last.is_some() || station.as_bytes() == base.id.as_bytes() && is_in_month(&base.days, report)
 }
@@ -87,8 +89,10 @@ impl Draft {
     #[tactic(auto, unfolding(roster_model::specs::Faults::code_of_kind, roster_model::specs::records::Duty::duty_of))]
     pub(crate) fn judge_duty(&self, row: usize, fields: &ByteRecord) -> Result<Duty, Code>
         requires { HasRecords (tables_of_draft self.now) }
-        ensures { (command : Command) (before : List Record) → IsDraftOf command row before (tables_of_draft self.now)
-            → Judges (code_of_kind DutyRecord before (fields_of fields.now)) (duty_of before (fields_of fields.now)) result }
+        ensures { (command : Command) (before : List Record)
+            → IsDraftOf command row before (tables_of_draft self.now)
+            → Judges (code_of_kind DutyRecord before (fields_of fields.now))
+            (duty_of before (fields_of fields.now)) result }
     {
         if fields.len() != 7 {
             return Err(Code::FieldCount);

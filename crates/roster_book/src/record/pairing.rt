@@ -28,8 +28,10 @@ impl Draft {
     /// The pairing that a record of one gives, or what is wrong with it.
     #[tactic(auto, unfolding(roster_model::specs::Faults::code_of_kind, roster_model::specs::records::Pairing::pairing_of))]
     pub(crate) fn judge_pairing(&self, row: usize, fields: &ByteRecord) -> Result<Pairing, Code>
-        ensures { (command : Command) (before : List Record) → IsDraftOf command row before (tables_of_draft self.now)
-            → Judges (code_of_kind PairingRecord before (fields_of fields.now)) (pairing_of before (fields_of fields.now)) result }
+        ensures { (command : Command) (before : List Record)
+            → IsDraftOf command row before (tables_of_draft self.now)
+            → Judges (code_of_kind PairingRecord before (fields_of fields.now))
+            (pairing_of before (fields_of fields.now)) result }
     {
         if fields.len() != 4 {
             return Err(Code::FieldCount);

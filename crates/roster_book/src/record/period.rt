@@ -22,7 +22,8 @@ use roster_instants::Period;
 fn judge(fields: &ByteRecord) -> Result<Period, Code>
     ensures { Judges (first_unmet ((model_codes.FieldCount, length (fields_of fields.now) == 2)
         ∷ (model_codes.FieldForm, is_some (period_of (field (fields_of fields.now) 1))) ∷ []))
-        (unwrap_or (period_of (field (fields_of fields.now) 1)) (record { year = 0; month = 0 })) result }
+        (unwrap_or (period_of (field (fields_of fields.now) 1)) (record { year = 0; month = 0 }))
+        result }
 {
     if fields.len() != 2 {
         return Err(Code::FieldCount);
@@ -43,7 +44,8 @@ pub(crate) fn read_first(command: Command, fields: &ByteRecord) -> Result<Period
 
 /// What is wrong with a period that isn't the first record.
 pub(crate) fn fault_of_later(fields: &ByteRecord) -> Code
-    ensures { (command : Asked) (before : List Record) → 0 < length before → IsFaultlessSoFar command before
+    ensures { (command : Asked) (before : List Record) → 0 < length before
+        → IsFaultlessSoFar command before
         → code_of_kind PeriodRecord before (fields_of fields.now) ≡ Some (view_of_code result) }
 {
     match judge(fields) {

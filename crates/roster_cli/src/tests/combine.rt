@@ -2,6 +2,7 @@
 
 use super::{long_book, problem_of};
 use roster_combine::solve;
+use roster_model::limits::{MOST_PAIRINGS, MOST_PERSONS};
 use std::test::Fail;
 
 // Two pairings that share four hours, the second of lesser penalty.
@@ -36,12 +37,12 @@ fn the_best_roster_is_found(rt: HostRuntime) -> Result<(), Fail> {
 // more.
 #[test]
 fn as_many_pairings_or_persons_as_may_be(rt: HostRuntime) -> Result<(), Fail> {
-    let book = long_book(rt.alloc(), 0, 256)?;
+    let book = long_book(rt.alloc(), 0, MOST_PAIRINGS)?;
     let problem = problem_of(rt.alloc(), book.as_bytes())?;
     let roster = solve(rt.alloc(), &problem)?;
-    assert_eq!(rt; roster.places.as_slice(), [0u16; 256].as_slice());
+    assert_eq!(rt; roster.places.as_slice(), [0u16; MOST_PAIRINGS].as_slice());
     assert_eq!(rt; roster.cost, 256_000_000_000);
-    let book = long_book(rt.alloc(), 64, 1)?;
+    let book = long_book(rt.alloc(), MOST_PERSONS, 1)?;
     let problem = problem_of(rt.alloc(), book.as_bytes())?;
     let roster = solve(rt.alloc(), &problem)?;
     assert_eq!(rt; roster.places.as_slice(), [0u16].as_slice());

@@ -4,6 +4,7 @@ ghost use Rattle.std.specs.Prelude.{◌<◌, All, IfSome, length};
 
 use super::{long_book, problem_of};
 use roster_legal::{first_broken, is_legal, merge, part_of_legal_is_legal};
+use roster_model::limits::{MOST_PAIRINGS, MOST_PERSONS};
 use roster_problem::{Problem, Rule, Set};
 use std::test::Fail;
 
@@ -77,13 +78,17 @@ fn duties_are_merged_in_their_order(rt: HostRuntime) -> Result<(), Fail> {
 
 #[test]
 fn as_many_duties_as_pairings(rt: HostRuntime) -> Result<(), Fail> {
-    let book = long_book(rt.alloc(), 64, 256)?;
+    let book = long_book(rt.alloc(), MOST_PERSONS, MOST_PAIRINGS)?;
     let problem = problem_of(rt.alloc(), book.as_bytes())?;
-    assert_eq!(rt; problem.persons().len(), 64);
-    let set = set_of(&problem, &[63; 256], 63).ok_or("a set")?;
-    assert_eq!(rt; merge(rt.alloc(), &problem, 63, &set)?.len(), 256);
-    let broken = first_broken(rt.alloc(), &problem, 63, &set)?;
+    assert_eq!(rt; problem.persons().len(), MOST_PERSONS);
+    let last = MOST_PERSONS - 1;
+    let set = set_of(&problem, &[last as u16; MOST_PAIRINGS], last).ok_or("a set")?;
+    assert_eq!(rt;
+        merge(rt.alloc(), &problem, last, &set)?.len(),
+        MOST_PAIRINGS
+    );
+    let broken = first_broken(rt.alloc(), &problem, last, &set)?;
     assert!(rt; matches!(broken, Some(Rule::Overlap)));
-    assert!(rt; !is_legal(rt.alloc(), &problem, 63, &set)?);
+    assert!(rt; !is_legal(rt.alloc(), &problem, last, &set)?);
     Ok(())
 }

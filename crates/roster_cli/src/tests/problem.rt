@@ -2,6 +2,7 @@
 
 use super::{BOOK, long_book, problem_of};
 use roster_book::{Holder, Places, duties_in_order};
+use roster_model::limits::{MOST_PAIRINGS, MOST_PERSONS};
 use std::test::Fail;
 
 #[test]
@@ -41,18 +42,19 @@ fn tables_are_read(rt: HostRuntime) -> Result<(), Fail> {
 
 #[test]
 fn entries_are_found_by_their_places(rt: HostRuntime) -> Result<(), Fail> {
-    let book = long_book(rt.alloc(), 64, 256)?;
+    let book = long_book(rt.alloc(), MOST_PERSONS, MOST_PAIRINGS)?;
     let problem = problem_of(rt.alloc(), book.as_bytes())?;
-    assert_eq!(rt; problem.persons().len(), 64);
-    assert_eq!(rt; problem.pairings().len(), 256);
-    let person = problem.person(63);
-    assert_eq!(rt; person.id.as_bytes(), b"CREW-OF-THE-ID63".as_slice());
-    let pairing = problem.pairing(255);
+    assert_eq!(rt; problem.persons().len(), MOST_PERSONS);
+    assert_eq!(rt; problem.pairings().len(), MOST_PAIRINGS);
+    let last = MOST_PERSONS - 1;
+    let person = problem.person(last);
+    assert_eq!(rt; person.id.as_bytes(), b"CREW-OF-THE-I063".as_slice());
+    let pairing = problem.pairing(MOST_PAIRINGS - 1);
     assert_eq!(rt; pairing.id.as_bytes(), b"PAIRING-ID-A0255".as_slice());
-    assert_eq!(rt; pairing.row, 322);
-    let home = problem.home(63);
+    assert_eq!(rt; pairing.row, 2 + MOST_PERSONS + MOST_PAIRINGS);
+    let home = problem.home(last);
     assert_eq!(rt; home.id.as_bytes(), b"BASE-OF-THE-ID00".as_slice());
-    assert_eq!(rt; problem.days_of(63).month_days(), 31);
+    assert_eq!(rt; problem.days_of(last).month_days(), 31);
     Ok(())
 }
 

@@ -3,6 +3,7 @@
 use super::{BOOK, REPORT, long_book, problem_of};
 use roster_book::{Problem, Watched};
 use roster_combine::solve;
+use roster_model::limits::{MOST_PAIRINGS, MOST_PERSONS};
 use roster_report::write_report;
 use std::alloc::Global;
 use std::test::Fail;
@@ -25,10 +26,10 @@ fn a_report_is_written(rt: HostRuntime) -> Result<(), Fail> {
 
 #[test]
 fn as_many_pairings_as_may_be(rt: HostRuntime) -> Result<(), Fail> {
-    let book = long_book(rt.alloc(), 0, 256)?;
+    let book = long_book(rt.alloc(), 0, MOST_PAIRINGS)?;
     let problem = problem_of(rt.alloc(), book.as_bytes())?;
     let mut want = format!(in rt.alloc(); "ROSTER 9997-12\nCOST 256000000000\nOPEN")?;
-    for p in 0..256 {
+    for p in 0..MOST_PAIRINGS {
         let name = format!(in rt.alloc(); " PAIRING-ID-A{p:04}")?;
         want.push_str(&name)?;
     }
@@ -40,13 +41,13 @@ fn as_many_pairings_as_may_be(rt: HostRuntime) -> Result<(), Fail> {
 
 #[test]
 fn as_many_persons_as_may_be(rt: HostRuntime) -> Result<(), Fail> {
-    let book = long_book(rt.alloc(), 64, 1)?;
+    let book = long_book(rt.alloc(), MOST_PERSONS, 1)?;
     let problem = problem_of(rt.alloc(), book.as_bytes())?;
     let mut want = format!(in rt.alloc();
-        "ROSTER 9997-12\nCOST 0\nCREW CREW-OF-THE-ID00 0 480 480 480 0 PAIRING-ID-A0000\n"
+        "ROSTER 9997-12\nCOST 0\nCREW CREW-OF-THE-I000 0 480 480 480 0 PAIRING-ID-A0000\n"
     )?;
-    for k in 1..64 {
-        let line = format!(in rt.alloc(); "CREW CREW-OF-THE-ID{k:02} 0 0 0 0 0 -\n")?;
+    for k in 1..MOST_PERSONS {
+        let line = format!(in rt.alloc(); "CREW CREW-OF-THE-I{k:03} 0 0 0 0 0 -\n")?;
         want.push_str(&line)?;
     }
     want.push_str("OPEN -\n")?;
