@@ -3,8 +3,14 @@
 //! `read_minute` and `Period::read` read exactly the texts that `roster_model`'s calendar gives an
 //! instant or a month, `common` is the time that two intervals share, and `BaseDays::build` makes
 //! the table of local days that a zone text stands for, or tells why it stands for none. Only the
-//! table takes memory, and nothing is asked for before the text is judged. `laws` ties the
-//! definition of these days to `jiff`'s own conversion, whatever zone a text stands for.
+//! table takes memory, and nothing is asked for before the text is judged. In reading order:
+//!
+//! - `text`: shapes of texts, and the digits in them
+//! - `minute`: instants to the minute
+//! - `period`: months
+//! - `clocks`: what the clocks of a place show, by its zone text
+//! - `days`: the local days round a month at a base
+//! - `laws`: what ties the definition of these days to `jiff`'s own conversion
 #![tactic(auto)]
 
 mod clocks;
