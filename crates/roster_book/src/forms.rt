@@ -38,7 +38,7 @@ fn unsigned_part(text: &[u8]) -> &[u8]
     }
 }
 
-/// Whether the text is a minus, which may be left out, and 1 to 12 digits.
+/// Whether the text is a minus, which may be left out, and 1 to [`MOST_DIGITS`] digits.
 #[tactic(auto, unfolding(roster_model::specs::Form::is_number))]
 pub(crate) fn is_number(text: &[u8]) -> bool
     ensures { result ≡ form.is_number text.now }

@@ -101,7 +101,7 @@ impl BaseDays {
     pub fn days(&self) -> usize
         ensures value { result ≡ length self.now.eight }
         ensures window { result ≡ DAYS_BEFORE + self.now.month_days + DAYS_AFTER }
-        ensures bound { result ≤ 80 }
+        ensures bound { result ≤ DAYS_BEFORE + 31 + DAYS_AFTER }
         ensures table { IsTable self.now }
     {
         self.eight.len()

@@ -2,7 +2,8 @@
 
 ghost use Rattle.std.specs.Prelude.{◌≡◌, ◌+◌, ◌*◌, ◌/◌, ◌≤◌, ◌<◌, pos, ℕ, true, false, MatchOption};
 ghost use Rattle.std.specs.Int.{is_in_range};
-ghost use Rattle.roster_model.specs.Calendar.{common as minutes_in_common, day_number, is_real_date, instant_of};
+ghost use Rattle.roster_model.specs.Calendar as calendar;
+ghost use Rattle.roster_model.specs.Calendar.{day_number, is_real_date, instant_of};
 
 use crate::text::{has_shape, is_in_range, number_at};
 use jiff::civil::Date;
@@ -61,8 +62,8 @@ impl Minute {
 pub fn common(a: Minute, b: Minute, c: Minute, d: Minute) -> i64
     requires first { a ≤ b }
     requires second { c ≤ d }
-    ensures value { result ≡ pos (minutes_in_common a b c d) }
-    ensures bound { minutes_in_common a b c d ≤ 5_000_000_000 }
+    ensures value { result ≡ pos (calendar.common a b c d) }
+    ensures bound { calendar.common a b c d ≤ 5_000_000_000 }
 {
     let from = a.get().max(c.get());
     let to = b.get().min(d.get());

@@ -60,7 +60,8 @@ fn has_identifier_bytes(text: &[u8]) -> bool
         .all(|c| c.is_ascii_alphanumeric() || *c == b'_' || *c == b'-')
 }
 
-/// Whether the text is 1 to 16 ASCII letters, digits, `_` and `-`, the first a letter or a digit.
+/// Whether the text is 1 to [`MOST_NAME_BYTES`] ASCII letters, digits, `_` and `-`, the first a letter
+/// or a digit.
 #[tactic(auto, unfolding(roster_model::specs::Form::is_identifier))]
 pub fn is_identifier(text: &[u8]) -> bool
     ensures value { result ≡ form.is_identifier text.now }

@@ -10,7 +10,7 @@ pub struct Pairing {
     pub id: Name,
     /// The place of its base.
     pub base: usize,
-    /// What it costs to leave the pairing open, from 0 to 1000000000.
+    /// What it costs to leave the pairing open, from 0 to `MOST_PENALTY`.
     pub penalty: u32,
     /// The row of the record.
     pub row: usize,

@@ -10,11 +10,11 @@ pub struct Person {
     pub id: Name,
     /// The place of the home base.
     pub base: usize,
-    /// Minutes of flight that are wanted in the month, from 0 to 60000.
+    /// Minutes of flight that are wanted in the month, from 0 to `MOST_MINUTES`.
     pub target: u32,
-    /// Minutes of flight in the calendar year before the month, from 0 to 60000.
+    /// Minutes of flight in the calendar year before the month, from 0 to `MOST_MINUTES`.
     pub year: u32,
-    /// Minutes of flight in the eleven calendar months before the month, from 0 to 60000.
+    /// Minutes of flight in the eleven calendar months before the month, from 0 to `MOST_MINUTES`.
     pub eleven: u32,
     /// The row of the record.
     pub row: usize,

@@ -2,7 +2,7 @@
 
 ghost use Rattle.std.specs.Prelude.{◌≡◌, ◌-◌, ◌≤◌, ◌<◌, length};
 ghost use Rattle.std.specs.List.{range_with_len, sum_by};
-ghost use Rattle.roster_model.specs.Calendar.{common as minutes_in_common};
+ghost use Rattle.roster_model.specs.Calendar as calendar;
 ghost use Rattle.roster_model.specs.Sums as sums;
 
 use roster_instants::{BaseDays, Minute, common};
@@ -12,7 +12,7 @@ use roster_problem::{Duty, DutyList};
 /// The minutes that a duty shares with the time from one instant to another.
 fn shared(duty: &Duty, start: Minute, end: Minute) -> u64
     requires { start ≤ end }
-    ensures value { result ≡ minutes_in_common duty.now.report duty.now.release start end }
+    ensures value { result ≡ calendar.common duty.now.report duty.now.release start end }
     ensures bound { result ≤ 5_000_000_000 }
 {
     common(duty.report, duty.release, start, end) as u64
@@ -22,7 +22,7 @@ fn shared(duty: &Duty, start: Minute, end: Minute) -> u64
 fn duty_between(list: &DutyList, start: Minute, end: Minute) -> u64
     requires { start ≤ end }
     ensures { result
-        ≡ sum_by (λ duty. minutes_in_common duty.report duty.release start end) list.now }
+        ≡ sum_by (λ duty. calendar.common duty.report duty.release start end) list.now }
 {
     let mut total = 0;
     for i in 0..list.len() {

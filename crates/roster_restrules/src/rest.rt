@@ -1,13 +1,14 @@
 //! The rest between two duties.
 
 ghost use Rattle.std.specs.Prelude.{◌≡◌, ◌-◌, ◌≤◌, ◌↔◌, ◌||◌, true, IsTrue, max, pos};
-ghost use Rattle.roster_model.specs.Rules.Rest.{is_of_pairing as belongs_to_pairing, least_rest as minutes_of_rest, IsRested, KeepsRest};
+ghost use Rattle.roster_model.specs.Rules.Rest as model;
+ghost use Rattle.roster_model.specs.Rules.Rest.{IsRested, KeepsRest};
 
 use roster_problem::{Base, Duty, DutyList, Holder};
 
 /// The least rest before a duty for a person with this home, in minutes.
 fn least_rest(home: &Base, next: &Duty) -> i64
-    ensures { result ≡ pos (minutes_of_rest home.now next.now) }
+    ensures { result ≡ pos (model.least_rest home.now next.now) }
 {
     if next.station.as_bytes() == home.id.as_bytes() {
         720
@@ -20,8 +21,8 @@ fn least_rest(home: &Base, next: &Duty) -> i64
 /// before it, and at least 12 hours where the next reports at home, 10 hours elsewhere.
 pub fn rest_needed(prev: &Duty, next: &Duty, home: &Base) -> i64
     ensures value { result
-        ≡ pos (max (prev.now.release - prev.now.report) (minutes_of_rest home.now next.now)) }
-    ensures bound { max (prev.now.release - prev.now.report) (minutes_of_rest home.now next.now)
+        ≡ pos (max (prev.now.release - prev.now.report) (model.least_rest home.now next.now)) }
+    ensures bound { max (prev.now.release - prev.now.report) (model.least_rest home.now next.now)
         ≤ 5_000_000_000 }
 {
     let worked = prev.release.get() - prev.report.get();
@@ -37,7 +38,7 @@ fn is_rested(home: &Base, prev: &Duty, next: &Duty) -> bool
 
 /// Whether the duty belongs to a pairing.
 fn is_of_pairing(duty: &Duty) -> bool
-    ensures { result ≡ belongs_to_pairing duty.now.holder }
+    ensures { result ≡ model.is_of_pairing duty.now.holder }
 {
     match duty.holder {
         Holder::Pairing(_) => true,
@@ -46,8 +47,8 @@ fn is_of_pairing(duty: &Duty) -> bool
 
 /// Whether the rest between the two duties, if one is due, is long enough.
 fn keeps_rest(home: &Base, prev: &Duty, next: &Duty) -> bool
-    ensures { IsTrue result ↔ ((belongs_to_pairing prev.now.holder
-        || belongs_to_pairing next.now.holder) ≡ true → IsRested home.now prev.now next.now) }
+    ensures { IsTrue result ↔ ((model.is_of_pairing prev.now.holder
+        || model.is_of_pairing next.now.holder) ≡ true → IsRested home.now prev.now next.now) }
 {
     let is_due = is_of_pairing(prev) || is_of_pairing(next);
     !is_due || is_rested(home, prev, next)
