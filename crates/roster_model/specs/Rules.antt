@@ -3,6 +3,7 @@
 pub mod Base
 pub mod Overlap
 pub mod Rest
+pub mod Recovery
 use Rattle.std.specs.Prelude.{◌≡◌, ◌<◌, ◌⊎◌, ℕ, Bool, ◌==◌, List, [], Option, Some, None, codes}
 use Rattle.std.specs.List.{filter, list_any}
 use Rattle.roster_model.specs.records.Duty.{Duty, Holder, OfPairing}
@@ -10,6 +11,7 @@ use Rattle.roster_model.specs.Problem.{Problem, home_of}
 use Rattle.roster_model.specs.Rules.Base.{KeepsBase}
 use Rattle.roster_model.specs.Rules.Overlap.{NoOverlap}
 use Rattle.roster_model.specs.Rules.Rest.{KeepsRest}
+use Rattle.roster_model.specs.Rules.Recovery.{KeepsRecovery}
 
 -- whether the pairing at place p is in the set
 abbrev pub is_among : List ℕ → ℕ → Bool
@@ -29,24 +31,28 @@ pub data Rule : Type 0 where
   BaseRule : Rule
   OverlapRule : Rule
   RestRule : Rule
+  RecoveryRule : Rule
 
 -- how many rules are judged before it
 abbrev pub rank_of : Rule → ℕ
 rank_of BaseRule = 0
 rank_of OverlapRule = 1
 rank_of RestRule = 2
+rank_of RecoveryRule = 3
 
 -- the word that tells it
 abbrev pub word_of_rule : Rule → List ℕ
 word_of_rule BaseRule = codes "BASE"
 word_of_rule OverlapRule = codes "OVERLAP"
 word_of_rule RestRule = codes "REST"
+word_of_rule RecoveryRule = codes "RECOVERY"
 
 -- what the rule says of person k with the set
 abbrev pub Holds : Problem → ℕ → List ℕ → Rule → Type 0
 Holds problem k set BaseRule = KeepsBase problem k set
 Holds problem k set OverlapRule = NoOverlap (duty_list problem k set)
 Holds problem k set RestRule = KeepsRest (home_of problem k) (duty_list problem k set)
+Holds problem k set RecoveryRule = KeepsRecovery (home_of problem k).days (duty_list problem k set)
 
 -- A set is legal for a person where it is empty or no rule is broken.
 abbrev pub IsLegal : Problem → ℕ → List ℕ → Type 0

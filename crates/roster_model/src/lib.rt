@@ -1,10 +1,12 @@
 //! What a roster is: the records of a book, its first fault, the problem that it gives, the rules,
 //! costs, the best roster and the texts.
 //!
-//! This crate has no functions: its constants are the limits, and the rest is definitions in `specs`.
+//! This crate has no functions: its constants are the limits and the rules' numbers, and the rest is
+//! definitions in `specs`.
 //! In reading order:
 //!
 //! - `limits`: how many, how long and how much, each number once
+//! - `profile`: the numbers of the rules
 //! - `Form`: what the bytes of a field must look like
 //! - `Calendar`: instants, periods, and the days round a month
 //! - `Clocks`: what the clocks show where a zone text is the rule
@@ -22,3 +24,4 @@
 #![tactic(auto)]
 
 pub mod limits;
+pub mod profile;

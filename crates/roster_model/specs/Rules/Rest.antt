@@ -1,13 +1,14 @@
 -- Rest: ORO.FTL.235(a)(1) and (b) of Regulation (EU) No 83/2014 in this project's profile.
 use Rattle.std.specs.Prelude.{◌≡◌, ℕ, ◌+◌, ◌-◌, ◌≤◌, true, ◌||◌, if◌then◌else◌, List, Some, slice_get, max, Bool}
 use Rattle.std.specs.Str.{bytes_eq}
+use Rattle.roster_model.specs.declared.profile.TheConstants.{REST_AT_HOME, REST_AWAY}
 use Rattle.roster_model.specs.records.Base.{Base}
 use Rattle.roster_model.specs.records.Duty.{Duty, Holder, OfPairing}
 
--- The least rest before a duty, in minutes: 12 hours where it reports at home, and 10 hours away
--- from base. (ORO.FTL.235(a)(1) and (b).)
+-- The least rest before a duty, in minutes: the longer one where it reports at home, and the shorter
+-- one away from base. (ORO.FTL.235(a)(1) and (b).)
 abbrev pub least_rest : Base → Duty → ℕ
-least_rest home next = if bytes_eq next.station home.id then 720 else 600
+least_rest home next = if bytes_eq next.station home.id then REST_AT_HOME else REST_AWAY
 
 -- Between a and b lies a rest at least as long as the duty before it and the least rest.
 abbrev pub IsRested : Base → Duty → Duty → Type 0
