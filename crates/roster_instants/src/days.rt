@@ -1,7 +1,7 @@
 //! The local days of a base round a month.
 
 ghost use Rattle.std.specs.Prelude.{◌≡◌, ◌+◌, ◌<◌, ◌≤◌, ℕ, true, pos, Some, Ok, IfOk, IfErr, MatchOption, nat_lt, position, length, slice_get};
-ghost use Rattle.std.specs.List.Sorted.{IsStrictlyIncreasing};
+ghost use Rattle.std.specs.List.Sorted.{IsPartitionPoint, IsStrictlyIncreasing};
 ghost use Rattle.jiff_core.specs.Date.{IsYmd};
 ghost use Rattle.roster_model.specs.Calendar.{IsTable, IsDayOf, days_of_month, days_of_window, first_day};
 ghost use Rattle.roster_model.specs.Zone.{days_of_zone, has_minutes, rises, table_of};
@@ -127,6 +127,13 @@ impl BaseDays {
         self.mid[i]
     }
 
+    /// The instant at which the month begins.
+    pub fn month_start(&self) -> Minute
+        ensures { slice_get self.now.mid DAYS_BEFORE ≡ Some result }
+    {
+        self.mid[DAYS_BEFORE]
+    }
+
     /// The instant of 08:00 on day `i`.
     pub fn eight(&self, i: usize) -> Minute
         requires { i < length self.now.eight }
@@ -143,6 +150,16 @@ impl BaseDays {
         ensures table { IsTable self.now }
     {
         self.ten[i]
+    }
+
+    /// How many of the window's days have their 08:00 by the instant; they are its first ones.
+    pub fn mornings_by(&self, instant: Minute) -> usize
+        ensures value { IsPartitionPoint (λ eight. eight ≤ instant) (λ eight. instant < eight)
+            self.now.eight result }
+        ensures bound { result ≤ length self.now.eight }
+        ensures table { IsTable self.now }
+    {
+        self.eight.partition_point(|eight| *eight <= instant)
     }
 
     /// The day, from 0, that holds the instant, if one of the window does.

@@ -78,10 +78,22 @@ fn the_days_of_a_month_at_utc(rt: HostRuntime) {
         assert!(rt; i <= days.days());
         assert_eq!(rt; days.mid(i).get(), midnight.get(), "{text}");
     }
+    assert_eq!(rt; days.month_start().get(), days.mid(35).get());
     assert_eq!(rt; days.eight(0).get(), days.mid(0).get() + 480);
     assert_eq!(rt; days.ten(0).get(), days.mid(0).get() + 1320);
     assert_eq!(rt; days.eight(79).get(), days.mid(80).get() - 960);
     assert_eq!(rt; days.ten(79).get(), days.mid(80).get() - 120);
+    for (text, mornings) in [
+        ("2024-01-25T09:00Z", 0),
+        ("2024-01-26T07:59Z", 0),
+        ("2024-01-26T08:00Z", 1),
+        ("2024-03-01T08:00Z", 36),
+        ("2024-04-14T08:00Z", 80),
+        ("2024-04-20T00:00Z", 80),
+    ] {
+        let instant = at(&rt, text);
+        assert_eq!(rt; days.mornings_by(instant), mornings, "{text}");
+    }
 }
 
 #[test]

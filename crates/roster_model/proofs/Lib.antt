@@ -1,3 +1,4 @@
+pub mod OrderLemmas
 pub mod PlacesLemmas
 pub mod SetLemmas
 pub mod WindowLemmas

@@ -2,7 +2,7 @@
 use Rattle.std.proofs.Common.{◌≡◌, ◌∙◌, sym, ℕ, pos, inl, inr, ◌+◌, ◌-◌, ◌<◌, ◌≤◌, Bool, true, false, not, ◌&&◌, nat_lt, cond, List, length, zero, suc, refl, ap, arith, subst, Option, Some, None, Result, Ok, Err, get_or}
 use Rattle.std.specs.List.{list_all, range_with_len, slice_get}
 use Rattle.std.specs.List.Sorted.{IsStrictlyIncreasing}
-use Rattle.std.proofs.lemmas.Bool.{and_parts, cases_order}
+use Rattle.std.proofs.lemmas.Bool.{and_parts, cases_eq, cases_order}
 use Rattle.std.proofs.lemmas.Bool.Decides.{nat_tests}
 use Rattle.std.proofs.lemmas.Option.{slice_get_within, slice_get-get_or, get_or_from_slice_get}
 use Rattle.std.proofs.lemmas.List.FromFn.{length-map-range_with_len, get_or-map-range_with_len}
@@ -119,14 +119,47 @@ mid-later days table i (suc n) within =
     let day = day-rises days table (i + n) (omega arith) in
     rw next (omega (arith, day.0, day.1, day.2))
 
--- so a later day begins later.
+-- so a day has ended where a later one begins,
+mid-reached : (days : Days) → IsTable days → (i j : ℕ) → i < j → j ≤ length days.eight → get_or days.mid (i + 1) 0 ≤ get_or days.mid j 0
+mid-reached days table i j before within =
+    let rest = mid-later days table (i + 1) (j - (i + 1)) (omega arith) in
+    let there : i + 1 + (j - (i + 1)) ≡ j = omega arith in
+    rw there at rest
+
+-- a later day begins later,
 pub mid-rises : (days : Days) → IsTable days → (i j : ℕ) → i < j → j ≤ length days.eight → get_or days.mid i 0 < get_or days.mid j 0
 mid-rises days table i j before within =
     let day = day-rises days table i (omega arith) in
-    let rest = mid-later days table (i + 1) (j - (i + 1)) (omega arith) in
-    let there : i + 1 + (j - (i + 1)) ≡ j = omega arith in
-    let last : get_or days.mid (i + 1) 0 ≤ get_or days.mid j 0 = rw there at rest in
+    let last = mid-reached days table i j before within in
     omega (arith, day.0, day.1, day.2)
+
+-- a later day has its 08:00 and its 22:00 later,
+pub eight-later : (days : Days) → IsTable days → (i j : ℕ) → i ≤ j → j < length days.eight → get_or days.eight i 0 ≤ get_or days.eight j 0
+eight-later days table i j order within =
+    elim (cases_eq i j) [
+      | inl same ↦ rw same (omega arith)
+      | inr apart ↦
+          let first = day-rises days table i (omega arith) in
+          let between = mid-reached days table i j (omega arith) (omega arith) in
+          omega (arith, first.1, first.2, (day-rises days table j within).0)
+    ]
+
+pub ten-later : (days : Days) → IsTable days → (i j : ℕ) → i ≤ j → j < length days.eight → get_or days.ten i 0 ≤ get_or days.ten j 0
+ten-later days table i j order within =
+    elim (cases_eq i j) [
+      | inl same ↦ rw same (omega arith)
+      | inr apart ↦
+          let last = day-rises days table j within in
+          let between = mid-reached days table i j (omega arith) (omega arith) in
+          omega (arith, (day-rises days table i (omega arith)).2, last.0, last.1)
+    ]
+
+-- and a night ends after it begins.
+pub night-lasts : (days : Days) → IsTable days → (i : ℕ) → i + 1 < length days.eight → get_or days.ten i 0 < get_or days.eight (i + 1) 0
+night-lasts days table i within =
+    let first = day-rises days table i (omega arith) in
+    let last = day-rises days table (i + 1) within in
+    omega (arith, first.2, last.0)
 
 pub mids-increase : (days : Days) → IsTable days → IsStrictlyIncreasing days.mid
 mids-increase days table = λ k within. let long = table.mid in mid-rises days table k (k + 1) (omega arith) (omega arith)
@@ -137,9 +170,7 @@ days_apart days table t i j a b before =
     let length_is = table.mid in
     let end = get_or_from_slice_get days.mid (i + 1) a.ends 0 a.next in
     let begin = get_or_from_slice_get days.mid j b.begins 0 b.first in
-    let rest = mid-later days table (i + 1) (j - (i + 1)) (omega arith) in
-    let there : i + 1 + (j - (i + 1)) ≡ j = omega arith in
-    let last : get_or days.mid (i + 1) 0 ≤ get_or days.mid j 0 = rw there at rest in
+    let last = mid-reached days table i j before (omega arith) in
     let late = a.before in
     let early = b.from in
     omega arith

@@ -19,6 +19,7 @@ abbrev pub rule_of : Rule → judged.Rule
 rule_of rules.Base = judged.BaseRule
 rule_of rules.Overlap = judged.OverlapRule
 rule_of rules.Rest = judged.RestRule
+rule_of rules.Recovery = judged.RecoveryRule
 
 -- the tables as one problem
 abbrev pub tables_of : Period → List Base → List Person → List Pairing → List model.Duty → Problem

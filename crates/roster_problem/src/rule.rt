@@ -12,13 +12,15 @@ pub enum Rule {
     Overlap,
     /// Between two duties lies enough rest.
     Rest,
+    /// Recurrent rests follow one another soon enough.
+    Recovery,
 }
 
 impl Rule {
     ghost use Rattle.roster_problem.specs.View.{rule_of};
 
     /// All rules, in the order in which they are judged.
-    pub const ALL: [Rule; 3] = [Rule::Base, Rule::Overlap, Rule::Rest];
+    pub const ALL: [Rule; 4] = [Rule::Base, Rule::Overlap, Rule::Rest, Rule::Recovery];
 
     /// The word that tells it.
     pub fn word(self) -> &'static str
@@ -28,6 +30,7 @@ impl Rule {
             Rule::Base => "BASE",
             Rule::Overlap => "OVERLAP",
             Rule::Rest => "REST",
+            Rule::Recovery => "RECOVERY",
         }
     }
 }

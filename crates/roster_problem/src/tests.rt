@@ -23,11 +23,12 @@ fn identifiers_are_told(rt: HostRuntime) {
 
 #[test]
 fn rules_have_words(rt: HostRuntime) {
-    assert_eq!(rt; Rule::ALL.len(), 3);
+    assert_eq!(rt; Rule::ALL.len(), 4);
     for (rule, word) in [
         (Rule::ALL[0], "BASE"),
         (Rule::ALL[1], "OVERLAP"),
         (Rule::ALL[2], "REST"),
+        (Rule::ALL[3], "RECOVERY"),
     ] {
         assert_eq!(rt; rule.word(), word);
     }

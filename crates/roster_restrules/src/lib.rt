@@ -1,11 +1,15 @@
 //! Rest between duties, after ORO.FTL.235 of Regulation (EU) No 83/2014.
 //!
 //! `rest_needed` tells how long the rest between two duties has to be, and `rest_ok` whether a
-//! person's list keeps it between any two neighbours. Neither takes memory.
+//! person's list keeps it between any two neighbours. `is_recurrent` tells whether the time between two
+//! duties is a recurrent rest, and `recovery_ok` whether such rests follow one another soon enough.
+//! None of them takes memory.
 #![tactic(auto)]
 
+mod recovery;
 mod rest;
 
+pub use recovery::{is_recurrent, recovery_ok};
 pub use rest::{rest_needed, rest_ok};
 
 #[cfg(test)]

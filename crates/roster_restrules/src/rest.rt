@@ -4,6 +4,7 @@ ghost use Rattle.std.specs.Prelude.{◌≡◌, ◌-◌, ◌≤◌, ◌↔◌, �
 ghost use Rattle.roster_model.specs.Rules.Rest as model;
 ghost use Rattle.roster_model.specs.Rules.Rest.{IsRested, KeepsRest};
 
+use roster_model::profile::{REST_AT_HOME, REST_AWAY};
 use roster_problem::{Base, Duty, DutyList, Holder};
 
 /// The least rest before a duty for a person with this home, in minutes.
@@ -11,9 +12,9 @@ fn least_rest(home: &Base, next: &Duty) -> i64
     ensures { result ≡ pos (model.least_rest home.now next.now) }
 {
     if next.station.as_bytes() == home.id.as_bytes() {
-        720
+        i64::from(REST_AT_HOME)
     } else {
-        600
+        i64::from(REST_AWAY)
     }
 }
 
