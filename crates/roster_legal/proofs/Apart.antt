@@ -1,11 +1,11 @@
 -- Duties in order of which none overlaps another.
-use Rattle.std.proofs.Common.{◌≡◌, ℕ, suc, ◌+◌, ◌-◌, ◌<◌, ◌≤◌, false, List, [], ◌∷◌, length, get_or, Some, refl, subst, arith}
+use Rattle.std.proofs.Common.{◌≡◌, ℕ, suc, ◌+◌, ◌-◌, ◌<◌, ◌≤◌, List, [], ◌∷◌, Some, refl, sym, ◌∙◌, subst, inl, inr, arith}
 use Rattle.std.specs.Prelude.{All, AllPairs, slice_get, min, max}
-use Rattle.std.proofs.lemmas.Bool.Decides.{nat_tests}
+use Rattle.std.proofs.lemmas.Bool.{cases_eq}
 use Rattle.std.proofs.lemmas.List.Elements.{All-nil, All-cons, All-head, All-tail, All-weaker}
 use Rattle.std.proofs.lemmas.List.Kept.{AllPairs-cons}
-use Rattle.std.proofs.lemmas.Option.{slice_get_within, get_or_from_slice_get}
-use Rattle.roster_model.specs.Problem.{precedes}
+use Rattle.std.proofs.lemmas.Option.{get_or_from_slice_get, same_Some, slice_get_within}
+use Rattle.roster_model.proofs.OrderLemmas.{pair_at, reports-later}
 use Rattle.roster_model.specs.records.Duty.{Duty}
 use Rattle.roster_model.specs.Rules.Overlap.{NoOverlap}
 use Rattle.roster_problem.specs.Duties.{AreTimed, IsInOrder}
@@ -21,9 +21,6 @@ in_turn a b c d none order first second = omega arith
 nothing_shared : (a b c d : ℕ) → b ≤ c → min b d - max a c ≡ 0
 nothing_shared a b c d h = omega arith
 
-reports : (a b : Duty) → precedes b a ≡ false → a.report ≤ b.report
-reports a b h = grind (arith, nat_tests)
-
 timed_at : (list : List Duty) (i : ℕ) (a : Duty) → AreTimed list → slice_get list i ≡ Some a → a.report < a.release
 timed_at list i a timed at =
     subst (λ (d : Duty). d.report < d.release) (get_or_from_slice_get list i a a at) (timed i a (slice_get_within list i a at))
@@ -33,14 +30,28 @@ timed_at list i a timed at =
 abbrev pub InTurn : List Duty → Type 0
 InTurn list = (i : ℕ) (a b : Duty) → slice_get list i ≡ Some a → slice_get list (i + 1) ≡ Some b → a.release ≤ b.report
 
+-- a duty ends before each later one begins,
+turns : (list : List Duty) → IsInOrder list → AreTimed list → NoOverlap list → (i j : ℕ) (a b : Duty) → i < j → slice_get list i ≡ Some a → slice_get list j ≡ Some b → a.release ≤ b.report
+turns list ordered timed apart i j a b before first second =
+    let order = reports-later list ordered i j a b (omega arith) first second in
+    let none = pair_at (λ a b. min a.release b.release - max a.report b.report ≡ 0) list apart i j a b before first second in
+    in_turn a.report a.release b.report b.release none order (timed_at list i a timed first) (timed_at list j b timed second)
+
 pub in_turn_at : (list : List Duty) → IsInOrder list → AreTimed list → NoOverlap list → InTurn list
-in_turn_at list ordered timed apart i a b first second =
-    let inside : i + 1 < length list = slice_get_within list (i + 1) b second in
-    let here = get_or_from_slice_get list i a b first in
-    let next = get_or_from_slice_get list (i + 1) b b second in
-    let order = reports a b (subst (λ d. precedes d a ≡ false) next (subst (λ d. precedes (get_or list (i + 1) b) d ≡ false) here (ordered i (i + 1) b (omega arith) inside))) in
-    let none = subst (λ (d : Duty). min a.release d.release - max a.report d.report ≡ 0) next (subst (λ (d : Duty). min d.release (get_or list (i + 1) b).release - max d.report (get_or list (i + 1) b).report ≡ 0) here (apart i (i + 1) b (omega arith) inside)) in
-    in_turn a.report a.release b.report b.release none order (timed_at list i a timed first) (timed_at list (i + 1) b timed second)
+in_turn_at list ordered timed apart i a b = turns list ordered timed apart i (i + 1) a b (omega arith)
+
+-- and no later than that ends
+pub releases-later : (list : List Duty) → IsInOrder list → AreTimed list → NoOverlap list → (i j : ℕ) (a b : Duty) → i ≤ j → slice_get list i ≡ Some a → slice_get list j ≡ Some b → a.release ≤ b.release
+releases-later list ordered timed apart i j a b order first second =
+    elim (cases_eq i j) [
+      | inl same ↦
+          let one = same_Some a b (sym first ∙ subst (λ k. slice_get list k ≡ Some b) (sym same) second) in
+          subst (λ (d : Duty). a.release ≤ d.release) one (omega arith)
+      | inr other ↦
+          let turn = turns list ordered timed apart i j a b (omega arith) first second in
+          let ends = timed_at list j b timed second in
+          omega arith
+    ]
 
 tail_in_turn : (a : Duty) (list : List Duty) → InTurn (a ∷ list) → InTurn list
 tail_in_turn a list turn i b c first second =

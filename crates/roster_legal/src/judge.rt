@@ -9,7 +9,7 @@ use crate::base::keeps_base;
 use crate::listing::merge;
 use crate::overlap::no_overlap;
 use roster_problem::{DutyList, Problem, Rule, Set};
-use roster_restrules::rest_ok;
+use roster_restrules::{recovery_ok, rest_ok};
 use std::alloc::{AllocError, Global};
 
 /// Whether person `k` keeps the rule with the set, whose duty list is `list`.
@@ -25,6 +25,7 @@ fn holds(rule: Rule, problem: &Problem, k: usize, set: &Set, list: &DutyList) ->
         Rule::Base => keeps_base(problem, k, set),
         Rule::Overlap => no_overlap(list),
         Rule::Rest => rest_ok(list, problem.home(k)),
+        Rule::Recovery => recovery_ok(problem.days_of(k), list),
     }
 }
 

@@ -4,7 +4,7 @@
 //! is empty or none is broken. Both look at the duties of the set alone. In reading order:
 //!
 //! - `listing`: the duty list of a person with a set
-//! - `base`, `overlap`: a rule each; `roster_restrules` has the rest rule
+//! - `base`, `overlap`: a rule each; `roster_restrules` has the rules of rest
 //! - `judge`: the rules together
 //! - `laws`: what follows from the definitions
 #![tactic(auto)]
