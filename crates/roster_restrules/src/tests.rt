@@ -1,5 +1,5 @@
 use super::*;
-use roster_instants::{BaseDays, Period, read_minute};
+use roster_instants::{BaseDays, Minute, Period, read_minute};
 use roster_problem::{Base, Duty, DutyList, Holder, Name};
 use std::alloc::Global;
 use std::process::Abort;
@@ -20,10 +20,14 @@ fn base(rt: &impl Abort, alloc: Global, id: &str) -> Base {
     }
 }
 
+fn minute(rt: &impl Abort, text: &str) -> Minute {
+    read_minute(text.as_bytes()).expect(rt, text)
+}
+
 // A duty of a pairing that reports at the station.
 fn duty(rt: &impl Abort, station: &str, report: &str, release: &str) -> Duty {
-    let report = read_minute(report.as_bytes()).expect(rt, report);
-    let release = read_minute(release.as_bytes()).expect(rt, release);
+    let report = minute(rt, report);
+    let release = minute(rt, release);
     assert!(rt; report < release);
     Duty {
         id: name(rt, "D1"),
@@ -91,4 +95,31 @@ fn neighbours_keep_their_rest(rt: HostRuntime) {
     }
     assert!(rt; rest_ok(&list_of(&rt, rt.alloc(), duties, &[4]), &home));
     assert!(rt; rest_ok(&list_of(&rt, rt.alloc(), duties, &[]), &home));
+}
+
+#[test]
+fn recurrent_rests_have_their_length_and_nights(rt: HostRuntime) {
+    let home = base(&rt, rt.alloc(), "AMS");
+    for (from, to, is_recurrent_rest) in [
+        // 36 hours with two nights, and a minute less.
+        ("2024-03-04T22:00Z", "2024-03-06T10:00Z", true),
+        ("2024-03-04T22:00Z", "2024-03-06T09:59Z", false),
+        // 36 hours with one night, of the first only two hours.
+        ("2024-03-05T06:00Z", "2024-03-06T18:00Z", false),
+        // Of the second night eight hours, and a minute less.
+        ("2024-03-05T06:00Z", "2024-03-07T06:00Z", true),
+        ("2024-03-05T06:00Z", "2024-03-07T05:59Z", false),
+        // Of the first night eight hours, and a minute less.
+        ("2024-03-05T00:00Z", "2024-03-06T12:00Z", true),
+        ("2024-03-05T00:01Z", "2024-03-06T12:01Z", false),
+        // The window's first and last night, with one outside the window, and with one within it.
+        ("2024-01-25T20:00Z", "2024-01-27T09:00Z", false),
+        ("2024-01-25T20:00Z", "2024-01-28T08:00Z", true),
+        ("2024-04-13T20:00Z", "2024-04-15T12:00Z", false),
+        ("2024-04-12T20:00Z", "2024-04-14T09:00Z", true),
+        ("2024-03-06T10:00Z", "2024-03-04T22:00Z", false),
+    ] {
+        let found = is_recurrent(&home.days, minute(&rt, from), minute(&rt, to));
+        assert_eq!(rt; found, is_recurrent_rest, "{from} {to}");
+    }
 }

@@ -6,6 +6,7 @@ use super::{long_book, problem_of};
 use roster_legal::{first_broken, is_legal, merge, part_of_legal_is_legal};
 use roster_model::limits::{MOST_PAIRINGS, MOST_PERSONS};
 use roster_problem::{Problem, Rule, Set};
+use roster_restrules::recovery_ok;
 use std::test::Fail;
 
 // One person, and with the first pairing: the second overlaps, and the third follows ten hours later
@@ -58,6 +59,50 @@ fn sets_are_judged(rt: HostRuntime) -> Result<(), Fail> {
         assert_eq!(rt; legal, want.is_none(), "{places:?}");
     }
     part_of_legal_is_legal();
+    Ok(())
+}
+
+// With the first pairing and the sixth, whose duty leaves no recurrent rest, the second ends 168 hours
+// after the first begins, and the third a minute later. The fourth is one duty of 168 hours, and the
+// fifth has a minute more.
+const BLOCKS: &[u8] = b"period,2024-03
+base,AMS,UTC0
+crew,A,AMS,0,0,0
+pairing,P1,AMS,1
+pairing,P2,AMS,1
+pairing,P3,AMS,1
+pairing,P4,AMS,1
+pairing,P5,AMS,1
+pairing,P6,AMS,1
+duty,D1,P,P1,AMS,2024-03-04T06:00Z,2024-03-04T14:00Z
+duty,D2,P,P1,AMS,2024-03-06T18:00Z,2024-03-06T20:00Z
+duty,D3,P,P1,AMS,2024-03-08T05:00Z,2024-03-08T07:00Z
+duty,D4,P,P1,AMS,2024-03-09T18:00Z,2024-03-09T20:00Z
+duty,D5,P,P2,AMS,2024-03-11T02:00Z,2024-03-11T06:00Z
+duty,D6,P,P3,AMS,2024-03-11T02:00Z,2024-03-11T06:01Z
+duty,D7,P,P4,AMS,2024-03-20T00:00Z,2024-03-27T00:00Z
+duty,D8,P,P5,AMS,2024-03-20T00:00Z,2024-03-27T00:01Z
+duty,D9,P,P6,AMS,2024-03-05T02:00Z,2024-03-05T06:00Z
+";
+
+#[test]
+fn blocks_are_judged(rt: HostRuntime) -> Result<(), Fail> {
+    let problem = problem_of(rt.alloc(), BLOCKS)?;
+    assert_eq!(rt; problem.persons().len(), 1);
+    for (places, is_kept) in [
+        ([0u16, 0, 1, 1, 1, 0], true),
+        ([0, 1, 0, 1, 1, 0], false),
+        ([0, 1, 0, 1, 1, 1], true),
+        ([1, 1, 1, 0, 1, 1], true),
+        ([1, 1, 1, 1, 0, 1], false),
+    ] {
+        let set = set_of(&problem, &places, 0).ok_or("a set")?;
+        let list = merge(rt.alloc(), &problem, 0, &set)?;
+        assert_eq!(rt; recovery_ok(problem.days_of(0), &list), is_kept, "{places:?}");
+        let broken = first_broken(rt.alloc(), &problem, 0, &set)?;
+        let is_told = matches!(broken, Some(Rule::Recovery));
+        assert_eq!(rt; is_told, !is_kept, "{places:?}");
+    }
     Ok(())
 }
 
