@@ -26,6 +26,8 @@ pub data Code : Type 0 where
   NoRoom : Code
   -- the first duty of a pairing reports away from its base, or outside the month there
   WrongStart : Code
+  -- the person has a leave in one of its minutes
+  Busy : Code
   -- a pairing has no duty
   NoDuty : Code
 
@@ -43,6 +45,7 @@ number_of_code OutOfWindow = 9
 number_of_code ZoneRefused = 10
 number_of_code NoRoom = 11
 number_of_code WrongStart = 12
+number_of_code Busy = 13
 number_of_code NoDuty = 14
 
 -- the code of the first condition that isn't met

@@ -2,10 +2,12 @@ pub mod Form
 pub mod Calendar
 pub mod Clocks
 pub mod Zone
+pub mod Window
 pub mod Record
 pub mod Code
 pub mod records
 pub mod Problem
+pub mod Busy
 pub mod Faults
 pub mod Rules
 pub mod Rosters

@@ -1,6 +1,6 @@
 -- What is to be rostered: the tables that the records of a book make.
 use Rattle.std.specs.Prelude.{ℕ, Bool, ◌&&◌, ◌||◌, ◌==◌, nat_lt, if◌then◌else◌, List, [], ◌∷◌, option_map, unwrap_or, slice_get}
-use Rattle.std.specs.List.{fold}
+use Rattle.std.specs.List.{fold, filter}
 use Rattle.roster_model.specs.Calendar.{Period}
 use Rattle.roster_model.specs.Record.{Record}
 use Rattle.roster_model.specs.records.Period.{period_in}
@@ -8,8 +8,9 @@ use Rattle.roster_model.specs.records.Base.{Base, bases_in, base_at}
 use Rattle.roster_model.specs.records.Crew.{Person, persons_in}
 use Rattle.roster_model.specs.records.Pairing.{Pairing, pairings_in}
 use Rattle.roster_model.specs.records.Duty.{Duty, duties_in}
+use Rattle.roster_model.specs.records.Leave.{Leave, leaves_in, is_leave_of}
 
--- A month, and bases, persons, pairings and duties. A base, a person and a pairing is named by its
+-- A month, and bases, persons, pairings, duties and leaves. A base, a person and a pairing is named by its
 -- place in book order, from 0.
 pub record Problem : Type 0 where
   pub period : Period
@@ -17,6 +18,7 @@ pub record Problem : Type 0 where
   pub persons : List Person
   pub pairings : List Pairing
   pub duties : List Duty
+  pub leaves : List Leave
 
 -- the tables of some records, in their order
 abbrev pub tables_in : List Record → Problem
@@ -26,6 +28,7 @@ tables_in records = record {
   persons = persons_in records;
   pairings = pairings_in records;
   duties = duties_in records;
+  leaves = leaves_in records;
 }
 
 -- ---- the order of duties
@@ -56,6 +59,10 @@ problem_of records = record (tables_in records) { duties = in_order (duties_in r
 abbrev pub home_of : Problem → ℕ → Base
 home_of problem k =
     base_at problem.bases (unwrap_or (option_map (λ person. person.base) (slice_get problem.persons k)) 0)
+
+-- the leaves of the person at place k
+abbrev pub leaves_of : Problem → ℕ → List Leave
+leaves_of problem k = filter (is_leave_of k) problem.leaves
 
 -- the name of the pairing at place p
 abbrev pub pairing_name : Problem → ℕ → List ℕ

@@ -30,6 +30,7 @@ pub data Kind : Type 0 where
   CrewRecord : Kind
   PairingRecord : Kind
   DutyRecord : Kind
+  LeaveRecord : Kind
 
 -- the word in the first field
 abbrev pub word_of : Kind → List ℕ
@@ -38,6 +39,7 @@ word_of BaseRecord = codes "base"
 word_of CrewRecord = codes "crew"
 word_of PairingRecord = codes "pairing"
 word_of DutyRecord = codes "duty"
+word_of LeaveRecord = codes "leave"
 
 abbrev pub is_of : Kind → Record → Bool
 is_of kind fields = bytes_eq (field fields 0) (word_of kind)
@@ -48,7 +50,7 @@ pub data Command : Type 0 where
 
 -- the kinds that a book for the command may have
 abbrev pub kinds_of : Command → List Kind
-kinds_of Solve = PeriodRecord ∷ BaseRecord ∷ CrewRecord ∷ PairingRecord ∷ DutyRecord ∷ []
+kinds_of Solve = PeriodRecord ∷ BaseRecord ∷ CrewRecord ∷ PairingRecord ∷ DutyRecord ∷ LeaveRecord ∷ []
 
 -- ---- tables
 

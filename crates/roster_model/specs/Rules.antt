@@ -2,14 +2,16 @@
 -- pairings. Each rule stands in a file of its own; no further rule is judged so far.
 pub mod Base
 pub mod Overlap
+pub mod Leave
 pub mod Rest
 pub mod Recovery
 use Rattle.std.specs.Prelude.{◌≡◌, ◌<◌, ◌⊎◌, ℕ, Bool, ◌==◌, List, [], Option, Some, None, codes}
 use Rattle.std.specs.List.{filter, list_any}
 use Rattle.roster_model.specs.records.Duty.{Duty, Holder, OfPairing}
-use Rattle.roster_model.specs.Problem.{Problem, home_of}
+use Rattle.roster_model.specs.Problem.{Problem, home_of, leaves_of}
 use Rattle.roster_model.specs.Rules.Base.{KeepsBase}
 use Rattle.roster_model.specs.Rules.Overlap.{NoOverlap}
+use Rattle.roster_model.specs.Rules.Leave.{KeepsLeave}
 use Rattle.roster_model.specs.Rules.Rest.{KeepsRest}
 use Rattle.roster_model.specs.Rules.Recovery.{KeepsRecovery}
 
@@ -30,6 +32,7 @@ duty_list problem k set = filter (λ duty. is_listed set duty.holder) problem.du
 pub data Rule : Type 0 where
   BaseRule : Rule
   OverlapRule : Rule
+  LeaveRule : Rule
   RestRule : Rule
   RecoveryRule : Rule
 
@@ -37,13 +40,15 @@ pub data Rule : Type 0 where
 abbrev pub rank_of : Rule → ℕ
 rank_of BaseRule = 0
 rank_of OverlapRule = 1
-rank_of RestRule = 2
-rank_of RecoveryRule = 3
+rank_of LeaveRule = 2
+rank_of RestRule = 3
+rank_of RecoveryRule = 4
 
 -- the word that tells it
 abbrev pub word_of_rule : Rule → List ℕ
 word_of_rule BaseRule = codes "BASE"
 word_of_rule OverlapRule = codes "OVERLAP"
+word_of_rule LeaveRule = codes "LEAVE"
 word_of_rule RestRule = codes "REST"
 word_of_rule RecoveryRule = codes "RECOVERY"
 
@@ -51,6 +56,7 @@ word_of_rule RecoveryRule = codes "RECOVERY"
 abbrev pub Holds : Problem → ℕ → List ℕ → Rule → Type 0
 Holds problem k set BaseRule = KeepsBase problem k set
 Holds problem k set OverlapRule = NoOverlap (duty_list problem k set)
+Holds problem k set LeaveRule = KeepsLeave (leaves_of problem k) (duty_list problem k set)
 Holds problem k set RestRule = KeepsRest (home_of problem k) (duty_list problem k set)
 Holds problem k set RecoveryRule = KeepsRecovery (home_of problem k).days (duty_list problem k set)
 

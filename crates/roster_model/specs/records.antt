@@ -3,3 +3,4 @@ pub mod Base
 pub mod Crew
 pub mod Pairing
 pub mod Duty
+pub mod Leave

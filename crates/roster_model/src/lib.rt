@@ -11,10 +11,12 @@
 //! - `Calendar`: instants, periods, and the days round a month
 //! - `Clocks`: what the clocks show where a zone text is the rule
 //! - `Zone`: the local days that a base's zone text stands for
+//! - `Window`: what lies in the window of a base
 //! - `Record`: records, their kinds, and the tables that are gathered from them
 //! - `Code`: what may be wrong with a record, by its number
 //! - `records`: for each kind its columns, what it adds, and what may be wrong with it
 //! - `Problem`: what is to be rostered
+//! - `Busy`: when persons are busy
 //! - `Faults`: the code of a record, and the first fault of all
 //! - `Rules`: which sets of pairings are legal for a person
 //! - `Rosters`: legal rosters, their cost and order, and the best one

@@ -11,6 +11,7 @@ use Rattle.roster_model.specs.records.Base.{Base}
 use Rattle.roster_model.specs.records.Crew.{Person}
 use Rattle.roster_model.specs.records.Pairing.{Pairing}
 use Rattle.roster_model.specs.records.Duty as model
+use Rattle.roster_model.specs.records.Leave.{Leave}
 
 abbrev pub holder_of : Holder → model.Holder
 holder_of (holders.Pairing p) = model.OfPairing p
@@ -18,15 +19,17 @@ holder_of (holders.Pairing p) = model.OfPairing p
 abbrev pub rule_of : Rule → judged.Rule
 rule_of rules.Base = judged.BaseRule
 rule_of rules.Overlap = judged.OverlapRule
+rule_of rules.Leave = judged.LeaveRule
 rule_of rules.Rest = judged.RestRule
 rule_of rules.Recovery = judged.RecoveryRule
 
 -- the tables as one problem
-abbrev pub tables_of : Period → List Base → List Person → List Pairing → List model.Duty → Problem
-tables_of period bases persons pairings duties = record {
+abbrev pub tables_of : Period → List Base → List Person → List Pairing → List model.Duty → List Leave → Problem
+tables_of period bases persons pairings duties leaves = record {
   period = period;
   bases = bases;
   persons = persons;
   pairings = pairings;
   duties = duties;
+  leaves = leaves;
 }

@@ -5,9 +5,9 @@
 //! order:
 //!
 //! - `name`: identifiers
-//! - `base`, `person`, `pairing`, `duty`: the entries of the tables
+//! - `base`, `person`, `pairing`, `duty`, `leave`: the entries of the tables
 //! - `order`: the order of duties in time
-//! - `index`: from a pairing to its duties
+//! - `index`: from a pairing to its duties, and from a person to their leaves
 //! - `problem`: the tables together
 //! - `set`: sets of pairings
 //! - `duty_list`: the duties of one person
@@ -19,6 +19,7 @@ mod base;
 mod duty;
 mod duty_list;
 mod index;
+mod leave;
 mod name;
 mod order;
 mod pairing;
@@ -31,6 +32,7 @@ mod set;
 pub use base::Base;
 pub use duty::{Duty, Holder};
 pub use duty_list::DutyList;
+pub use leave::Leave;
 pub use name::{Name, is_identifier};
 pub use order::duties_in_order;
 pub use pairing::Pairing;

@@ -4,15 +4,17 @@ ghost use Rattle.std.specs.Prelude.{◌≡◌, ◌<◌, ◌≤◌, ℕ, false, I
 ghost use Rattle.std.specs.List.Sorted.{IsStrictlyIncreasing};
 ghost use Rattle.std.specs.Option.{option_map_or};
 ghost use Rattle.roster_model.specs.Faults.{IsFaultless};
-ghost use Rattle.roster_model.specs.Problem.{home_of, in_order};
+ghost use Rattle.roster_model.specs.Problem.{home_of, in_order, leaves_of};
 ghost use Rattle.roster_model.specs.Rules.{is_among};
 ghost use Rattle.roster_model.specs.records.Duty.{is_held_by_pairing};
-ghost use Rattle.roster_problem.specs.Duties.{AreTimed, IsInOrder, passes_at, picked, positions_of_pairing};
+ghost use Rattle.roster_model.specs.records.Leave.{is_leave_of};
+ghost use Rattle.roster_problem.specs.Duties.{AreTimed, IsInOrder, passes_at, picked, positions_of_pairing, positions_where};
 ghost use Rattle.roster_problem.specs.Sound.{IsSound};
 
 use crate::base::Base;
 use crate::duty::Duty;
-use crate::index::{Lists, by_pairing};
+use crate::index::{Lists, by_pairing, by_person};
+use crate::leave::Leave;
 use crate::order::in_order;
 use crate::pairing::Pairing;
 use crate::person::Person;
@@ -31,7 +33,9 @@ pub struct Problem {
     persons: Vec<Person>,
     pairings: Vec<Pairing>,
     duties: Vec<Duty>,
+    leaves: Vec<Leave>,
     by_pairing: Lists,
+    by_person: Lists,
 }
 
 impl Model for Problem {
@@ -42,12 +46,11 @@ impl Model for Problem {
     ghost use Rattle.roster_problem.specs.Duties.{IsKept};
     ghost use Rattle.roster_problem.specs.View.{tables_of};
 
-    ghost view = { λ p.
-        tables_of p.period p.bases.items p.persons.items p.pairings.items p.duties.items };
+    ghost view = { λ p. tables_of p.period p.bases.items p.persons.items p.pairings.items
+        p.duties.items p.leaves.items };
 
-    ghost invariant = { λ p. IsKept
-        (tables_of p.period p.bases.items p.persons.items p.pairings.items p.duties.items)
-        p.by_pairing };
+    ghost invariant = { λ p. IsKept (tables_of p.period p.bases.items p.persons.items
+        p.pairings.items p.duties.items p.leaves.items) p.by_pairing p.by_person };
 }
 
 impl Problem {
@@ -61,23 +64,27 @@ impl Problem {
         persons: Vec<Person>,
         pairings: Vec<Pairing>,
         duties: Vec<Duty>,
+        leaves: Vec<Leave>,
     ) -> Result<Problem, AllocError>
-        requires sound { IsSound
-            (tables_of period bases.items persons.items pairings.items (in_order duties.items)) }
-        requires faultless { IsFaultless
-            (tables_of period bases.items persons.items pairings.items (in_order duties.items)) }
-        ensures { IfOk result (λ problem. problem
-            ≡ tables_of period bases.items persons.items pairings.items (in_order duties.items)) }
+        requires sound { IsSound (tables_of period bases.items persons.items pairings.items
+            (in_order duties.items) leaves.items) }
+        requires faultless { IsFaultless (tables_of period bases.items persons.items pairings.items
+            (in_order duties.items) leaves.items) }
+        ensures { IfOk result (λ problem. problem ≡ tables_of period bases.items persons.items
+            pairings.items (in_order duties.items) leaves.items) }
     {
         let duties = in_order(alloc, duties)?;
         let by_pairing = by_pairing(alloc, pairings.len(), &duties)?;
+        let by_person = by_person(alloc, persons.len(), &leaves)?;
         Ok(Problem {
             period,
             bases,
             persons,
             pairings,
             duties,
+            leaves,
             by_pairing,
+            by_person,
         })
     }
 
@@ -117,6 +124,14 @@ impl Problem {
         self.duties.as_slice()
     }
 
+    /// All leaves, in book order.
+    pub fn leaves(&self) -> &[Leave]
+        ensures value { result.now ≡ self.now.leaves }
+        ensures sound { IsSound self.now }
+    {
+        self.leaves.as_slice()
+    }
+
     /// The positions in `duties` of the duties of the pairing at place `p`, in ascending order. It
     /// looks at no other duty.
     pub fn duties_of(&self, p: usize) -> &[u16]
@@ -131,6 +146,18 @@ impl Problem {
         ensures bound { length result.now ≤ MOST_DUTIES }
     {
         self.by_pairing.list(p)
+    }
+
+    /// The positions in `leaves` of the leaves of the person at place `k`, in ascending order. It
+    /// looks at no other leave.
+    pub fn leaves_of(&self, k: usize) -> &[u16]
+        requires { k < length self.now.persons }
+        ensures value { result.now ≡ positions_where (is_leave_of k) 0 self.now.leaves }
+        ensures leaves { picked self.now.leaves result.now ≡ leaves_of self.now k }
+        ensures ascending { IsStrictlyIncreasing result.now }
+        ensures within { All (λ i. i < length self.now.leaves) result.now }
+    {
+        self.by_person.list(k)
     }
 
     /// The person at place `k`.

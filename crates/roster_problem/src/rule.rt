@@ -10,6 +10,8 @@ pub enum Rule {
     Base,
     /// No two duties share a minute.
     Overlap,
+    /// No duty shares a minute with a leave.
+    Leave,
     /// Between two duties lies enough rest.
     Rest,
     /// Recurrent rests follow one another soon enough.
@@ -20,7 +22,8 @@ impl Rule {
     ghost use Rattle.roster_problem.specs.View.{rule_of};
 
     /// All rules, in the order in which they are judged.
-    pub const ALL: [Rule; 4] = [Rule::Base, Rule::Overlap, Rule::Rest, Rule::Recovery];
+    pub const ALL: [Rule; 5] =
+        [Rule::Base, Rule::Overlap, Rule::Leave, Rule::Rest, Rule::Recovery];
 
     /// The word that tells it.
     pub fn word(self) -> &'static str
@@ -29,6 +32,7 @@ impl Rule {
         match self {
             Rule::Base => "BASE",
             Rule::Overlap => "OVERLAP",
+            Rule::Leave => "LEAVE",
             Rule::Rest => "REST",
             Rule::Recovery => "RECOVERY",
         }

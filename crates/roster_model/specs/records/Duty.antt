@@ -1,11 +1,12 @@
 -- `duty,ID,P,PAIRING,STATION,REPORT,RELEASE`: a duty of a pairing.
-use Rattle.std.specs.Prelude.{ℕ, ◌+◌, Bool, true, false, not, ◌&&◌, ◌||◌, ◌==◌, List, [], ◌∷◌, length, Option, Some, None, is_some, option_map, nat_lt, nat_le, position, unwrap_or, slice_get, slice_index, codes}
+use Rattle.std.specs.Prelude.{ℕ, ◌+◌, Bool, true, false, not, ◌&&◌, ◌||◌, ◌==◌, List, [], ◌∷◌, length, Option, Some, None, is_some, option_map, nat_lt, nat_le, position, unwrap_or, slice_get, codes}
 use Rattle.std.specs.List.{filter, last_or}
 use Rattle.std.specs.Option.{option_map_or}
 use Rattle.std.specs.Str.{bytes_eq}
 use Rattle.roster_model.specs.declared.limits.TheConstants.{MOST_DUTIES, DAYS_BEFORE}
 use Rattle.roster_model.specs.Form.{is_identifier}
 use Rattle.roster_model.specs.Calendar.{Days, instant_of}
+use Rattle.roster_model.specs.Window.{midnight, is_in_window}
 use Rattle.roster_model.specs.Record.{Record, DutyRecord, field, minute_of, next_row, table_of}
 use Rattle.roster_model.specs.Code.{Code, FieldCount, FieldForm, GivenTwice, NotGiven, OutOfSequence, OutOfWindow, NoRoom, WrongStart}
 use Rattle.roster_model.specs.records.Base.{Base, bases_in, base_at}
@@ -98,14 +99,6 @@ last_of before (OfPairing p) = last_duty (duties_in before) p
 abbrev pub is_in_sequence : Option Duty → ℕ → ℕ → Bool
 is_in_sequence last report release =
     nat_lt report release && option_map_or (λ duty. nat_le duty.release report) last true
-
--- the instant at which the local day i begins
-abbrev pub midnight : Days → ℕ → ℕ
-midnight days i = slice_index days.mid i
-
--- the time from one instant to another lies in the window
-abbrev pub is_in_window : Days → ℕ → ℕ → Bool
-is_in_window days from to = nat_le (midnight days 0) from && nat_le to (midnight days (length days.eight))
 
 -- the instant lies in the month
 abbrev pub is_in_month : Days → ℕ → Bool

@@ -1,21 +1,19 @@
-use Rattle.std.proofs.Common.{ap, subst, sym, ◌∙◌, arith, length, ◌<◌}
-use Rattle.std.proofs.lemmas.List.{length-set}
-use Rattle.std.proofs.lemmas.List.Elements.{All-more}
-use Rattle.roster_model.specs.records.Duty.{Duty}
-use Rattle.roster_problem.specs.Duties.{IsIndex}
-use Rattle.roster_problem.proofs.Indexes.{IsIndex-more, holder_at}
+use Rattle.std.proofs.Common.{rules, ◌≡◌, Some, get_or}
+use Rattle.std.specs.Prelude.{IfOk}
+use Rattle.std.proofs.lemmas.Result.{IfOk-weaker}
+use Rattle.roster_problem.specs.Duties.{pairing_of, is_of_pairing}
+use Rattle.roster_problem.proofs.Indexes.{holder_below, is_held_by_pairing_of}
 use Rattle.roster_problem.proofs.index.by_pairing.Goals as goal
 
-pub push-requires : goal.push-requires
-push-requires c =
-    let there = holder_at c.args.pairings c.args.duties.now c.loop-i.i c.pairing_of.result c.index-duties-i.result c.requires.holders (omega arith) c.index-duties-i.is c.pairing_of.ensures.holder in
-    let long = c.loop-i.invariant.long in
-    omega arith
+pub index_by-requires-clause-there : goal.index_by-requires-clause-there
+index_by-requires-clause-there c k d inside p h =
+    let same : Some p ≡ pairing_of (get_or c.args.duties.now k d).holder = search rules in
+    holder_below c.args.pairings p (get_or c.args.duties.now k d).holder (c.requires.holders k d inside) same
 
-pub loop-i-preserved : goal.loop-i-preserved
-loop-i-preserved c = record {
-  index = subst (IsIndex c.args.pairings _) (sym c.in_ok-push.ensures) (IsIndex-more c.args.pairings c.pairing_of.result c.loop-i.i c.args.duties.now c.index-duties-i.result c.loop-i.lists c.loop-i.invariant.long (omega arith) c.index-duties-i.is c.pairing_of.ensures.holder c.loop-i.invariant.index);
-  long = ap length c.in_ok-push.ensures ∙ length-set c.loop-i.lists c.pairing_of.result _ ∙ c.loop-i.invariant.long;
-  timed = All-more (λ (duty : Duty). duty.report < duty.release) c.args.duties.now c.loop-i.i c.index-duties-i.result (omega arith) c.loop-i.invariant.timed
-      (subst (λ (duty : Duty). duty.report < duty.release) c.index-duties-i.is c.pairing_of.ensures.timed);
-}
+pub returns-clause-index : goal.returns-clause-index
+returns-clause-index c = IfOk-weaker c.index_by.result _ _ (λ lists index. index is_of_pairing (λ duty place h p. 
+    let same : place ≡ pairing_of duty.holder = search rules in
+    is_held_by_pairing_of p duty.holder place same)) c.index_by.ensures.index
+
+pub returns-clause-timed : goal.returns-clause-timed
+returns-clause-timed c = IfOk-weaker c.index_by.result _ _ (λ lists given k d inside. let h = given k d inside in search rules) c.index_by.ensures.given
