@@ -3,14 +3,15 @@ use Rattle.std.proofs.Common.{◌≡◌, ℕ, List, [], ◌∷◌, Option, Some,
 use Rattle.std.specs.Prelude.{slice_get}
 use Rattle.std.proofs.lemmas.Bool.{cases_order}
 use Rattle.roster_model.specs.Problem.{Problem}
-use Rattle.roster_model.specs.Rules.{Rule, BaseRule, OverlapRule, RestRule, RecoveryRule, rank_of, IsFirstBroken}
+use Rattle.roster_model.specs.Rules.{Rule, BaseRule, OverlapRule, LeaveRule, RestRule, RecoveryRule, rank_of, IsFirstBroken}
 
 abbrev by_rank : List Rule
-by_rank = BaseRule ∷ OverlapRule ∷ RestRule ∷ RecoveryRule ∷ []
+by_rank = BaseRule ∷ OverlapRule ∷ LeaveRule ∷ RestRule ∷ RecoveryRule ∷ []
 
 at_rank : (rule : Rule) → slice_get by_rank (rank_of rule) ≡ Some rule
 at_rank BaseRule = refl
 at_rank OverlapRule = refl
+at_rank LeaveRule = refl
 at_rank RestRule = refl
 at_rank RecoveryRule = refl
 

@@ -1,4 +1,5 @@
 pub mod Gathered
 pub mod Apart
+pub mod OffLeave
 pub mod Parts
 pub mod FirstBroken

@@ -2,6 +2,7 @@
 pub mod Listed
 pub mod Base
 pub mod Overlap
+pub mod Leave
 pub mod Rest
 pub mod Recovery
 use Rattle.std.proofs.Common.{◌≡◌, ℕ, ◌<◌, Bool, true, false, List, [], refl, sym, ap, ◌∙◌, subst, inl, inr}
@@ -9,10 +10,11 @@ use Rattle.std.specs.Prelude.{All, AllPairs, filter}
 use Rattle.std.proofs.lemmas.Bool.{both_ways, false_from_ne_true}
 use Rattle.std.proofs.lemmas.List.Elements.{All-filter}
 use Rattle.std.proofs.lemmas.List.Kept.{AllPairs-filter}
-use Rattle.roster_model.specs.Problem.{Problem, home_of, precedes}
+use Rattle.roster_model.specs.Problem.{Problem, home_of, leaves_of, precedes}
 use Rattle.roster_model.specs.records.Duty.{Duty, Holder, OfPairing}
-use Rattle.roster_model.specs.Rules.{duty_list, is_among, is_listed, Rule, BaseRule, OverlapRule, RestRule, RecoveryRule, Holds, IsLegal}
+use Rattle.roster_model.specs.Rules.{duty_list, is_among, is_listed, Rule, BaseRule, OverlapRule, LeaveRule, RestRule, RecoveryRule, Holds, IsLegal}
 use Rattle.roster_model.specs.Rules.Overlap.{NoOverlap}
+use Rattle.roster_model.specs.Rules.Leave.{KeepsLeave}
 use Rattle.roster_model.specs.Rules.Recovery.{KeepsRecovery}
 use Rattle.roster_model.specs.Rules.Rest.{KeepsRest, is_of_pairing}
 use Rattle.roster_model.proofs.SetLemmas.{empty_set}
@@ -20,6 +22,7 @@ use Rattle.roster_problem.specs.Duties.{AreTimed, IsInOrder}
 use Rattle.roster_legal.proofs.Parts.Listed.{IsPart, shorter}
 use Rattle.roster_legal.proofs.Parts.Base.{KeepsBase-part}
 use Rattle.roster_legal.proofs.Parts.Overlap.{NoOverlap-filter}
+use Rattle.roster_legal.proofs.Parts.Leave.{KeepsLeave-filter}
 use Rattle.roster_legal.proofs.Parts.Rest.{KeepsRest-filter}
 use Rattle.roster_legal.proofs.Parts.Recovery.{KeepsRecovery-filter}
 
@@ -39,6 +42,9 @@ Holds-part problem k set part ordered timed more holds BaseRule = KeepsBase-part
 Holds-part problem k set part ordered timed more holds OverlapRule =
     subst NoOverlap (shorter problem k set part more)
     (NoOverlap-filter (λ duty. is_listed part duty.holder) (duty_list problem k set) (holds OverlapRule))
+Holds-part problem k set part ordered timed more holds LeaveRule =
+    subst (KeepsLeave (leaves_of problem k)) (shorter problem k set part more)
+    (KeepsLeave-filter (leaves_of problem k) (λ duty. is_listed part duty.holder) (duty_list problem k set) (holds LeaveRule))
 Holds-part problem k set part ordered timed more holds RestRule =
     subst (KeepsRest (home_of problem k)) (shorter problem k set part more)
     (KeepsRest-filter (home_of problem k) (λ duty. is_listed part duty.holder) (duty_list problem k set) (λ i d inside. of_pairing part _) (list_timed problem k set timed) (holds RestRule))

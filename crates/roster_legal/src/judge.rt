@@ -6,6 +6,7 @@ ghost use Rattle.roster_problem.specs.Duties.{AreTimed, IsInOrder};
 ghost use Rattle.roster_problem.specs.View.{rule_of};
 
 use crate::base::keeps_base;
+use crate::leave::keeps_leave;
 use crate::listing::merge;
 use crate::overlap::no_overlap;
 use roster_problem::{DutyList, Problem, Rule, Set};
@@ -24,6 +25,7 @@ fn holds(rule: Rule, problem: &Problem, k: usize, set: &Set, list: &DutyList) ->
     match rule {
         Rule::Base => keeps_base(problem, k, set),
         Rule::Overlap => no_overlap(list),
+        Rule::Leave => keeps_leave(problem, k, list),
         Rule::Rest => rest_ok(list, problem.home(k)),
         Rule::Recovery => recovery_ok(problem.days_of(k), list),
     }

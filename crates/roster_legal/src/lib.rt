@@ -4,7 +4,7 @@
 //! is empty or none is broken. Both look at the duties of the set alone. In reading order:
 //!
 //! - `listing`: the duty list of a person with a set
-//! - `base`, `overlap`: a rule each; `roster_restrules` has the rules of rest
+//! - `base`, `overlap`, `leave`: a rule each; `roster_restrules` has the rules of rest
 //! - `judge`: the rules together
 //! - `laws`: what follows from the definitions
 #![tactic(auto)]
@@ -12,6 +12,7 @@
 mod base;
 mod judge;
 mod laws;
+mod leave;
 mod listing;
 mod overlap;
 
