@@ -8,6 +8,7 @@ pub mod Homes
 pub mod Periods
 pub mod Finishing
 pub mod LastDuty
+pub mod BusyTimes
 pub mod RecordsLeft
 pub mod SeenRecords
 pub mod Enumerated

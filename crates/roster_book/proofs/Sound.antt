@@ -9,11 +9,12 @@ use Rattle.std.proofs.lemmas.Bool.Decides.{nat_tests}
 use Rattle.std.proofs.lemmas.List.Elements.{All-nil, All-push, All-weaker}
 use Rattle.std.proofs.lemmas.List.Folds.{list_any-append}
 use Rattle.std.proofs.lemmas.List.Sorted.{All-permutation, length_permutation}
-use Rattle.roster_model.specs.declared.limits.TheConstants.{MOST_BASES, MOST_PERSONS, MOST_PAIRINGS, MOST_DUTIES, MOST_PENALTY, MOST_RECORDS}
+use Rattle.roster_model.specs.declared.limits.TheConstants.{MOST_BASES, MOST_PERSONS, MOST_PAIRINGS, MOST_DUTIES, MOST_LEAVES, MOST_PENALTY, MOST_RECORDS}
 use Rattle.roster_model.specs.Form.{is_amount, number_of}
-use Rattle.roster_model.specs.Record.{Record, Command, Kind, PeriodRecord, BaseRecord, CrewRecord, PairingRecord, DutyRecord, is_of}
+use Rattle.roster_model.specs.Record.{Record, Command, Kind, PeriodRecord, BaseRecord, CrewRecord, PairingRecord, DutyRecord, LeaveRecord, is_of}
 use Rattle.roster_model.specs.Code.{Code, first_unmet, NoPeriod}
 use Rattle.roster_model.specs.Problem.{Problem, tables_in, in_order}
+use Rattle.roster_model.specs.Busy.{is_busy}
 use Rattle.roster_model.specs.Faults.{IsFaultlessSoFar, IsFaultlessAfter, code_of, code_of_kind, kind_in}
 use Rattle.roster_model.specs.Calendar.{Period}
 use Rattle.roster_model.specs.records.Period as period
@@ -21,10 +22,12 @@ use Rattle.roster_model.specs.records.Base as base
 use Rattle.roster_model.specs.records.Crew as crew
 use Rattle.roster_model.specs.records.Pairing as pairing
 use Rattle.roster_model.specs.records.Duty as duty
+use Rattle.roster_model.specs.records.Leave as leave
 use Rattle.roster_model.specs.records.Base.{base_of, bases_in}
-use Rattle.roster_model.specs.records.Crew.{person_of}
+use Rattle.roster_model.specs.records.Crew.{person_of, persons_in, person_place}
 use Rattle.roster_model.specs.records.Pairing.{Pairing, pairing_of, pairing_place}
 use Rattle.roster_model.specs.records.Duty.{Duty, Holder, OfPairing, duty_of, duties_in, holder_name_in, conditions_held}
+use Rattle.roster_model.specs.records.Leave.{leave_of, leaves_in, crew_in}
 use Rattle.roster_problem.specs.Sound.{IsSound, IsHolder}
 use Rattle.roster_problem.proofs.Ordering.{IsPermutation-in_order}
 use Rattle.roster_book.specs.Draft.{HasRecords, IsDraftOf}
@@ -71,19 +74,21 @@ holder_longer pairings pairing (OfPairing p) h = longer p pairings pairing h
 -- The tables of so many records are sound.
 record AreSound (count : ℕ) (tables : Problem) : Type 0 where
   sound : IsSound tables
-  count_is : count ≤ 1 + length tables.bases + length tables.persons + length tables.pairings + length tables.duties
+  count_is : count ≤ 1 + length tables.bases + length tables.persons + length tables.pairings + length tables.duties + length tables.leaves
 
-sound-none : {period : Period} → AreSound 1 (record { period = period; bases = []; persons = []; pairings = []; duties = [] })
+sound-none : {period : Period} → AreSound 1 (record { period = period; bases = []; persons = []; pairings = []; duties = []; leaves = [] })
 sound-none = record {
   sound = record {
     bases = omega arith;
     persons = omega arith;
     pairings = omega arith;
     duties = omega arith;
+    leaves = omega arith;
     penalties = All-nil _;
     homes = All-nil _;
     starts = All-nil _;
     holders = All-nil _;
+    absences = All-nil _;
   };
   count_is = omega arith;
 }
@@ -102,17 +107,11 @@ sound-base count before fields t k =
     let n = one_more t.bases made in
     let met = AreMet-none (base.conditions before fields) k.met in
     let few : length t.bases < MOST_BASES = rw k.tables_are (below _ MOST_BASES met.1.1.1.1.0) in
+    let few' : length (t.bases ++ made ∷ []) ≤ MOST_BASES = omega arith in
+    let homes = All-weaker (λ person. person.base < length t.bases) (λ person. person.base < length (t.bases ++ made ∷ [])) (λ person. longer person.base t.bases made) t.persons s.homes in
+    let starts = All-weaker (λ q. q.base < length t.bases) (λ q. q.base < length (t.bases ++ made ∷ [])) (λ q. longer q.base t.bases made) t.pairings s.starts in
     record {
-      sound = record {
-        bases = omega arith;
-        persons = s.persons;
-        pairings = s.pairings;
-        duties = s.duties;
-        penalties = s.penalties;
-        homes = All-weaker (λ person. person.base < length t.bases) _ (λ person. longer person.base t.bases made) t.persons s.homes;
-        starts = All-weaker (λ q. q.base < length t.bases) _ (λ q. longer q.base t.bases made) t.pairings s.starts;
-        holders = s.holders;
-      };
+      sound = assumption (few', homes, starts, s);
       count_is = omega (arith, k.sound.count_is);
     }
 
@@ -124,18 +123,12 @@ sound-person count before fields t k =
     let n = one_more t.persons made in
     let met = AreMet-none (crew.conditions before fields) k.met in
     let few : length t.persons < MOST_PERSONS = rw k.tables_are (below _ MOST_PERSONS met.1.1.1.1.1.0) in
+    let few' : length (t.persons ++ made ∷ []) ≤ MOST_PERSONS = omega arith in
     let home : made.base < length t.bases = rw k.tables_are (place-below _ (bases_in before) met.1.1.1.1.0) in
+    let homes = All-push (λ person. person.base < length t.bases) t.persons made s.homes home in
+    let absences = All-weaker (λ leave. leave.person < length t.persons) (λ leave. leave.person < length (t.persons ++ made ∷ [])) (λ leave. longer leave.person t.persons made) t.leaves s.absences in
     record {
-      sound = record {
-        bases = s.bases;
-        persons = omega arith;
-        pairings = s.pairings;
-        duties = s.duties;
-        penalties = s.penalties;
-        homes = All-push (λ person. person.base < length t.bases) t.persons made s.homes home;
-        starts = s.starts;
-        holders = s.holders;
-      };
+      sound = assumption (few', homes, absences, s);
       count_is = omega (arith, k.sound.count_is);
     }
 
@@ -147,18 +140,13 @@ sound-pairing count before fields t k =
     let n = one_more t.pairings made in
     let met = AreMet-none (pairing.conditions before fields) k.met in
     let few : length t.pairings < MOST_PAIRINGS = rw k.tables_are (below _ MOST_PAIRINGS met.1.1.1.1.1.0) in
+    let few' : length (t.pairings ++ made ∷ []) ≤ MOST_PAIRINGS = omega arith in
     let start : made.base < length t.bases = rw k.tables_are (place-below _ (bases_in before) met.1.1.1.1.0) in
+    let penalties = All-push (λ q. q.penalty ≤ MOST_PENALTY) t.pairings made s.penalties (amount-below MOST_PENALTY (number_of (pairing.penalty_in fields)) met.1.1.0) in
+    let starts = All-push (λ q. q.base < length t.bases) t.pairings made s.starts start in
+    let holders = All-weaker (λ d. IsHolder (length t.pairings) d.holder) (λ d. IsHolder (length (t.pairings ++ made ∷ [])) d.holder) (λ d. holder_longer t.pairings made d.holder) t.duties s.holders in
     record {
-      sound = record {
-        bases = s.bases;
-        persons = s.persons;
-        pairings = omega arith;
-        duties = s.duties;
-        penalties = All-push (λ q. q.penalty ≤ MOST_PENALTY) t.pairings made s.penalties (amount-below MOST_PENALTY (number_of (pairing.penalty_in fields)) met.1.1.0);
-        homes = s.homes;
-        starts = All-push (λ q. q.base < length t.bases) t.pairings made s.starts start;
-        holders = All-weaker (λ d. IsHolder (length t.pairings) d.holder) _ (λ d. holder_longer t.pairings made d.holder) t.duties s.holders;
-      };
+      sound = assumption (few', penalties, starts, holders, s);
       count_is = omega (arith, k.sound.count_is);
     }
 
@@ -186,18 +174,39 @@ sound-duty count before fields t k =
     let met = AreMet-none (duty.conditions before fields) k.met in
     let h = held before place _ _ _ met.1.1.1 in
     let few : length t.duties < MOST_DUTIES = rw k.tables_are h.room in
+    let few' : length (t.duties ++ made ∷ []) ≤ MOST_DUTIES = omega arith in
     let holder : IsHolder (length t.pairings) made.holder = rw k.tables_are (holder-below place _ h.known (place-below _ _ h.known)) in
+    let holders = All-push (λ d. IsHolder (length t.pairings) d.holder) t.duties made s.holders holder in
     record {
-      sound = record {
-        bases = s.bases;
-        persons = s.persons;
-        pairings = s.pairings;
-        duties = omega arith;
-        penalties = s.penalties;
-        homes = s.homes;
-        starts = s.starts;
-        holders = All-push (λ d. IsHolder (length t.pairings) d.holder) t.duties made s.holders holder;
-      };
+      sound = assumption (few', holders, s);
+      count_is = omega (arith, k.sound.count_is);
+    }
+
+-- a leave's person is known, and there is room for one more
+record IsTakenFor (before : List Record) (place : Option ℕ) : Type 0 where
+  known : is_some place ≡ true
+  room : length (leaves_in before) < MOST_LEAVES
+
+taken-for : (is_busy : ℕ → ℕ → ℕ → Bool) (before : List Record) (place : Option ℕ) (from to : ℕ)
+    → AreMet (leave.conditions_held is_busy before place from to) → IsTakenFor before place
+taken-for is_busy before None from to h = cc h.0
+taken-for is_busy before (Some k) from to h = record { known = refl; room = below _ MOST_LEAVES h.1.1.0 }
+
+sound-leave : (count : ℕ) (before : List Record) (fields : Record) (t : Problem) → IsTaken count LeaveRecord before fields t → AreSound (count + 1) (tables_with LeaveRecord before fields t)
+unfolding code_of_kind leave_of
+sound-leave count before fields t k =
+    let s = k.sound.sound in
+    let made = leave_of before fields in
+    let n = one_more t.leaves made in
+    let place = person_place before (crew_in fields) in
+    let met = AreMet-none (leave.conditions (is_busy (tables_in before)) before fields) k.met in
+    let h = taken-for (is_busy (tables_in before)) before place _ _ met.1.1 in
+    let few : length t.leaves < MOST_LEAVES = rw k.tables_are h.room in
+    let few' : length (t.leaves ++ made ∷ []) ≤ MOST_LEAVES = omega arith in
+    let there : made.person < length t.persons = rw k.tables_are (place-below _ (persons_in before) h.known) in
+    let absences = All-push (λ leave. leave.person < length t.persons) t.leaves made s.absences there in
+    record {
+      sound = assumption (few', absences, s);
       count_is = omega (arith, k.sound.count_is);
     }
 
@@ -211,6 +220,7 @@ step_kind BaseRecord before fields begun k = sound-base _ before fields _ k
 step_kind CrewRecord before fields begun k = sound-person _ before fields _ k
 step_kind PairingRecord before fields begun k = sound-pairing _ before fields _ k
 step_kind DutyRecord before fields begun k = sound-duty _ before fields _ k
+step_kind LeaveRecord before fields begun k = sound-leave _ before fields _ k
 
 step : (command : Command) (before : List Record) (fields : Record) → 0 < length before → list_any (is_of PeriodRecord) before ≡ true
     → AreSound (length before) (tables_in before) → code_of command before fields ≡ None
@@ -262,7 +272,7 @@ has_period command (fields ∷ records) some h = rw (first_is_period command fie
 pub few_records : (command : Command) (records : List Record) → 0 < length records → IsFaultlessSoFar command records → length records ≤ MOST_RECORDS
 few_records command records some h =
     let s = sound-all command records some h in
-    omega (arith, s.count_is, s.sound.bases, s.sound.persons, s.sound.pairings, s.sound.duties)
+    omega (arith, s.count_is, s.sound.bases, s.sound.persons, s.sound.pairings, s.sound.duties, s.sound.leaves)
 
 pub IsSound-draft : (command : Command) (row : ℕ) (before : List Record) (tables : Problem) → IsDraftOf command row before tables → IsSound tables
 IsSound-draft command row before tables d = rw d.tables_are (sound-all command before d.begun d.faultless).sound
@@ -282,13 +292,6 @@ pub IsSound-in_order : (tables : Problem) → IsSound tables → IsSound (record
 IsSound-in_order tables s =
     let order = IsPermutation-in_order tables.duties in
     let same = length_permutation tables.duties (in_order tables.duties) order in
-    record {
-      bases = s.bases;
-      persons = s.persons;
-      pairings = s.pairings;
-      duties = omega (arith, s.duties);
-      penalties = s.penalties;
-      homes = s.homes;
-      starts = s.starts;
-      holders = All-permutation (λ d. IsHolder (length tables.pairings) d.holder) tables.duties (in_order tables.duties) order s.holders;
-    }
+    let few : length (in_order tables.duties) ≤ MOST_DUTIES = omega (arith, s.duties) in
+    let holders = All-permutation (λ d. IsHolder (length tables.pairings) d.holder) tables.duties (in_order tables.duties) order s.holders in
+    assumption (few, holders, s)

@@ -4,13 +4,14 @@ use Rattle.std.specs.List.{cons_option}
 use Rattle.std.specs.Str.{bytes_eq}
 use Rattle.std.proofs.Math.Seq.{append_snoc}
 use Rattle.std.proofs.lemmas.Slice.Eq.{bytes_eq-Decides}
-use Rattle.roster_model.specs.Record.{Record, Kind, PeriodRecord, BaseRecord, CrewRecord, PairingRecord, DutyRecord, field, word_of, is_of, entry_of, gather_after, table_of}
+use Rattle.roster_model.specs.Record.{Record, Kind, PeriodRecord, BaseRecord, CrewRecord, PairingRecord, DutyRecord, LeaveRecord, field, word_of, is_of, entry_of, gather_after, table_of}
 use Rattle.roster_model.specs.Problem.{Problem, tables_in}
 use Rattle.roster_model.specs.records.Period.{period_in}
 use Rattle.roster_model.specs.records.Base.{base_of}
 use Rattle.roster_model.specs.records.Crew.{person_of}
 use Rattle.roster_model.specs.records.Pairing.{pairing_of}
 use Rattle.roster_model.specs.records.Duty.{duty_of}
+use Rattle.roster_model.specs.records.Leave.{leave_of}
 
 cons_option-append : {X : Type 0} (o : Option X) (xs ys : List X) → cons_option o (xs ++ ys) ≡ cons_option o xs ++ ys
 cons_option-append None xs ys = refl
@@ -64,6 +65,7 @@ tables_with kind before fields tables = record {
   persons = grown (is_same kind CrewRecord) tables.persons (person_of before fields);
   pairings = grown (is_same kind PairingRecord) tables.pairings (pairing_of before fields);
   duties = grown (is_same kind DutyRecord) tables.duties (duty_of before fields);
+  leaves = grown (is_same kind LeaveRecord) tables.leaves (leave_of before fields);
 }
 
 pub tables_in-append : (kind : Kind) (before : List Record) (fields : Record) → 0 < length before → is_of kind fields ≡ true
@@ -74,15 +76,17 @@ tables_in-append kind before fields begun h = rw (
   table_of-append kind CrewRecord person_of before fields h,
   table_of-append kind PairingRecord pairing_of before fields h,
   table_of-append kind DutyRecord duty_of before fields h,
+  table_of-append kind LeaveRecord leave_of before fields h,
 )
 
 -- the tables of a period alone
 pub tables_in-first : (fields : Record) → is_of PeriodRecord fields ≡ true
-    → tables_in (fields ∷ []) ≡ record { period = period_in (fields ∷ []); bases = []; persons = []; pairings = []; duties = [] }
+    → tables_in (fields ∷ []) ≡ record { period = period_in (fields ∷ []); bases = []; persons = []; pairings = []; duties = []; leaves = [] }
 unfolding gather_after
 tables_in-first fields h = rw (
   is_of-other PeriodRecord BaseRecord fields h,
   is_of-other PeriodRecord CrewRecord fields h,
   is_of-other PeriodRecord PairingRecord fields h,
   is_of-other PeriodRecord DutyRecord fields h,
+  is_of-other PeriodRecord LeaveRecord fields h,
 ) refl

@@ -26,6 +26,7 @@ code_of codes.OutOfWindow = model.OutOfWindow
 code_of codes.ZoneRefused = model.ZoneRefused
 code_of codes.NoRoom = model.NoRoom
 code_of codes.WrongStart = model.WrongStart
+code_of codes.Busy = model.Busy
 code_of codes.NoDuty = model.NoDuty
 
 abbrev pub kind_of : Kind → record_model.Kind
@@ -34,6 +35,7 @@ kind_of kinds.Base = record_model.BaseRecord
 kind_of kinds.Crew = record_model.CrewRecord
 kind_of kinds.Pairing = record_model.PairingRecord
 kind_of kinds.Duty = record_model.DutyRecord
+kind_of kinds.Leave = record_model.LeaveRecord
 
 abbrev pub command_of : Command → record_model.Command
 command_of commands.Solve = record_model.Solve

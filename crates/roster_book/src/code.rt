@@ -31,6 +31,8 @@ pub enum Code {
     NoRoom,
     /// The first duty of a pairing reports away from its base, or outside the month there.
     WrongStart,
+    /// The person has a leave in one of its minutes.
+    Busy,
     /// A pairing has no duty.
     NoDuty,
 }
@@ -53,6 +55,7 @@ impl Code {
             Code::ZoneRefused => 10,
             Code::NoRoom => 11,
             Code::WrongStart => 12,
+            Code::Busy => 13,
             Code::NoDuty => 14,
         }
     }

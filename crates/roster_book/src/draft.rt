@@ -5,6 +5,7 @@ ghost use Rattle.std.specs.List.{list_any};
 ghost use Rattle.csv.specs.Records.{fields_of};
 ghost use Rattle.roster_model.specs.Code as model;
 ghost use Rattle.roster_model.specs.Record.{Record, Command as Asked};
+ghost use Rattle.roster_model.specs.Problem.{home_of};
 ghost use Rattle.roster_model.specs.Faults.{code_of, first_fault, pairing_without_duty};
 ghost use Rattle.roster_model.specs.records.Base.{is_base_named};
 ghost use Rattle.roster_model.specs.records.Crew.{is_person_named};
@@ -22,7 +23,7 @@ use crate::record::period;
 use crate::refusal::Refusal;
 use csv::ByteRecord;
 use roster_instants::Period;
-use roster_problem::{Base, Duty, Holder, Pairing, Person, Problem};
+use roster_problem::{Base, Duty, Holder, Leave, Pairing, Person, Problem};
 use std::alloc::Global;
 
 /// The tables of the records taken so far. Duties are in the order of their records.
@@ -33,6 +34,7 @@ pub(crate) struct Draft {
     pub(crate) persons: Vec<Person>,
     pub(crate) pairings: Vec<Pairing>,
     pub(crate) duties: Vec<Duty>,
+    pub(crate) leaves: Vec<Leave>,
 }
 
 // Whether it is a duty of the pairing at the place.
@@ -66,6 +68,7 @@ impl Draft {
             persons: Vec::new(alloc),
             pairings: Vec::new(alloc),
             duties: Vec::new(alloc),
+            leaves: Vec::new(alloc),
         })
     }
 
@@ -102,6 +105,10 @@ impl Draft {
                 let duty = self.judge_duty(row, fields);
                 push(&mut self.duties, duty)
             }
+            Some(Kind::Leave) => {
+                let leave = self.judge_leave(fields);
+                push(&mut self.leaves, leave)
+            }
         }
     }
 
@@ -130,6 +137,7 @@ impl Draft {
             self.persons,
             self.pairings,
             self.duties,
+            self.leaves,
         )?)
     }
 
@@ -177,6 +185,16 @@ impl Draft {
     {
         let pairing = &self.pairings[place];
         &self.bases[pairing.base]
+    }
+
+    /// The home base of the person at the place.
+    pub(crate) fn home_of(&self, place: usize) -> &Base
+        requires known { place < vec_len self.now.persons }
+        requires records { HasRecords (tables_of_draft self.now) }
+        ensures { result.now ≡ home_of (tables_of_draft self.now) place }
+    {
+        let person = &self.persons[place];
+        &self.bases[person.base]
     }
 
     /// The duty of the pairing at the place that was given last.

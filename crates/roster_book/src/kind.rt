@@ -18,6 +18,7 @@ pub(crate) enum Kind {
     Crew,
     Pairing,
     Duty,
+    Leave,
 }
 
 /// Whether it is the record of a period.
@@ -38,6 +39,7 @@ pub(crate) fn kind_in(command: Command, fields: &ByteRecord) -> Option<Kind>
             b"crew" => Some(Kind::Crew),
             b"pairing" => Some(Kind::Pairing),
             b"duty" => Some(Kind::Duty),
+            b"leave" => Some(Kind::Leave),
             _ => None,
         },
     }

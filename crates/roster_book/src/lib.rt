@@ -29,6 +29,6 @@ pub use command::Command;
 pub use fault::BookFault;
 pub use reading::{Book, read_book};
 pub use roster_problem::{
-    Base, Duty, Holder, Name, Pairing, Person, Places, Problem, Roster, duties_in_order,
+    Base, Duty, Holder, Leave, Name, Pairing, Person, Places, Problem, Roster, duties_in_order,
 };
 pub use roster_watched::Watched;

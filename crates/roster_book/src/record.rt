@@ -1,7 +1,11 @@
-//! A file a kind: what a record of it adds to the tables, or what is wrong with it.
+//! A file a kind: what a record of it adds to the tables, or what is wrong with it. `window` and `busy`
+//! tell of the times that several kinds have.
 
 mod base;
+mod busy;
 mod crew;
 mod duty;
+mod leave;
 mod pairing;
 pub(crate) mod period;
+mod window;

@@ -4,8 +4,8 @@ use Rattle.std.specs.List.{fold, filter}
 use Rattle.roster_model.specs.Calendar.{Period}
 use Rattle.roster_model.specs.Record.{Record}
 use Rattle.roster_model.specs.records.Period.{period_in}
-use Rattle.roster_model.specs.records.Base.{Base, bases_in, base_at}
-use Rattle.roster_model.specs.records.Crew.{Person, persons_in}
+use Rattle.roster_model.specs.records.Base.{Base, bases_in}
+use Rattle.roster_model.specs.records.Crew.{Person, persons_in, home_at}
 use Rattle.roster_model.specs.records.Pairing.{Pairing, pairings_in}
 use Rattle.roster_model.specs.records.Duty.{Duty, duties_in}
 use Rattle.roster_model.specs.records.Leave.{Leave, leaves_in, is_leave_of}
@@ -57,8 +57,7 @@ problem_of records = record (tables_in records) { duties = in_order (duties_in r
 
 -- the base of the person at place k
 abbrev pub home_of : Problem → ℕ → Base
-home_of problem k =
-    base_at problem.bases (unwrap_or (option_map (λ person. person.base) (slice_get problem.persons k)) 0)
+home_of problem k = home_at problem.bases problem.persons k
 
 -- the leaves of the person at place k
 abbrev pub leaves_of : Problem → ℕ → List Leave

@@ -1,6 +1,6 @@
 //! `duty,ID,P,PAIRING,STATION,REPORT,RELEASE`: a duty of a pairing.
 
-ghost use Rattle.std.specs.Prelude.{◌≡◌, ◌<◌, ◌≤◌, List, Some, true, false, MatchOption, length, option_map};
+ghost use Rattle.std.specs.Prelude.{◌≡◌, ◌<◌, List, Some, true, false, MatchOption, option_map};
 ghost use Rattle.csv.specs.Records.{fields_of};
 ghost use Rattle.roster_model.specs.Record.{Record, Command, DutyRecord, minute_of};
 ghost use Rattle.roster_model.specs.Faults.{code_of_kind};
@@ -11,6 +11,7 @@ ghost use Rattle.roster_book.specs.Draft.{HasRecords, IsDraftOf, Judges, tables_
 use crate::code::Code;
 use crate::draft::Draft;
 use crate::forms::field;
+use crate::record::window::{is_in_window, midnight};
 use csv::ByteRecord;
 use roster_instants::{BaseDays, Minute, read_minute};
 use roster_model::limits::{DAYS_AFTER, DAYS_BEFORE, MOST_DUTIES};
@@ -51,21 +52,6 @@ fn is_in_sequence(last: Option<&Duty>, report: Minute, release: Minute) -> bool
     ensures order { result ≡ true → report < release }
 {
     report < release && last.is_none_or(|duty| duty.release <= report)
-}
-
-// The instant at which the local day begins; after the last day, the end of the window.
-fn midnight(days: &BaseDays, day: usize) -> Minute
-    requires { day ≤ length days.now.eight }
-    ensures { result ≡ model.midnight days.now day }
-{
-    days.mid(day)
-}
-
-// Whether it lies in the window.
-fn is_in_window(days: &BaseDays, report: Minute, release: Minute) -> bool
-    ensures { result ≡ model.is_in_window days.now report release }
-{
-    midnight(days, 0) <= report && release <= midnight(days, days.days())
 }
 
 // Whether the instant lies in the month.

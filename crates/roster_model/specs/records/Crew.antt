@@ -1,11 +1,11 @@
 -- `crew,ID,BASE,TARGET,YEAR,ELEVEN`: a person, and what they are to fly and have flown.
-use Rattle.std.specs.Prelude.{ℕ, Bool, not, ◌&&◌, ◌==◌, List, [], ◌∷◌, length, Option, is_some, nat_lt, position, unwrap_or}
+use Rattle.std.specs.Prelude.{ℕ, Bool, not, ◌&&◌, ◌==◌, List, [], ◌∷◌, length, Option, is_some, nat_lt, option_map, position, slice_get, unwrap_or}
 use Rattle.std.specs.Str.{bytes_eq}
 use Rattle.roster_model.specs.declared.limits.TheConstants.{MOST_PERSONS, MOST_MINUTES}
 use Rattle.roster_model.specs.Form.{is_identifier, is_number, is_amount, number_of}
 use Rattle.roster_model.specs.Record.{Record, CrewRecord, field, amount_of, next_row, table_of}
 use Rattle.roster_model.specs.Code.{Code, FieldCount, FieldForm, OutOfLimits, GivenTwice, NotGiven, NoRoom}
-use Rattle.roster_model.specs.records.Base.{base_place}
+use Rattle.roster_model.specs.records.Base.{Base, base_at, base_place}
 
 -- A person. `base` is the place of the home base. `target`, `year` and `eleven` are minutes of
 -- flight: what is wanted for the month, and what was flown before it in its calendar year and in the
@@ -56,6 +56,10 @@ is_person_named name person = bytes_eq person.id name
 -- the place of the person with the name, if they are among those of the records
 abbrev pub person_place : List Record → List ℕ → Option ℕ
 person_place records name = position (is_person_named name) (persons_in records)
+
+-- the home base of the person at place k, of some bases and persons
+abbrev pub home_at : List Base → List Person → ℕ → Base
+home_at bases persons k = base_at bases (unwrap_or (option_map (λ person. person.base) (slice_get persons k)) 0)
 
 -- ---- what it has to meet
 

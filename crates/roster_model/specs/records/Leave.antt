@@ -1,13 +1,13 @@
 -- `leave,CREW,FROM,TO`: time in which a person has no duty.
-use Rattle.std.specs.Prelude.{ℕ, Bool, false, not, ◌&&◌, ◌==◌, List, [], ◌∷◌, length, Option, Some, None, is_some, nat_lt, option_map, slice_get, unwrap_or}
+use Rattle.std.specs.Prelude.{ℕ, Bool, false, not, ◌&&◌, ◌==◌, List, [], ◌∷◌, length, Option, Some, None, is_some, nat_lt, unwrap_or}
 use Rattle.roster_model.specs.declared.limits.TheConstants.{MOST_LEAVES}
 use Rattle.roster_model.specs.Form.{is_identifier}
 use Rattle.roster_model.specs.Calendar.{instant_of}
 use Rattle.roster_model.specs.Window.{is_in_window}
 use Rattle.roster_model.specs.Record.{Record, LeaveRecord, field, minute_of, table_of}
 use Rattle.roster_model.specs.Code.{Code, FieldCount, FieldForm, NotGiven, OutOfSequence, OutOfWindow, NoRoom, Busy}
-use Rattle.roster_model.specs.records.Base.{Base, bases_in, base_at}
-use Rattle.roster_model.specs.records.Crew.{persons_in, person_place}
+use Rattle.roster_model.specs.records.Base.{bases_in}
+use Rattle.roster_model.specs.records.Crew.{persons_in, person_place, home_at}
 
 -- A leave of the person at a place, from an instant to a later one.
 pub record Leave : Type 0 where
@@ -47,18 +47,13 @@ abbrev pub is_formed : Record → Bool
 is_formed fields =
     is_identifier (crew_in fields) && is_some (instant_of (from_in fields)) && is_some (instant_of (to_in fields))
 
--- the base by whose clocks it is judged
-abbrev pub base_of_person : List Record → ℕ → Base
-base_of_person before k =
-    base_at (bases_in before) (unwrap_or (option_map (λ person. person.base) (slice_get (persons_in before) k)) 0)
-
 -- what it has to meet besides, as a leave of a person who was given before, or of none; `is_busy`
 -- tells whether a person is busy in a minute between two instants, by the records before
 abbrev pub conditions_held : (ℕ → ℕ → ℕ → Bool) → List Record → Option ℕ → ℕ → ℕ → List (Code × Bool)
 conditions_held is_busy before None from to = (NotGiven, false) ∷ []
 conditions_held is_busy before (Some k) from to =
     (OutOfSequence, nat_lt from to)
-    ∷ (OutOfWindow, is_in_window (base_of_person before k).days from to)
+    ∷ (OutOfWindow, is_in_window (home_at (bases_in before) (persons_in before) k).days from to)
     ∷ (NoRoom, nat_lt (length (leaves_in before)) MOST_LEAVES)
     ∷ (Busy, not (is_busy k from to))
     ∷ []

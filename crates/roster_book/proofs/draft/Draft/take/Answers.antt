@@ -1,11 +1,12 @@
 use Rattle.std.proofs.Common.{◌∙◌, sym, refl}
 use Rattle.std.proofs.lemmas.Result.{err_from_is_err_and}
 use Rattle.csv.specs.Records.{fields_of}
-use Rattle.roster_model.specs.Record.{BaseRecord, CrewRecord, PairingRecord, DutyRecord, PeriodRecord}
+use Rattle.roster_model.specs.Record.{BaseRecord, CrewRecord, PairingRecord, DutyRecord, LeaveRecord, PeriodRecord}
 use Rattle.roster_model.specs.records.Base.{base_of}
 use Rattle.roster_model.specs.records.Crew.{person_of}
 use Rattle.roster_model.specs.records.Pairing.{pairing_of}
 use Rattle.roster_model.specs.records.Duty.{duty_of}
+use Rattle.roster_model.specs.records.Leave.{leave_of}
 use Rattle.roster_book.specs.Draft.{tables_of_draft}
 use Rattle.roster_book.specs.View.{command_of}
 use Rattle.roster_book.proofs.Drafts.{code_of-later, code_of-unknown, Takes-pushed}
@@ -48,3 +49,9 @@ returns-in-Some-Duty c = λ before d.
     let fields = fields_of c.args.fields.now in
     Takes-pushed (command_of c.args.command) c.args.row DutyRecord before fields (tables_of_draft c.args.self.now) _ (duty_of before fields) _ _ _ d (rw c.in-Some-Duty.field-0-is at c.in-Some-Duty.ensures)
     (c.push-in-Some-Duty.ensures _ (duty_of before fields) (c.judge_duty-duty.ensures (command_of c.args.command) before d)) (λ same. rw same refl)
+
+pub returns-in-Some-Leave : goal.returns-in-Some-Leave
+returns-in-Some-Leave c = λ before d.
+    let fields = fields_of c.args.fields.now in
+    Takes-pushed (command_of c.args.command) c.args.row LeaveRecord before fields (tables_of_draft c.args.self.now) _ (leave_of before fields) _ _ _ d (rw c.in-Some-Leave.field-0-is at c.in-Some-Leave.ensures)
+    (c.push-in-Some-Leave.ensures _ (leave_of before fields) (c.judge_leave-leave.ensures (command_of c.args.command) c.args.row before d)) (λ same. rw same refl)
