@@ -23,12 +23,13 @@ fn identifiers_are_told(rt: HostRuntime) {
 
 #[test]
 fn rules_have_words(rt: HostRuntime) {
-    assert_eq!(rt; Rule::ALL.len(), 4);
+    assert_eq!(rt; Rule::ALL.len(), 5);
     for (rule, word) in [
         (Rule::ALL[0], "BASE"),
         (Rule::ALL[1], "OVERLAP"),
-        (Rule::ALL[2], "REST"),
-        (Rule::ALL[3], "RECOVERY"),
+        (Rule::ALL[2], "LEAVE"),
+        (Rule::ALL[3], "REST"),
+        (Rule::ALL[4], "RECOVERY"),
     ] {
         assert_eq!(rt; rule.word(), word);
     }

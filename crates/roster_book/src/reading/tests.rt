@@ -70,9 +70,10 @@ fn the_first_fault_is_told_by_record_and_code(rt: HostRuntime) {
     }
 }
 
-// What is wrong with the last record of a book that begins with a month, a base and a pairing.
-fn fault_of_fourth(rt: &HostRuntime, record: &[u8]) -> Option<u8> {
-    let head = b"period,2024-03\nbase,AMS,UTC0\npairing,P1,AMS,5\n";
+// What is wrong with the last record of a book that begins with a month, a base, a pairing, and a
+// person who has a leave.
+fn fault_of_sixth(rt: &HostRuntime, record: &[u8]) -> Option<u8> {
+    let head = b"period,2024-03\nbase,AMS,UTC0\npairing,P1,AMS,5\ncrew,B,AMS,0,0,0\nleave,B,2024-03-10T00:00Z,2024-03-12T00:00Z\n";
     let Ok(mut text) = Vec::from_slice(rt.alloc(), head) else {
         return None;
     };
@@ -81,14 +82,14 @@ fn fault_of_fourth(rt: &HostRuntime, record: &[u8]) -> Option<u8> {
     }
     let mut reader = Watched::new(text.as_slice());
     match read_book(rt.alloc(), &mut reader, Command::Solve) {
-        Err(BookFault::At { row: 4, code }) => Some(code),
+        Err(BookFault::At { row: 6, code }) => Some(code),
         _ => None,
     }
 }
 
 #[test]
 fn each_code_of_a_record_is_told(rt: HostRuntime) {
-    let cases: [(&[u8], u8); 14] = [
+    let cases: [(&[u8], u8); 20] = [
         (b"jump,A,AMS,0,0,0", 2),
         (b"crew,A,AMS,0,0", 3),
         (b"crew,A B,AMS,0,0,0", 4),
@@ -103,9 +104,15 @@ fn each_code_of_a_record_is_told(rt: HostRuntime) {
         (b"duty,D1,P,P1,AMS,2024-01-26T00:00Z,2024-01-26T06:00Z", 12),
         (b"duty,D1,P,P1,BER,2024-03-04T06:00Z,2024-03-04T14:00Z", 12),
         (b"duty,D1,P,P1,AMS,2024-04-01T00:00Z,2024-04-01T06:00Z", 12),
+        (b"leave,B,2024-03-13T00:00Z", 3),
+        (b"leave,B,2024-02-30T00:00Z,2024-03-01T00:00Z", 4),
+        (b"leave,A,2024-03-13T00:00Z,2024-03-14T00:00Z", 7),
+        (b"leave,B,2024-03-11T00:00Z,2024-03-11T00:00Z", 8),
+        (b"leave,B,2024-03-11T00:00Z,2024-04-15T00:01Z", 9),
+        (b"leave,B,2024-03-11T23:59Z,2024-03-13T00:00Z", 13),
     ];
     for (record, code) in cases {
-        let told = fault_of_fourth(&rt, record);
+        let told = fault_of_sixth(&rt, record);
         assert_eq!(rt; told, Some(code), "{record:?}");
     }
 }

@@ -9,22 +9,28 @@ use roster_problem::{Problem, Rule, Set};
 use roster_restrules::recovery_ok;
 use std::test::Fail;
 
-// One person, and with the first pairing: the second overlaps, and the third follows ten hours later
-// at home. The fourth is another base's, and the fifth is two days later.
+// The first person, and with the first pairing: the second overlaps, and the third follows ten hours
+// later at home. The fourth is another base's, and the fifth is two days later. The sixth ends a
+// minute after a leave of theirs begins; the other person's leave lasts as long as all duties.
 const CASES: &[u8] = b"period,2024-03
 base,AMS,UTC0
 base,BER,UTC0
 crew,A,AMS,0,0,0
+crew,B,AMS,0,0,0
 pairing,P1,AMS,1
 pairing,P2,AMS,1
 pairing,P3,AMS,1
 pairing,P4,BER,1
 pairing,P5,AMS,1
+pairing,P6,AMS,1
+leave,B,2024-03-01T00:00Z,2024-04-01T00:00Z
+leave,A,2024-03-10T13:59Z,2024-03-11T00:00Z
 duty,D5,P,P5,AMS,2024-03-06T06:00Z,2024-03-06T14:00Z
 duty,D1,P,P1,AMS,2024-03-04T06:00Z,2024-03-04T14:00Z
 duty,D2,P,P2,AMS,2024-03-04T13:59Z,2024-03-04T18:00Z
 duty,D3,P,P3,AMS,2024-03-05T00:00Z,2024-03-05T08:00Z
 duty,D4,P,P4,BER,2024-03-08T06:00Z,2024-03-08T14:00Z
+duty,D6,P,P6,AMS,2024-03-10T06:00Z,2024-03-10T14:00Z
 ";
 
 /// The set of a number in a list of one number for each pairing.
@@ -41,14 +47,17 @@ fn set_of(problem: &Problem, places: &[u16], number: usize) -> Option<Set>
 #[test]
 fn sets_are_judged(rt: HostRuntime) -> Result<(), Fail> {
     let problem = problem_of(rt.alloc(), CASES)?;
-    assert_eq!(rt; problem.persons().len(), 1);
-    let cases: [([u16; 5], Option<Rule>); 6] = [
-        ([1, 1, 1, 1, 1], None),
-        ([0, 1, 1, 1, 1], None),
-        ([0, 1, 1, 1, 0], None),
-        ([0, 0, 1, 1, 1], Some(Rule::Overlap)),
-        ([0, 1, 0, 1, 1], Some(Rule::Rest)),
-        ([0, 1, 1, 0, 1], Some(Rule::Base)),
+    assert_eq!(rt; problem.persons().len(), 2);
+    assert_eq!(rt; problem.leaves().len(), 2);
+    assert_eq!(rt; problem.leaves_of(0), [1u16].as_slice());
+    let cases: [([u16; 6], Option<Rule>); 7] = [
+        ([1, 1, 1, 1, 1, 1], None),
+        ([0, 1, 1, 1, 1, 1], None),
+        ([0, 1, 1, 1, 0, 1], None),
+        ([0, 0, 1, 1, 1, 1], Some(Rule::Overlap)),
+        ([0, 1, 1, 1, 1, 0], Some(Rule::Leave)),
+        ([0, 1, 0, 1, 1, 1], Some(Rule::Rest)),
+        ([0, 1, 1, 0, 1, 1], Some(Rule::Base)),
     ];
     for (places, want) in cases {
         let set = set_of(&problem, &places, 0).ok_or("a set")?;
@@ -109,8 +118,8 @@ fn blocks_are_judged(rt: HostRuntime) -> Result<(), Fail> {
 #[test]
 fn duties_are_merged_in_their_order(rt: HostRuntime) -> Result<(), Fail> {
     let problem = problem_of(rt.alloc(), CASES)?;
-    assert_eq!(rt; problem.persons().len(), 1);
-    let set = set_of(&problem, &[0, 0, 1, 1, 0], 0).ok_or("a set")?;
+    assert_eq!(rt; problem.persons().len(), 2);
+    let set = set_of(&problem, &[0, 0, 1, 1, 0, 1], 0).ok_or("a set")?;
     let list = merge(rt.alloc(), &problem, 0, &set)?;
     let names: [&[u8]; 3] = [b"D1", b"D2", b"D5"];
     assert_eq!(rt; list.len(), 3);

@@ -9,7 +9,8 @@ use Rattle.roster_model.proofs.OrderLemmas.{reports-later}
 use Rattle.roster_model.specs.Calendar.{Days, common}
 use Rattle.roster_model.specs.declared.limits.TheConstants.{DAYS_BEFORE}
 use Rattle.roster_model.specs.declared.profile.TheConstants.{NIGHT_REST, RECURRENT_NIGHTS, RECURRENT_REST, BETWEEN_RECURRENT_RESTS}
-use Rattle.roster_model.specs.records.Duty.{Duty, midnight}
+use Rattle.roster_model.specs.Window.{midnight}
+use Rattle.roster_model.specs.records.Duty.{Duty}
 use Rattle.roster_model.specs.Rules.Overlap.{NoOverlap}
 use Rattle.roster_model.specs.Rules.Recovery.{HasRestAfter, IsRecurrent, KeepsRecovery, holds_night, nights}
 use Rattle.roster_problem.specs.Duties.{AreTimed, IsInOrder}

@@ -7,7 +7,8 @@ use Rattle.std.specs.List.{count_by, range_with_len}
 use Rattle.roster_model.specs.declared.limits.TheConstants.{DAYS_BEFORE}
 use Rattle.roster_model.specs.declared.profile.TheConstants.{RECURRENT_REST, RECURRENT_NIGHTS, NIGHT_REST, BETWEEN_RECURRENT_RESTS}
 use Rattle.roster_model.specs.Calendar.{Days, common}
-use Rattle.roster_model.specs.records.Duty.{Duty, midnight}
+use Rattle.roster_model.specs.Window.{midnight}
+use Rattle.roster_model.specs.records.Duty.{Duty}
 
 -- the nights of the window: night i reaches from 22:00 on day i to 08:00 on the next day
 abbrev pub nights : Days → List ℕ
