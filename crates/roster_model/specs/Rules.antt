@@ -5,6 +5,7 @@ pub mod Overlap
 pub mod Leave
 pub mod Rest
 pub mod Recovery
+pub mod Limits
 use Rattle.std.specs.Prelude.{◌≡◌, ◌<◌, ◌⊎◌, ℕ, Bool, ◌==◌, List, [], Option, Some, None, codes}
 use Rattle.std.specs.List.{filter, list_any}
 use Rattle.roster_model.specs.records.Duty.{Duty, Holder, OfPairing}

@@ -1,23 +1,36 @@
--- Duty by local day, in minutes. (ORO.FTL.210(a): a day's share of a duty is what lies in the day.)
+-- Minutes by local day, and in runs of days. A duty across midnight is divided by the minute.
+-- (ORO.FTL.210(a); the division is this project's profile.)
 use Rattle.std.specs.Prelude.{ℕ, ◌+◌, ◌-◌, List, length, map, max, slice_index}
 use Rattle.std.specs.List.{sum_by, range_with_len, fold}
 use Rattle.roster_model.specs.declared.limits.TheConstants.{DAYS_BEFORE}
 use Rattle.roster_model.specs.Calendar.{Days, common}
 use Rattle.roster_model.specs.records.Duty.{Duty}
 
--- the minutes that the duties of a list share with day i
-abbrev pub duty_on : Days → List Duty → ℕ → ℕ
-duty_on days list i =
-    sum_by (λ duty. common duty.report duty.release (slice_index days.mid i) (slice_index days.mid (i + 1))) list
+-- A measure says how many minutes one duty has between two instants. This is the one of duty.
+abbrev pub duty_between : Duty → ℕ → ℕ → ℕ
+duty_between duty from to = common duty.report duty.release from to
 
--- the duty of the n days of which `last` is the last
-abbrev pub duty_in_run : Days → List Duty → ℕ → ℕ → ℕ
-duty_in_run days list n last = sum_by (duty_on days list) (range_with_len (last + 1 - n) n)
+-- the minutes of a list of duties on day i, by a measure
+abbrev pub on_day : (Duty → ℕ → ℕ → ℕ) → Days → List Duty → ℕ → ℕ
+on_day measure days list i =
+    sum_by (λ duty. measure duty (slice_index days.mid i) (slice_index days.mid (i + 1))) list
+
+-- the minutes of the n days of which `last` is the last, where each day has some
+abbrev pub in_run : (ℕ → ℕ) → ℕ → ℕ → ℕ
+in_run minutes n last = sum_by minutes (range_with_len (last + 1 - n) n)
 
 -- the last days of the runs that are judged: from the month's first day to the window's last
 abbrev pub judged_days : Days → List ℕ
 judged_days days = range_with_len DAYS_BEFORE (length days.eight - DAYS_BEFORE)
 
+-- the most minutes of a judged run of n days
+abbrev pub greatest_run : (ℕ → ℕ) → Days → ℕ → ℕ
+greatest_run minutes days n = fold max 0 (map (in_run minutes n) (judged_days days))
+
+-- the duty of a list on day i
+abbrev pub duty_on : Days → List Duty → ℕ → ℕ
+duty_on days list i = on_day duty_between days list i
+
 -- the greatest duty of a judged run of n days
 abbrev pub greatest_duty : Days → List Duty → ℕ → ℕ
-greatest_duty days list n = fold max 0 (map (duty_in_run days list n) (judged_days days))
+greatest_duty days list n = greatest_run (duty_on days list) days n

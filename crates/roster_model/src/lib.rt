@@ -18,9 +18,9 @@
 //! - `Problem`: what is to be rostered
 //! - `Busy`: when persons are busy
 //! - `Faults`: the code of a record, and the first fault of all
+//! - `Sums`: duty by local day, and in runs of days
 //! - `Rules`: which sets of pairings are legal for a person
 //! - `Rosters`: legal rosters, their cost and order, and the best one
-//! - `Sums`: duty by local day
 //! - `Texts`: the lines that are written
 //! - `Answer`: the records of the bytes, and the text that answers them
 #![tactic(auto)]

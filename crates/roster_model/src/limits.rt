@@ -39,3 +39,6 @@ pub const DAYS_BEFORE: usize = 35;
 
 /// The days of the window after the month's last day.
 pub const DAYS_AFTER: usize = 14;
+
+/// The days of a window, at most: those round a month of 31 days.
+pub const MOST_DAYS: usize = DAYS_BEFORE + 31 + DAYS_AFTER;

@@ -18,3 +18,12 @@ pub const NIGHT_REST: u32 = 480;
 
 /// The time from the end of a recurrent rest to the start of the next, in minutes, at most: 168 hours.
 pub const BETWEEN_RECURRENT_RESTS: u32 = 10_080;
+
+/// The duty of 7 days in a row, at most: 60 hours. (ORO.FTL.210(a)(1).)
+pub const MOST_DUTY_IN_7_DAYS: u64 = 3_600;
+
+/// The duty of 14 days in a row, at most: 110 hours. (ORO.FTL.210(a)(2).)
+pub const MOST_DUTY_IN_14_DAYS: u64 = 6_600;
+
+/// The duty of 28 days in a row, at most: 190 hours. (ORO.FTL.210(a)(3).)
+pub const MOST_DUTY_IN_28_DAYS: u64 = 11_400;
