@@ -2,4 +2,3 @@ pub mod Appends
 pub mod PeriodText
 pub mod LineOf
 pub mod NamesOf
-pub mod DutyOn

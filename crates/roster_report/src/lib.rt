@@ -6,7 +6,6 @@
 //! - `report`: the report of a roster, written whole
 //! - `lines`: its lines
 //! - `names`: the names of the pairings of one number
-//! - `sums`: the greatest duty of a run of days
 //! - `words`: words and numbers behind one another
 //! - `fault_line`: the line of a fault, written whole
 //! - `device`: a text that is written and flushed
@@ -19,7 +18,6 @@ mod fault_line;
 mod lines;
 mod names;
 mod report;
-mod sums;
 mod words;
 
 pub use fault::TextFault;

@@ -10,8 +10,8 @@ ghost use Rattle.roster_model.specs.Texts.{line_of, names_of};
 ghost use Rattle.roster_report.specs.Words.{further};
 
 use crate::names::push_names;
-use crate::sums::greatest_duty;
 use crate::words::{end_line, push_number, push_signed, push_word};
+use roster_cumulative::greatest_duty;
 use roster_instants::{BaseDays, Period};
 use roster_legal::merge;
 use roster_model::limits::MOST_PAIRINGS;
@@ -63,9 +63,9 @@ fn numbers_of(list: &DutyList, days: &BaseDays) -> [u64; NUMBERS]
 {
     [
         0,
-        greatest_duty(list, days, 7),
-        greatest_duty(list, days, 14),
-        greatest_duty(list, days, 28),
+        greatest_duty(days, list, 7) as u64,
+        greatest_duty(days, list, 14) as u64,
+        greatest_duty(days, list, 28) as u64,
         0,
     ]
 }

@@ -1,0 +1,2 @@
+pub mod OnDay
+pub mod InRun
