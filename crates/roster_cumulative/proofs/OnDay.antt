@@ -1,5 +1,5 @@
 -- Which days of a window share minutes with the time from one instant to another.
-use Rattle.std.proofs.Common.{◌≡◌, ℕ, ◌+◌, ◌-◌, ◌<◌, ◌≤◌, pos, ◌<ℤ◌, true, Ordering, Less, Equal, Greater, is_le, int_cmp, length, get_or, Option, Some, None, refl, sym, ap, ◌∙◌, inl, inr, arith}
+use Rattle.std.proofs.Common.{◌≡◌, ℕ, ◌+◌, ◌<◌, ◌≤◌, pos, ◌<ℤ◌, true, Ordering, Less, Equal, Greater, is_le, int_cmp, length, get_or, Option, Some, None, inl, inr, arith}
 use Rattle.std.specs.Prelude.{slice_get, unwrap_or, MatchOption}
 use Rattle.std.specs.Cmp.{int_ranks}
 use Rattle.std.specs.Ordering.{MatchOrdering}

@@ -1,4 +1,4 @@
-use Rattle.std.proofs.Common.{◌≡◌, ℕ, ◌+◌, ◌-◌, ◌*◌, ◌≤◌, get_or, max, sym, ap, ◌∙◌, arith}
+use Rattle.std.proofs.Common.{◌≡◌, ℕ, ◌+◌, ◌-◌, ◌*◌, get_or, max, ap, ◌∙◌, arith}
 use Rattle.roster_model.specs.declared.limits.TheConstants.{DAYS_BEFORE, MOST_DUTIES}
 use Rattle.roster_model.specs.Sums.{in_run}
 use Rattle.roster_cumulative.proofs.InRun.{next_run, sum_by-range-le, greatest-more}
