@@ -9,7 +9,9 @@ ghost use Rattle.roster_problem.specs.Duties.{IsInOrder};
 ghost use Rattle.roster_restrules.specs.Block.{IsBlock};
 
 use roster_instants::{BaseDays, Minute, common};
-use roster_model::profile::{BETWEEN_RECURRENT_RESTS, NIGHT_REST, RECURRENT_NIGHTS, RECURRENT_REST};
+use roster_model::profile::{
+    BETWEEN_RECURRENT_RESTS, NIGHT_REST, RECURRENT_NIGHTS, RECURRENT_REST,
+};
 use roster_problem::{Duty, DutyList};
 
 /// Whether enough minutes of a night lie between the two instants.

@@ -1,15 +1,13 @@
 -- The recovery rule over a part of a duty list.
-use Rattle.std.proofs.Common.{◌≡◌, ℕ, suc, zero, ◌+◌, ◌-◌, ◌<◌, ◌≤◌, Bool, true, false, cond, leb, leb-true, List, [], ◌∷◌, length, get_or, Some, refl, sym, ap, ◌∙◌, subst, inl, inr, arith}
-use Rattle.std.specs.Prelude.{All, filter, min, max, slice_get}
+use Rattle.std.proofs.Common.{◌≡◌, ℕ, suc, zero, ◌+◌, ◌-◌, ◌<◌, ◌≤◌, Bool, true, false, cond, leb-true, List, [], ◌∷◌, length, get_or, Some, refl, sym, subst, inl, inr, arith}
+use Rattle.std.specs.Prelude.{filter, slice_get}
 use Rattle.std.specs.List.{count_by}
 use Rattle.std.proofs.lemmas.Bool.{cases_lt, false≢true, le-leb}
 use Rattle.std.proofs.lemmas.List.Sums.{sum_by-cons}
 use Rattle.std.proofs.lemmas.Option.{none-some, slice_get_within, slice_get-get_or}
 use Rattle.roster_model.proofs.OrderLemmas.{reports-later}
 use Rattle.roster_model.specs.Calendar.{Days, common}
-use Rattle.roster_model.specs.declared.limits.TheConstants.{DAYS_BEFORE}
-use Rattle.roster_model.specs.declared.profile.TheConstants.{NIGHT_REST, RECURRENT_NIGHTS, RECURRENT_REST, BETWEEN_RECURRENT_RESTS}
-use Rattle.roster_model.specs.Window.{midnight}
+use Rattle.roster_model.specs.declared.profile.TheConstants.{NIGHT_REST}
 use Rattle.roster_model.specs.records.Duty.{Duty}
 use Rattle.roster_model.specs.Rules.Overlap.{NoOverlap}
 use Rattle.roster_model.specs.Rules.Recovery.{HasRestAfter, IsRecurrent, KeepsRecovery, holds_night, nights}
@@ -122,6 +120,6 @@ KeepsRecovery-filter days test list ordered timed apart keeps i j a b order firs
     let inside : j < length (filter test list) = slice_get_within (filter test list) j b second in
     keeps (place test list i) (place test list j) a b (place-rises test list i j order) (kept_at test list i a first) (kept_at test list j b second)
     (λ m from before.
-        none-between days test list ordered timed apart i (j - i) (omega arith) (λ k first last. none k first (omega arith)) m from
-        (subst (λ k. m < place test list k) (sym there) before))
+    none-between days test list ordered timed apart i (j - i) (omega arith) (λ k first last. none k first (omega arith)) m from
+    (subst (λ k. m < place test list k) (sym there) before))
     late

@@ -1,4 +1,4 @@
-use Rattle.std.proofs.Common.{◌≤◌, ◌+◌, arith, rules}
+use Rattle.std.proofs.Common.{◌+◌, arith, rules}
 use Rattle.std.proofs.lemmas.Option.{get_or_from_slice_get}
 use Rattle.roster_model.proofs.WindowLemmas.{night-lasts}
 use Rattle.roster_restrules.proofs.recovery.holds_night.Goals as goal

@@ -1,8 +1,8 @@
-use Rattle.std.proofs.Common.{◌≡◌, ℕ, ◌+◌, ◌-◌, ◌<◌, ◌≤◌, Bool, cond, length, get_or, sym, ◌∙◌, arith, rules, refl}
+use Rattle.std.proofs.Common.{◌≡◌, ℕ, ◌+◌, ◌-◌, ◌<◌, ◌≤◌, cond, length, sym, arith, rules, refl}
 use Rattle.std.proofs.lemmas.Bool.{false≢true}
 use Rattle.std.proofs.lemmas.Option.{get_or_from_slice_get}
 use Rattle.roster_model.specs.Rules.Recovery.{holds_night}
-use Rattle.roster_restrules.proofs.Nights.{adds_one, count_below, count-more, count-rises, count-same, not_held_before, not_held_after}
+use Rattle.roster_restrules.proofs.Nights.{adds_one, count-more, count-rises, count-same, not_held_before, not_held_after}
 use Rattle.roster_restrules.proofs.recovery.holds_nights.Goals as goal
 
 pub loop-night-init : goal.loop-night-init
@@ -12,7 +12,7 @@ loop-night-init c =
     let first = c.saturating_sub-first.result in
     let mornings : (k : ℕ) → k < first → k + 1 < c.mornings_by.result = λ k below. omega (arith, c.saturating_sub-first.ensures) in
     let none = count-same test 0 first (omega arith) (λ k from below.
-        not_held_before days c.args.from c.args.to k (c.mornings_by.ensures.value.0 (k + 1) 0 (omega arith) (mornings k below))) in
+    not_held_before days c.args.from c.args.to k (c.mornings_by.ensures.value.0 (k + 1) 0 (omega arith) (mornings k below))) in
     record {
       count = sym none;
       few = omega arith;
@@ -27,7 +27,7 @@ returns-then-le c =
     let begun : c.args.to ≤ c.ten.result = search rules in
     let inside : night < length days.eight - 1 = omega (arith, c.loop-night-test.true, c.days-night-end.ensures.value) in
     let none = count-same test night (length days.eight - 1) (omega arith) (λ k from below.
-        not_held_after days c.ten.ensures.table c.args.from c.args.to night k from (omega arith) (omega (arith, ten, begun))) in
+    not_held_after days c.ten.ensures.table c.args.from c.args.to night k from (omega arith) (omega (arith, ten, begun))) in
     let few = c.loop-night.invariant.few in
     let count = c.loop-night.invariant.count in
     (λ h. absurd (false≢true h), λ many. absurd (omega (arith, none, few, count, many)))

@@ -1,4 +1,4 @@
-use Rattle.std.proofs.Common.{◌≡◌, ◌<◌, ◌≤◌}
+use Rattle.std.proofs.Common.{◌≡◌, ◌<◌}
 use Rattle.roster_model.specs.declared.profile.TheConstants.{RECURRENT_NIGHTS}
 use Rattle.roster_model.specs.Rules.Recovery.{holds_night}
 use Rattle.roster_restrules.proofs.Nights.{count_below}
