@@ -7,7 +7,8 @@ use Rattle.roster_model.proofs.OrderLemmas.{reports-later}
 use Rattle.roster_model.specs.Calendar.{Days}
 use Rattle.roster_model.specs.declared.limits.TheConstants.{DAYS_BEFORE}
 use Rattle.roster_model.specs.declared.profile.TheConstants.{BETWEEN_RECURRENT_RESTS}
-use Rattle.roster_model.specs.records.Duty.{Duty, midnight}
+use Rattle.roster_model.specs.Window.{midnight}
+use Rattle.roster_model.specs.records.Duty.{Duty}
 use Rattle.roster_model.specs.Rules.Recovery.{HasRestAfter, IsRecurrent}
 use Rattle.roster_problem.specs.Duties.{IsInOrder}
 use Rattle.roster_restrules.specs.Block.{IsBlock}
