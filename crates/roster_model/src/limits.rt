@@ -25,8 +25,12 @@ pub const MOST_DUTIES: usize = 4096;
 pub const MOST_LEAVES: usize = 1024;
 
 /// The records of a book without a fault, at most: a period, and of each other kind its limit.
-pub const MOST_RECORDS: usize =
-    1 + MOST_BASES + MOST_PERSONS + MOST_PAIRINGS + MOST_DUTIES + MOST_LEAVES;
+pub const MOST_RECORDS: usize = 1
+    + MOST_BASES
+    + MOST_PERSONS
+    + MOST_PAIRINGS
+    + MOST_DUTIES
+    + MOST_LEAVES;
 
 /// The minutes of a target, and of what was flown before the month, at most.
 pub const MOST_MINUTES: u32 = 60_000;

@@ -22,8 +22,13 @@ impl Rule {
     ghost use Rattle.roster_problem.specs.View.{rule_of};
 
     /// All rules, in the order in which they are judged.
-    pub const ALL: [Rule; 5] =
-        [Rule::Base, Rule::Overlap, Rule::Leave, Rule::Rest, Rule::Recovery];
+    pub const ALL: [Rule; 5] = [
+        Rule::Base,
+        Rule::Overlap,
+        Rule::Leave,
+        Rule::Rest,
+        Rule::Recovery,
+    ];
 
     /// The word that tells it.
     pub fn word(self) -> &'static str

@@ -73,7 +73,8 @@ fn the_first_fault_is_told_by_record_and_code(rt: HostRuntime) {
 // What is wrong with the last record of a book that begins with a month, a base, a pairing, and a
 // person who has a leave.
 fn fault_of_sixth(rt: &HostRuntime, record: &[u8]) -> Option<u8> {
-    let head = b"period,2024-03\nbase,AMS,UTC0\npairing,P1,AMS,5\ncrew,B,AMS,0,0,0\nleave,B,2024-03-10T00:00Z,2024-03-12T00:00Z\n";
+    let head =
+        b"period,2024-03\nbase,AMS,UTC0\npairing,P1,AMS,5\ncrew,B,AMS,0,0,0\nleave,B,2024-03-10T00:00Z,2024-03-12T00:00Z\n";
     let Ok(mut text) = Vec::from_slice(rt.alloc(), head) else {
         return None;
     };

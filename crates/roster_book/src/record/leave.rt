@@ -26,7 +26,10 @@ fn formed(fields: &ByteRecord) -> Option<(Minute, Minute)>
     if !is_identifier(field(fields, 1)) {
         return None;
     }
-    Some((read_minute(field(fields, 2))?, read_minute(field(fields, 3))?))
+    Some((
+        read_minute(field(fields, 2))?,
+        read_minute(field(fields, 3))?,
+    ))
 }
 
 impl Draft {

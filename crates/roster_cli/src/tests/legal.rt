@@ -107,7 +107,11 @@ fn blocks_are_judged(rt: HostRuntime) -> Result<(), Fail> {
     ] {
         let set = set_of(&problem, &places, 0).ok_or("a set")?;
         let list = merge(rt.alloc(), &problem, 0, &set)?;
-        assert_eq!(rt; recovery_ok(problem.days_of(0), &list), is_kept, "{places:?}");
+        assert_eq!(rt;
+            recovery_ok(problem.days_of(0), &list),
+            is_kept,
+            "{places:?}"
+        );
         let broken = first_broken(rt.alloc(), &problem, 0, &set)?;
         let is_told = matches!(broken, Some(Rule::Recovery));
         assert_eq!(rt; is_told, !is_kept, "{places:?}");

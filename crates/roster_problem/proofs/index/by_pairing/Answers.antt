@@ -11,7 +11,7 @@ index_by-requires-clause-there c k d inside p h =
     holder_below c.args.pairings p (get_or c.args.duties.now k d).holder (c.requires.holders k d inside) same
 
 pub returns-clause-index : goal.returns-clause-index
-returns-clause-index c = IfOk-weaker c.index_by.result _ _ (λ lists index. index is_of_pairing (λ duty place h p. 
+returns-clause-index c = IfOk-weaker c.index_by.result _ _ (λ lists index. index is_of_pairing (λ duty place h p.
     let same : place ≡ pairing_of duty.holder = search rules in
     is_held_by_pairing_of p duty.holder place same)) c.index_by.ensures.index
 
