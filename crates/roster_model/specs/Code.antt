@@ -16,7 +16,7 @@ pub data Code : Type 0 where
   GivenTwice : Code
   -- what it names wasn't given before
   NotGiven : Code
-  -- an end isn't after its start, or a duty begins before the last one ends
+  -- an end isn't after its start, a sector is outside its duty, or one begins before the last one ends
   OutOfSequence : Code
   -- it reaches out of the window
   OutOfWindow : Code

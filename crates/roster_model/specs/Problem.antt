@@ -8,6 +8,7 @@ use Rattle.roster_model.specs.records.Base.{Base, bases_in}
 use Rattle.roster_model.specs.records.Crew.{Person, persons_in, home_at}
 use Rattle.roster_model.specs.records.Pairing.{Pairing, pairings_in}
 use Rattle.roster_model.specs.records.Duty.{Duty, duties_in}
+use Rattle.roster_model.specs.records.Sector.{sectors_in, flown}
 use Rattle.roster_model.specs.records.Leave.{Leave, leaves_in, is_leave_of}
 
 -- A month, and bases, persons, pairings, duties and leaves. A base, a person and a pairing is named by its
@@ -20,14 +21,14 @@ pub record Problem : Type 0 where
   pub duties : List Duty
   pub leaves : List Leave
 
--- the tables of some records, in their order
+-- the tables of some records, in their order; each duty has the sectors that name it
 abbrev pub tables_in : List Record → Problem
 tables_in records = record {
   period = period_in records;
   bases = bases_in records;
   persons = persons_in records;
   pairings = pairings_in records;
-  duties = duties_in records;
+  duties = flown (sectors_in records) (duties_in records);
   leaves = leaves_in records;
 }
 
@@ -53,7 +54,7 @@ in_order duties = fold (λ sorted duty. insert_duty duty sorted) [] duties
 
 -- the tables of its records, and the duties in their order in time
 abbrev pub problem_of : List Record → Problem
-problem_of records = record (tables_in records) { duties = in_order (duties_in records) }
+problem_of records = record (tables_in records) { duties = in_order (tables_in records).duties }
 
 -- the base of the person at place k
 abbrev pub home_of : Problem → ℕ → Base

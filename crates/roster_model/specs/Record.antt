@@ -30,6 +30,7 @@ pub data Kind : Type 0 where
   CrewRecord : Kind
   PairingRecord : Kind
   DutyRecord : Kind
+  SectorRecord : Kind
   LeaveRecord : Kind
 
 -- the word in the first field
@@ -39,6 +40,7 @@ word_of BaseRecord = codes "base"
 word_of CrewRecord = codes "crew"
 word_of PairingRecord = codes "pairing"
 word_of DutyRecord = codes "duty"
+word_of SectorRecord = codes "sector"
 word_of LeaveRecord = codes "leave"
 
 abbrev pub is_of : Kind → Record → Bool
@@ -50,7 +52,7 @@ pub data Command : Type 0 where
 
 -- the kinds that a book for the command may have
 abbrev pub kinds_of : Command → List Kind
-kinds_of Solve = PeriodRecord ∷ BaseRecord ∷ CrewRecord ∷ PairingRecord ∷ DutyRecord ∷ LeaveRecord ∷ []
+kinds_of Solve = PeriodRecord ∷ BaseRecord ∷ CrewRecord ∷ PairingRecord ∷ DutyRecord ∷ SectorRecord ∷ LeaveRecord ∷ []
 
 -- ---- tables
 

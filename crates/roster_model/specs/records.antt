@@ -3,4 +3,5 @@ pub mod Base
 pub mod Crew
 pub mod Pairing
 pub mod Duty
+pub mod Sector
 pub mod Leave

@@ -19,13 +19,21 @@ pub data Holder : Type 0 where
 abbrev pub is_held_by_pairing : ℕ → Holder → Bool
 is_held_by_pairing p (OfPairing q) = q == p
 
--- A duty from its report to its later release, both instants; `station` is where it reports.
+-- A flight from off to on, both instants, that the person of its duty operates or is positioned by.
+pub record Sector : Type 0 where
+  pub operates : Bool
+  pub off : ℕ
+  pub on : ℕ
+
+-- A duty from its report to its later release, both instants; `station` is where it reports. Its
+-- sectors are in the order of their records.
 pub record Duty : Type 0 where
   pub id : List ℕ
   pub holder : Holder
   pub station : List ℕ
   pub report : ℕ
   pub release : ℕ
+  pub sectors : List Sector
   pub row : ℕ
 
 -- ---- columns
@@ -48,7 +56,7 @@ report_in fields = field fields 5
 abbrev pub release_in : Record → List ℕ
 release_in fields = field fields 6
 
--- ---- what a record of a duty adds
+-- ---- what a record of a duty adds: the records of its sectors come after it
 
 -- its holder, if that was given before
 abbrev pub holder_in : List Record → Record → Option Holder
@@ -61,6 +69,7 @@ duty_of before fields = record {
   station = station_in fields;
   report = minute_of (report_in fields);
   release = minute_of (release_in fields);
+  sectors = [];
   row = next_row before;
 }
 
