@@ -1,6 +1,8 @@
 pub mod Amounts
 pub mod Fields
 pub mod FormFacts
+pub mod Gather
+pub mod SectorTable
 pub mod Tables
 pub mod Drafts
 pub mod Sound

@@ -4,28 +4,18 @@ use Rattle.std.specs.List.{cons_option}
 use Rattle.std.specs.Str.{bytes_eq}
 use Rattle.std.proofs.Math.Seq.{append_snoc}
 use Rattle.std.proofs.lemmas.Slice.Eq.{bytes_eq-Decides}
-use Rattle.roster_model.specs.Record.{Record, Kind, PeriodRecord, BaseRecord, CrewRecord, PairingRecord, DutyRecord, LeaveRecord, field, word_of, is_of, entry_of, gather_after, table_of}
+use Rattle.roster_model.specs.Record.{Record, Kind, PeriodRecord, BaseRecord, CrewRecord, PairingRecord, DutyRecord, SectorRecord, LeaveRecord, field, word_of, is_of, entry_of, gather_after, table_of}
 use Rattle.roster_model.specs.Problem.{Problem, tables_in}
 use Rattle.roster_model.specs.records.Period.{period_in}
 use Rattle.roster_model.specs.records.Base.{base_of}
 use Rattle.roster_model.specs.records.Crew.{person_of}
 use Rattle.roster_model.specs.records.Pairing.{pairing_of}
-use Rattle.roster_model.specs.records.Duty.{duty_of}
+use Rattle.roster_model.specs.records.Duty.{Duty, duties_in, duty_of}
 use Rattle.roster_model.specs.records.Leave.{leave_of}
-
-cons_option-append : {X : Type 0} (o : Option X) (xs ys : List X) → cons_option o (xs ++ ys) ≡ cons_option o xs ++ ys
-cons_option-append None xs ys = refl
-cons_option-append (Some x) xs ys = refl
-
--- the entries, and the one that one more record adds
-gather_after-append : {X : Type 0} (entry : List Record → Record → Option X) (before records : List Record) (fields : Record)
-    → gather_after entry before (records ++ fields ∷ []) ≡ gather_after entry before records ++ cons_option (entry (before ++ records) fields) []
-unfolding gather_after
-gather_after-append entry before [] fields = rw append-nil refl
-gather_after-append entry before (first ∷ records) fields =
-    ap (cons_option (entry before first)) (gather_after-append entry (before ++ first ∷ []) records fields)
-    ∙ cons_option-append (entry before first) _ _
-    ∙ ap (λ all. cons_option (entry before first) (gather_after entry (before ++ first ∷ []) records) ++ cons_option (entry all fields) []) (append_snoc before first records)
+use Rattle.roster_model.specs.records.Sector.{GivenSector, flown, flown_from, sector_of, sectors_in}
+use Rattle.roster_book.specs.Flown.{with_sector_at}
+use Rattle.roster_book.proofs.Gather.{gather_after-append}
+use Rattle.roster_book.proofs.SectorTable.{flown-duty, flown-sector}
 
 -- whether two kinds are one, by their words
 abbrev pub is_same : Kind → Kind → Bool
@@ -57,6 +47,24 @@ unfolding period_in
 period_in-append [] fields h = absurd (omega arith)
 period_in-append (first ∷ rest) fields h = refl
 
+-- duties with what a record of the kind adds
+abbrev pub duties_with : Kind → List Record → Record → List Duty → List Duty
+duties_with kind before fields duties = flown_by (is_same kind SectorRecord) (sector_of before fields)
+  where
+    flown_by : Bool → GivenSector → List Duty
+    flown_by true given = with_sector_at duties given.duty given.sector
+    flown_by false given = grown (is_same kind DutyRecord) duties (duty_of before fields)
+
+duties_with-is : (kind : Kind) (before : List Record) (fields : Record)
+    → flown (grown (is_same kind SectorRecord) (sectors_in before) (sector_of before fields)) (grown (is_same kind DutyRecord) (duties_in before) (duty_of before fields))
+    ≡ duties_with kind before fields (flown (sectors_in before) (duties_in before))
+duties_with-is PeriodRecord before fields = refl
+duties_with-is BaseRecord before fields = refl
+duties_with-is CrewRecord before fields = refl
+duties_with-is PairingRecord before fields = refl
+duties_with-is DutyRecord before fields = flown-duty before fields
+duties_with-is SectorRecord before fields = flown-sector (sectors_in before) (sector_of before fields) (duties_in before)
+
 -- the tables with what a record of the kind adds
 abbrev pub tables_with : Kind → List Record → Record → Problem → Problem
 tables_with kind before fields tables = record {
@@ -64,7 +72,7 @@ tables_with kind before fields tables = record {
   bases = grown (is_same kind BaseRecord) tables.bases (base_of before fields);
   persons = grown (is_same kind CrewRecord) tables.persons (person_of before fields);
   pairings = grown (is_same kind PairingRecord) tables.pairings (pairing_of before fields);
-  duties = grown (is_same kind DutyRecord) tables.duties (duty_of before fields);
+  duties = duties_with kind before fields tables.duties;
   leaves = grown (is_same kind LeaveRecord) tables.leaves (leave_of before fields);
 }
 
@@ -76,17 +84,20 @@ tables_in-append kind before fields begun h = rw (
   table_of-append kind CrewRecord person_of before fields h,
   table_of-append kind PairingRecord pairing_of before fields h,
   table_of-append kind DutyRecord duty_of before fields h,
+  table_of-append kind SectorRecord sector_of before fields h,
   table_of-append kind LeaveRecord leave_of before fields h,
+  duties_with-is kind before fields,
 )
 
 -- the tables of a period alone
 pub tables_in-first : (fields : Record) → is_of PeriodRecord fields ≡ true
     → tables_in (fields ∷ []) ≡ record { period = period_in (fields ∷ []); bases = []; persons = []; pairings = []; duties = []; leaves = [] }
-unfolding gather_after
+unfolding gather_after flown_from
 tables_in-first fields h = rw (
   is_of-other PeriodRecord BaseRecord fields h,
   is_of-other PeriodRecord CrewRecord fields h,
   is_of-other PeriodRecord PairingRecord fields h,
   is_of-other PeriodRecord DutyRecord fields h,
+  is_of-other PeriodRecord SectorRecord fields h,
   is_of-other PeriodRecord LeaveRecord fields h,
 ) refl

@@ -1,3 +1,4 @@
 pub mod View
+pub mod Flown
 pub mod Draft
 pub mod Reading

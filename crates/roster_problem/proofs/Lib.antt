@@ -1,4 +1,5 @@
 pub mod OrderLaw
+pub mod SectorLists
 pub mod Ordering
 pub mod Positions
 pub mod Homes

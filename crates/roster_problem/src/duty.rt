@@ -1,7 +1,12 @@
 //! Duties.
 
+ghost use Rattle.std.specs.Prelude.{◌≡◌, ◌++◌, ◌∷◌, [], true, is_ok, if◌then◌else◌};
+ghost use Rattle.roster_model.specs.records.Sector.{is_in_sequence};
+
 use crate::name::Name;
+use crate::sector::Sector;
 use roster_instants::Minute;
+use std::alloc::AllocError;
 use std::marker::Model;
 
 /// Whose duty it is.
@@ -11,7 +16,8 @@ pub enum Holder {
     Pairing(usize),
 }
 
-/// A duty, from its report to its later release, which the type keeps.
+/// A duty, from its report to its later release. Its sectors lie in it, and each begins no earlier
+/// than the one before it ends. The type keeps that.
 #[derive(Debug, Drop)]
 pub struct Duty {
     /// Its own among the duties.
@@ -24,6 +30,8 @@ pub struct Duty {
     pub report: Minute,
     /// When it ends. Post-flight duty lies before it.
     pub release: Minute,
+    /// Its sectors, in the order of their records.
+    pub sectors: Vec<Sector>,
     /// The row of the record.
     pub row: usize,
 }
@@ -42,8 +50,35 @@ impl Model for Duty {
       station = d.station;
       report = d.report;
       release = d.release;
+      sectors = d.sectors.items;
       row = d.row;
     } };
 
-    ghost invariant = { λ d. d.report < d.release };
+    ghost use Rattle.roster_problem.specs.Sectors.{AreSectors};
+
+    ghost invariant = { λ d. (d.report < d.release)
+        × AreSectors d.report d.release d.sectors.items };
+}
+
+impl Duty {
+    /// Whether the sector ends after it begins, lies in the duty, and begins no earlier than the
+    /// duty's last sector ends.
+    pub fn is_in_sequence(&self, sector: Sector) -> bool
+        ensures { result ≡ is_in_sequence self.now sector.off sector.on }
+    {
+        sector.off < sector.on
+            && self.report <= sector.off
+            && sector.on <= self.release
+            && self.sectors.last().is_none_or(|last| last.on <= sector.off)
+    }
+
+    /// Puts a sector behind its others, after which it is flown.
+    pub fn push_sector(&mut self, sector: Sector) -> Result<(), AllocError>
+        requires { is_in_sequence self.old sector.off sector.on ≡ true }
+        ensures { self.new ≡ (if is_ok result
+            then record self.old { sectors = self.old.sectors ++ sector ∷ [] } else self.old) }
+    {
+        self.sectors.push(sector)?;
+        Ok(())
+    }
 }

@@ -5,7 +5,7 @@
 //! order:
 //!
 //! - `name`: identifiers
-//! - `base`, `person`, `pairing`, `duty`, `leave`: the entries of the tables
+//! - `base`, `person`, `pairing`, `duty`, `leave`: the entries of the tables; `sector`: what a duty has
 //! - `order`: the order of duties in time
 //! - `index`: from a pairing to its duties, and from a person to their leaves
 //! - `problem`: the tables together
@@ -27,6 +27,7 @@ mod person;
 mod problem;
 mod roster;
 mod rule;
+mod sector;
 mod set;
 
 pub use base::Base;
@@ -40,6 +41,7 @@ pub use person::Person;
 pub use problem::Problem;
 pub use roster::{Places, Roster};
 pub use rule::Rule;
+pub use sector::Sector;
 pub use set::Set;
 
 #[cfg(test)]

@@ -1,6 +1,7 @@
 use super::*;
 use roster_instants::{Minute, read_minute};
 use roster_model::limits::MOST_PAIRINGS;
+use std::alloc::Global;
 use std::process::Abort;
 
 fn name(rt: &impl Abort, text: &str) -> Name {
@@ -113,9 +114,10 @@ fn a_set_is_read_off_the_list_of_places(rt: HostRuntime) {
     assert!(rt; Set::of_places(&places, 4).is_empty());
 }
 
-fn duty(rt: &impl Abort, id: &str, pairing: usize, report: &str, release: &str) -> Option<Duty> {
-    let report = minute(rt, report);
-    let release = minute(rt, release);
+// A duty of the pairing from 06:00 to 14:00.
+fn duty(rt: &impl Abort, alloc: Global, id: &str, pairing: usize) -> Option<Duty> {
+    let report = minute(rt, "2024-03-04T06:00Z");
+    let release = minute(rt, "2024-03-04T14:00Z");
     if report >= release {
         return None;
     }
@@ -125,6 +127,7 @@ fn duty(rt: &impl Abort, id: &str, pairing: usize, report: &str, release: &str) 
         station: name(rt, "AMS"),
         report,
         release,
+        sectors: Vec::new(alloc),
         row: 7,
     })
 }
@@ -132,9 +135,9 @@ fn duty(rt: &impl Abort, id: &str, pairing: usize, report: &str, release: &str) 
 #[test]
 fn a_duty_list_has_the_duties_at_its_positions(rt: HostRuntime) {
     let duties = [
-        duty(&rt, "D1", 0, "2024-03-04T06:00Z", "2024-03-04T14:00Z").expect(&rt, "D1"),
-        duty(&rt, "D2", 1, "2024-03-05T06:00Z", "2024-03-05T14:00Z").expect(&rt, "D2"),
-        duty(&rt, "D3", 0, "2024-03-06T06:00Z", "2024-03-06T14:00Z").expect(&rt, "D3"),
+        duty(&rt, rt.alloc(), "D1", 0).expect(&rt, "D1"),
+        duty(&rt, rt.alloc(), "D2", 1).expect(&rt, "D2"),
+        duty(&rt, rt.alloc(), "D3", 0).expect(&rt, "D3"),
     ];
     let positions = Vec::from_array(rt.alloc(), [0u16, 2]).expect(&rt, "memory");
     let list = DutyList::new(&duties, positions);
@@ -143,4 +146,26 @@ fn a_duty_list_has_the_duties_at_its_positions(rt: HostRuntime) {
     assert_eq!(rt; list.duty(0).id.as_bytes(), b"D1".as_slice());
     assert_eq!(rt; list.duty(1).id.as_bytes(), b"D3".as_slice());
     assert!(rt; DutyList::new(&duties, Vec::new(rt.alloc())).is_empty());
+}
+
+#[test]
+fn a_duty_has_sectors_that_follow_each_other(rt: HostRuntime) {
+    let mut duty = duty(&rt, rt.alloc(), "D1", 0).expect(&rt, "D1");
+    for (operates, off, on, is_taken) in [
+        (false, "2024-03-04T05:59Z", "2024-03-04T07:00Z", false),
+        (false, "2024-03-04T06:00Z", "2024-03-04T06:00Z", false),
+        (false, "2024-03-04T06:00Z", "2024-03-04T08:00Z", true),
+        (true, "2024-03-04T07:59Z", "2024-03-04T09:00Z", false),
+        (true, "2024-03-04T08:00Z", "2024-03-04T14:01Z", false),
+        (true, "2024-03-04T08:00Z", "2024-03-04T14:00Z", true),
+    ] {
+        let (off, on) = (minute(&rt, off), minute(&rt, on));
+        let sector = Sector { operates, off, on };
+        assert_eq!(rt; duty.is_in_sequence(sector), is_taken);
+        if duty.is_in_sequence(sector) {
+            duty.push_sector(sector).expect(&rt, "memory");
+        }
+    }
+    assert_eq!(rt; duty.sectors.len(), 2);
+    assert_eq!(rt; duty.sectors[1].on, duty.release);
 }

@@ -1,6 +1,5 @@
 -- `sector,DUTY,O,OFF,ON`: a flight within a duty, operated or for positioning.
-use Rattle.std.specs.Prelude.{ℕ, ◌+◌, Bool, true, false, ◌&&◌, ◌||◌, ◌==◌, List, [], ◌∷◌, length, map, filter, Option, Some, None, is_some, nat_lt, nat_le, slice_get, codes}
-use Rattle.std.specs.List.{last_or}
+use Rattle.std.specs.Prelude.{ℕ, ◌+◌, ◌-◌, Bool, true, false, ◌&&◌, ◌||◌, ◌==◌, List, [], ◌∷◌, length, map, filter, Option, Some, None, is_some, nat_lt, nat_le, slice_get, codes}
 use Rattle.std.specs.Option.{option_map_or, option_and_then}
 use Rattle.std.specs.Str.{bytes_eq}
 use Rattle.roster_model.specs.declared.limits.TheConstants.{MOST_SECTORS}
@@ -76,7 +75,7 @@ is_formed fields =
 
 -- the sector that was given last, operated or not
 abbrev pub last_sector : List Sector → Option Sector
-last_sector sectors = last_or None sectors
+last_sector sectors = slice_get sectors (length sectors - 1)
 
 -- it ends after it begins, within its duty, and begins no earlier than the duty's last sector ended
 abbrev pub is_in_sequence : Duty → ℕ → ℕ → Bool

@@ -1,0 +1,19 @@
+-- Duties with their sectors, as they come record by record.
+use Rattle.std.specs.Prelude.{ℕ, zero, suc, List, [], ◌∷◌, ◌++◌, length, Option, Some, None}
+use Rattle.std.specs.List.{sum_by}
+use Rattle.roster_model.specs.records.Duty.{Duty, Sector}
+
+-- the sectors of all duties, counted
+abbrev pub sector_count : List Duty → ℕ
+sector_count duties = sum_by (λ duty. length duty.sectors) duties
+
+-- the duty with one more sector behind its others
+abbrev pub with_sector : Duty → Sector → Duty
+with_sector duty sector = record duty { sectors = duty.sectors ++ sector ∷ [] }
+
+-- the duties where the one at a place has one more sector, if there is one
+abbrev pub with_sector_at : List Duty → Option ℕ → Sector → List Duty
+with_sector_at duties None sector = duties
+with_sector_at [] (Some place) sector = []
+with_sector_at (duty ∷ duties) (Some zero) sector = with_sector duty sector ∷ duties
+with_sector_at (duty ∷ duties) (Some (suc place)) sector = duty ∷ with_sector_at duties (Some place) sector
