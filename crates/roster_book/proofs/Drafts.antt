@@ -1,11 +1,14 @@
 -- A draft after one more record without a fault.
-use Rattle.std.proofs.Common.{◌≡◌, ◌+◌, ◌<◌, ◌==◌, ℕ, Bool, true, false, cond, not, ◌&&◌, List, [], ◌∷◌, ◌++◌, length, Option, Some, None, Result, Ok, Err, refl, sym, ◌∙◌, ap, append_assoc, append-nil, length-append, arith}
+use Rattle.std.proofs.Common.{◌≡◌, ◌+◌, ◌<◌, ◌==◌, ℕ, Bool, true, false, cond, not, ◌&&◌, List, [], ◌∷◌, ◌++◌, length, Option, Some, None, Result, Ok, Err, refl, sym, subst, ◌∙◌, ap, append_assoc, append-nil, length-append, arith}
 use Rattle.std.specs.List.{find}
 use Rattle.std.proofs.lemmas.Bool.Decides.{nat_tests}
-use Rattle.roster_model.specs.Record.{Record, Command, kinds_of, Kind, PeriodRecord, is_of, next_row}
+use Rattle.roster_model.specs.Record.{Record, Command, kinds_of, Kind, PeriodRecord, SectorRecord, is_of, next_row}
 use Rattle.roster_model.specs.Code.{Code, UnknownKind}
 use Rattle.roster_model.specs.Problem.{Problem}
 use Rattle.roster_model.specs.Faults.{code_of, code_of_kind, kind_in}
+use Rattle.roster_model.specs.records.Duty.{Sector}
+use Rattle.roster_model.specs.records.Sector.{GivenSector, sector_of}
+use Rattle.roster_book.specs.Flown.{with_sector_at}
 use Rattle.roster_book.specs.Draft.{HasRecords, IsDraftOf, Pushes, Takes}
 use Rattle.roster_book.specs.declared.refusal.Refusal.{Refusal}
 use Rattle.roster_book.proofs.FirstFaultLemmas.{faultless-more}
@@ -65,3 +68,14 @@ Takes-pushed command row kind before fields tables new entry entries longer (Ok 
     rw (same p.1) (IsDraftOf-append command row kind before fields tables d (sym k) p.0)
 Takes-pushed command row kind before fields tables new entry entries longer (Err e) d k p same =
     rw (code_of-later command kind before fields d.begun (sym k)) p
+
+-- the record of a sector is taken where its duty has it behind its others
+pub IsDraftOf-sector : (command : Command) (row : ℕ) (before : List Record) (fields : Record) (tables : Problem) (place : ℕ) (sector : Sector)
+    → IsDraftOf command row before tables → Some SectorRecord ≡ kind_in command fields → code_of_kind SectorRecord before fields ≡ None
+    → sector_of before fields ≡ record { duty = Some place; sector = sector }
+    → (code_of command before fields ≡ None)
+    × IsDraftOf command (row + 1) (before ++ fields ∷ []) (record tables { duties = with_sector_at tables.duties (Some place) sector })
+IsDraftOf-sector command row before fields tables place sector d k none given =
+    let new : GivenSector → Problem = λ g. record tables { duties = with_sector_at tables.duties g.duty g.sector } in
+    let taken = IsDraftOf-append command row SectorRecord before fields tables d (sym k) none in
+    (taken.0, subst (λ g. IsDraftOf command (row + 1) (before ++ fields ∷ []) (new g)) given taken.1)

@@ -1,17 +1,19 @@
 -- Duties with their sectors, after one more record of a sector or of a duty.
-use Rattle.std.proofs.Common.{◌≡◌, ◌<◌, ◌≤◌, ◌+◌, ◌==◌, ◌&&◌, ℕ, zero, suc, Bool, true, false, cond, List, [], ◌∷◌, ◌++◌, length, get_or, set, Option, Some, None, refl, sym, ◌∙◌, ap, subst, append-nil, append_assoc, length-append, arith}
-use Rattle.std.specs.Prelude.{All, filter, map, nat_le, nat_lt, option_map, position}
+use Rattle.std.proofs.Common.{◌≡◌, ◌<◌, ◌≤◌, ◌+◌, ◌==◌, ◌&&◌, ℕ, zero, suc, Bool, true, false, cond, List, [], ◌∷◌, ◌++◌, length, get_or, set, Option, Some, None, inl, inr, refl, sym, ◌∙◌, ap, subst, append-nil, append_assoc, length-append, arith}
+use Rattle.std.specs.Prelude.{All, filter, map, nat_le, nat_lt, option_map, position, slice_get}
 use Rattle.std.specs.List.{cons_option, last_or, position_or_len}
 use Rattle.std.specs.Option.{option_map_or}
 use Rattle.std.proofs.Math.Seq.{append_snoc}
 use Rattle.std.proofs.lemmas.Bool.Decides.{nat_tests}
 use Rattle.std.proofs.lemmas.List.{map-append}
+use Rattle.std.proofs.lemmas.List.Sums.{sum_by-append, sum_by-set}
+use Rattle.std.proofs.lemmas.Option.{slice_get-get_or, slice_get_cases}
 use Rattle.std.proofs.lemmas.List.Elements.{All-nil, All-cons, All-head, All-tail, filter-append}
 use Rattle.roster_model.specs.Record.{Record, DutyRecord, SectorRecord, is_of, entry_of, gather_after}
 use Rattle.roster_model.specs.records.Duty.{Duty, Sector, Holder, duties_in, duty_of, duty_place, is_duty_named, is_held_by_pairing, is_in_sequence, last_duty, starts_well}
 use Rattle.roster_model.specs.records.Base.{Base}
 use Rattle.roster_model.specs.records.Sector.{GivenSector, duty_name_in, flown, flown_from, is_of_duty, sector_of, sectors_at, sectors_in}
-use Rattle.roster_book.specs.Flown.{sector_count, with_sector, with_sector_at}
+use Rattle.roster_book.specs.Flown.{fits_at, sector_count, with_sector, with_sector_at}
 use Rattle.roster_book.proofs.Gather.{gather_after-append}
 
 -- ---- one more sector
@@ -60,7 +62,8 @@ flown-there given sector d zero (duty ∷ duties) =
     rw (sectors_at-append given (record { duty = Some (d + 0); sector = sector }) d, here d, flown-earlier given sector (d + 0) (d + 1) duties (omega arith)) refl
 flown-there given sector d (suc place) (duty ∷ duties) =
     let P : ℕ → Type 0 = λ n. flown_from (given ++ record { duty = Some n; sector = sector } ∷ []) (d + 1) duties ≡ with_sector_at (flown_from given (d + 1) duties) (Some place) sector in
-    let rest = subst P (omega arith) (flown-there given sector (d + 1) place duties) in
+    let next : d + 1 + place ≡ d + suc place = omega arith in
+    let rest = subst P next (flown-there given sector (d + 1) place duties) in
     rw (sectors_at-append given (record { duty = Some (d + suc place); sector = sector }) d, not_here d place, rest) refl
 
 pub flown-sector : (given : List GivenSector) (more : GivenSector) (duties : List Duty)
@@ -69,7 +72,10 @@ flown-sector given more duties = by_place more.duty
   where
     by_place : (place : Option ℕ) → flown (given ++ record { duty = place; sector = more.sector } ∷ []) duties ≡ with_sector_at (flown given duties) place more.sector
     by_place None = flown-none given more.sector 0 duties
-    by_place (Some place) = flown-there given more.sector 0 place duties
+    by_place (Some place) =
+        let P : ℕ → Type 0 = λ n. flown (given ++ record { duty = Some n; sector = more.sector } ∷ []) duties ≡ with_sector_at (flown given duties) (Some place) more.sector in
+        let same : 0 + place ≡ place = omega arith in
+        subst P same (flown-there given more.sector 0 place duties)
 
 -- ---- one more duty
 
@@ -164,12 +170,12 @@ flown-place name given d [] = refl
 flown-place name given d (duty ∷ duties) = rw (flown-place name given (d + 1) duties) refl
 
 -- the place of a duty with a name
-pub flown-position : (name : List ℕ) (given : List GivenSector) (duties : List Duty)
+pub flown_position : (name : List ℕ) (given : List GivenSector) (duties : List Duty)
     → position (is_duty_named name) (flown given duties) ≡ position (is_duty_named name) duties
-flown-position name given duties = rw (flown-place name given 0 duties, flown-length given 0 duties) refl
+flown_position name given duties = rw (flown-place name given 0 duties, flown-length given 0 duties) refl
 
-pub flown-count : (given : List GivenSector) (duties : List Duty) → length (flown given duties) ≡ length duties
-flown-count given duties = flown-length given 0 duties
+pub flown_count : (given : List GivenSector) (duties : List Duty) → length (flown given duties) ≡ length duties
+flown_count given duties = flown-length given 0 duties
 
 abbrev release_of : Option Duty → Option ℕ
 release_of duty = option_map (λ d. d.release) duty
@@ -205,28 +211,68 @@ starts_well-by None (Some other) base station report h = cc
 starts_well-by (Some one) None base station report h = cc
 starts_well-by (Some one) (Some other) base station report h = refl
 
-pub flown-in_sequence : (p : ℕ) (given : List GivenSector) (duties : List Duty) (report release : ℕ)
+pub flown_in_sequence : (p : ℕ) (given : List GivenSector) (duties : List Duty) (report release : ℕ)
     → is_in_sequence (last_duty (flown given duties) p) report release ≡ is_in_sequence (last_duty duties p) report release
-flown-in_sequence p given duties report release = in_sequence-by _ _ report release (flown-last_duty p given duties)
+flown_in_sequence p given duties report release = in_sequence-by _ _ report release (flown-last_duty p given duties)
 
-pub flown-starts_well : (p : ℕ) (given : List GivenSector) (duties : List Duty) (base : Base) (station : List ℕ) (report : ℕ)
+pub flown_starts_well : (p : ℕ) (given : List GivenSector) (duties : List Duty) (base : Base) (station : List ℕ) (report : ℕ)
     → starts_well (last_duty (flown given duties) p) base station report ≡ starts_well (last_duty duties p) base station report
-flown-starts_well p given duties base station report = starts_well-by _ _ base station report (flown-last_duty p given duties)
+flown_starts_well p given duties base station report = starts_well-by _ _ base station report (flown-last_duty p given duties)
 
 -- ---- one more sector among duties
 
-pub sector_count-more : (duties : List Duty) (place : ℕ) (sector : Sector) → place < length duties
-    → sector_count (with_sector_at duties (Some place) sector) ≡ sector_count duties + 1
-sector_count-more [] place sector h = absurd (omega arith)
-sector_count-more (duty ∷ duties) zero sector h =
-    let longer = length-append duty.sectors (sector ∷ []) in
-    omega arith
-sector_count-more (duty ∷ duties) (suc place) sector h =
-    let rest = sector_count-more duties place sector (omega arith) in
-    omega arith
-
-pub with_sector_at-is : (duties : List Duty) (place : ℕ) (sector : Sector) (duty : Duty) → place < length duties → duty ≡ get_or duties place duty
+pub with_sector_at-is : (duties : List Duty) (place : ℕ) (sector : Sector) (duty : Duty) → slice_get duties place ≡ Some duty
     → with_sector_at duties (Some place) sector ≡ set duties place (with_sector duty sector)
-with_sector_at-is [] place sector duty h e = absurd (omega arith)
-with_sector_at-is (first ∷ duties) zero sector duty h e = ap (λ d. with_sector d sector ∷ duties) (sym e)
-with_sector_at-is (first ∷ duties) (suc place) sector duty h e = ap (λ rest. first ∷ rest) (with_sector_at-is duties place sector duty (omega arith) e)
+with_sector_at-is [] place sector duty e = cc
+with_sector_at-is (first ∷ duties) zero sector duty e =
+    let same : first ≡ duty = cc in
+    ap (λ d. with_sector d sector ∷ duties) same
+with_sector_at-is (first ∷ duties) (suc place) sector duty e = ap (λ rest. first ∷ rest) (with_sector_at-is duties place sector duty e)
+
+one_more : (new old own longer : ℕ) → new + own ≡ old + longer → longer ≡ own + 1 → new ≡ old + 1
+one_more new old own longer h k = omega arith
+
+pub sector_count_more : (duties : List Duty) (place : ℕ) (sector : Sector) → place < length duties
+    → sector_count (with_sector_at duties (Some place) sector) ≡ sector_count duties + 1
+unfolding sector_count
+sector_count_more [] place sector h = absurd (omega arith)
+sector_count_more (first ∷ rest) place sector h =
+    let duties = first ∷ rest in
+    let duty = get_or duties place first in
+    let more = with_sector duty sector in
+    ap sector_count (with_sector_at-is duties place sector duty (slice_get-get_or duties place first h))
+    ∙ one_more (sector_count (set duties place more)) (sector_count duties) (length duty.sectors) (length more.sectors)
+    (sum_by-set (λ d. length d.sectors) duties place more first h) (length-append duty.sectors (sector ∷ []))
+
+no_more : (new old : ℕ) → new ≡ old + (0 + 0) → new ≡ old
+no_more new old h = omega arith
+
+-- a duty without a sector adds none
+pub sector_count_bare : (duties : List Duty) (duty : Duty) → duty.sectors ≡ [] → sector_count (duties ++ duty ∷ []) ≡ sector_count duties
+unfolding sector_count
+sector_count_bare duties duty none =
+    let P : List Sector → Type 0 = λ sectors. sector_count (duties ++ duty ∷ []) ≡ sector_count duties + (0 + length sectors) in
+    no_more _ _ (subst P none (sum_by-append (λ d. length d.sectors) duties (duty ∷ [])))
+
+-- a sector fits where there is a duty
+pub fits-within : (duties : List Duty) (place : ℕ) (sector : Sector) → fits_at duties place sector ≡ true → place < length duties
+fits-within duties place sector h =
+    elim (slice_get_cases duties place).1 [ inl (duty, within, there, same) ↦ within | inr (past, none) ↦ cc (rw none at h) ]
+
+pub sector_count_none : sector_count [] ≡ 0
+unfolding sector_count
+sector_count_none = refl
+
+pub length-with_sector_at : (duties : List Duty) (place : Option ℕ) (sector : Sector) → length (with_sector_at duties place sector) ≡ length duties
+length-with_sector_at duties None sector = refl
+length-with_sector_at [] (Some place) sector = refl
+length-with_sector_at (duty ∷ duties) (Some zero) sector = refl
+length-with_sector_at (duty ∷ duties) (Some (suc place)) sector = ap suc (length-with_sector_at duties (Some place) sector)
+
+pub All-with_sector_at : (P : Holder → Type 0) (duties : List Duty) (place : Option ℕ) (sector : Sector) → All (λ duty. P duty.holder) duties → All (λ duty. P duty.holder) (with_sector_at duties place sector)
+All-with_sector_at P duties None sector h = h
+All-with_sector_at P [] (Some place) sector h = h
+All-with_sector_at P (duty ∷ duties) (Some zero) sector h =
+    All-cons (λ d. P d.holder) (with_sector duty sector) duties (All-head (λ d. P d.holder) duty duties h) (All-tail (λ d. P d.holder) duty duties h)
+All-with_sector_at P (duty ∷ duties) (Some (suc place)) sector h =
+    All-cons (λ d. P d.holder) duty (with_sector_at duties (Some place) sector) (All-head (λ d. P d.holder) duty duties h) (All-with_sector_at P duties (Some place) sector (All-tail (λ d. P d.holder) duty duties h))

@@ -1,7 +1,9 @@
 -- The tables of records without a fault are sound: each kind of record keeps them so.
-use Rattle.std.proofs.Common.{◌≡◌, ℕ, ◌+◌, ◌*◌, ◌<◌, ◌≤◌, Bool, true, false, cond, not, ◌&&◌, List, [], ◌∷◌, ◌++◌, length, ℤ, pos, negsuc, Option, Some, None, refl, sym, ◌∙◌, ap, subst, length-append, append-nil, arith}
-use Rattle.std.specs.Prelude.{All, unsigned_abs, nat_lt, is_some, option_map, position, unwrap_or}
+use Rattle.std.proofs.Common.{◌≡◌, ℕ, ◌+◌, ◌*◌, ◌<◌, ◌≤◌, Bool, true, false, cond, not, ◌&&◌, List, [], ◌∷◌, ◌++◌, length, ℤ, pos, negsuc, Option, Some, None, inl, inr, refl, sym, ◌∙◌, ap, subst, length-append, append-nil, arith}
+use Rattle.std.specs.Prelude.{All, unsigned_abs, nat_lt, is_some, option_map, position, slice_get, unwrap_or}
 use Rattle.std.specs.List.{find, list_any, position_or_len}
+use Rattle.std.specs.Option.{option_and_then}
+use Rattle.std.proofs.lemmas.Option.{slice_get_cases}
 use Rattle.std.proofs.Props.{props}
 use Rattle.std.proofs.Math.Logic.{∥∥₁_elim}
 use Rattle.std.proofs.Math.Seq.{append_snoc}
@@ -9,9 +11,9 @@ use Rattle.std.proofs.lemmas.Bool.Decides.{nat_tests}
 use Rattle.std.proofs.lemmas.List.Elements.{All-nil, All-push, All-weaker}
 use Rattle.std.proofs.lemmas.List.Folds.{list_any-append}
 use Rattle.std.proofs.lemmas.List.Sorted.{All-permutation, length_permutation}
-use Rattle.roster_model.specs.declared.limits.TheConstants.{MOST_BASES, MOST_PERSONS, MOST_PAIRINGS, MOST_DUTIES, MOST_LEAVES, MOST_PENALTY, MOST_RECORDS}
+use Rattle.roster_model.specs.declared.limits.TheConstants.{MOST_BASES, MOST_PERSONS, MOST_PAIRINGS, MOST_DUTIES, MOST_LEAVES, MOST_PENALTY, MOST_SECTORS, MOST_RECORDS}
 use Rattle.roster_model.specs.Form.{is_amount, number_of}
-use Rattle.roster_model.specs.Record.{Record, Command, Kind, PeriodRecord, BaseRecord, CrewRecord, PairingRecord, DutyRecord, LeaveRecord, is_of}
+use Rattle.roster_model.specs.Record.{Record, Command, Kind, PeriodRecord, BaseRecord, CrewRecord, PairingRecord, DutyRecord, SectorRecord, LeaveRecord, is_of}
 use Rattle.roster_model.specs.Code.{Code, first_unmet, NoPeriod}
 use Rattle.roster_model.specs.Problem.{Problem, tables_in, in_order}
 use Rattle.roster_model.specs.Busy.{is_busy}
@@ -22,17 +24,21 @@ use Rattle.roster_model.specs.records.Base as base
 use Rattle.roster_model.specs.records.Crew as crew
 use Rattle.roster_model.specs.records.Pairing as pairing
 use Rattle.roster_model.specs.records.Duty as duty
+use Rattle.roster_model.specs.records.Sector as sector
 use Rattle.roster_model.specs.records.Leave as leave
 use Rattle.roster_model.specs.records.Base.{base_of, bases_in}
 use Rattle.roster_model.specs.records.Crew.{person_of, persons_in, person_place}
 use Rattle.roster_model.specs.records.Pairing.{Pairing, pairing_of, pairing_place}
-use Rattle.roster_model.specs.records.Duty.{Duty, Holder, OfPairing, duty_of, duties_in, holder_name_in, conditions_held}
+use Rattle.roster_model.specs.records.Duty.{Duty, Holder, OfPairing, duty_of, duties_in, duty_place, holder_name_in, conditions_held}
+use Rattle.roster_model.specs.records.Sector.{conditions_within, duty_name_in, flown, sector_of, sectors_in}
 use Rattle.roster_model.specs.records.Leave.{leave_of, leaves_in, crew_in}
 use Rattle.roster_problem.specs.Sound.{IsSound, IsHolder}
 use Rattle.roster_problem.proofs.Ordering.{IsPermutation-in_order}
 use Rattle.roster_book.specs.Draft.{HasRecords, IsDraftOf}
 use Rattle.roster_book.proofs.Drafts.{kind_is, code_of-later, code_of-unknown}
-use Rattle.roster_book.proofs.Tables.{tables_in-first, tables_in-append, tables_with}
+use Rattle.roster_book.specs.Flown.{sector_count, with_sector_at}
+use Rattle.roster_book.proofs.SectorTable.{All-with_sector_at, flown_count, length-with_sector_at, sector_count_bare, sector_count_more, sector_count_none}
+use Rattle.roster_book.proofs.Tables.{grown, is_same, no_sector, table_of-append, tables_in-first, tables_in-append, tables_with}
 
 -- ---- what conditions that are all met say
 
@@ -71,12 +77,14 @@ one_more {X = X} xs x = omega (arith, length-append {A = X})
 holder_longer : (pairings : List Pairing) (pairing : Pairing) (holder : Holder) → IsHolder (length pairings) holder → IsHolder (length (pairings ++ pairing ∷ [])) holder
 holder_longer pairings pairing (OfPairing p) h = longer p pairings pairing h
 
--- The tables of so many records are sound.
-record AreSound (count : ℕ) (tables : Problem) : Type 0 where
+-- The tables of so many records, of which so many are sectors, are sound.
+record AreSound (count sectors : ℕ) (tables : Problem) : Type 0 where
   sound : IsSound tables
-  count_is : count ≤ 1 + length tables.bases + length tables.persons + length tables.pairings + length tables.duties + length tables.leaves
+  room : sectors ≤ MOST_SECTORS
+  sectors_are : sector_count tables.duties ≡ sectors
+  count_is : count ≤ 1 + length tables.bases + length tables.persons + length tables.pairings + length tables.duties + length tables.leaves + sectors
 
-sound-none : {period : Period} → AreSound 1 (record { period = period; bases = []; persons = []; pairings = []; duties = []; leaves = [] })
+sound-none : {period : Period} → AreSound 1 0 (record { period = period; bases = []; persons = []; pairings = []; duties = []; leaves = [] })
 sound-none = record {
   sound = record {
     bases = omega arith;
@@ -90,16 +98,18 @@ sound-none = record {
     holders = All-nil _;
     absences = All-nil _;
   };
+  room = omega arith;
+  sectors_are = sector_count_none;
   count_is = omega arith;
 }
 
 -- what is known where a record of the kind is taken
 record IsTaken (count : ℕ) (kind : Kind) (before : List Record) (fields : Record) (tables : Problem) : Type 0 where
-  sound : AreSound count tables
+  sound : AreSound count (length (sectors_in before)) tables
   tables_are : tables ≡ tables_in before
   met : code_of_kind kind before fields ≡ None
 
-sound-base : (count : ℕ) (before : List Record) (fields : Record) (t : Problem) → IsTaken count BaseRecord before fields t → AreSound (count + 1) (tables_with BaseRecord before fields t)
+sound-base : (count : ℕ) (before : List Record) (fields : Record) (t : Problem) → IsTaken count BaseRecord before fields t → AreSound (count + 1) (length (sectors_in before)) (tables_with BaseRecord before fields t)
 unfolding code_of_kind
 sound-base count before fields t k =
     let s = k.sound.sound in
@@ -112,10 +122,12 @@ sound-base count before fields t k =
     let starts = All-weaker (λ q. q.base < length t.bases) (λ q. q.base < length (t.bases ++ made ∷ [])) (λ q. longer q.base t.bases made) t.pairings s.starts in
     record {
       sound = assumption (few', homes, starts, s);
+      room = k.sound.room;
+      sectors_are = k.sound.sectors_are;
       count_is = omega (arith, k.sound.count_is);
     }
 
-sound-person : (count : ℕ) (before : List Record) (fields : Record) (t : Problem) → IsTaken count CrewRecord before fields t → AreSound (count + 1) (tables_with CrewRecord before fields t)
+sound-person : (count : ℕ) (before : List Record) (fields : Record) (t : Problem) → IsTaken count CrewRecord before fields t → AreSound (count + 1) (length (sectors_in before)) (tables_with CrewRecord before fields t)
 unfolding code_of_kind person_of
 sound-person count before fields t k =
     let s = k.sound.sound in
@@ -129,10 +141,12 @@ sound-person count before fields t k =
     let absences = All-weaker (λ leave. leave.person < length t.persons) (λ leave. leave.person < length (t.persons ++ made ∷ [])) (λ leave. longer leave.person t.persons made) t.leaves s.absences in
     record {
       sound = assumption (few', homes, absences, s);
+      room = k.sound.room;
+      sectors_are = k.sound.sectors_are;
       count_is = omega (arith, k.sound.count_is);
     }
 
-sound-pairing : (count : ℕ) (before : List Record) (fields : Record) (t : Problem) → IsTaken count PairingRecord before fields t → AreSound (count + 1) (tables_with PairingRecord before fields t)
+sound-pairing : (count : ℕ) (before : List Record) (fields : Record) (t : Problem) → IsTaken count PairingRecord before fields t → AreSound (count + 1) (length (sectors_in before)) (tables_with PairingRecord before fields t)
 unfolding code_of_kind pairing_of
 sound-pairing count before fields t k =
     let s = k.sound.sound in
@@ -147,6 +161,8 @@ sound-pairing count before fields t k =
     let holders = All-weaker (λ d. IsHolder (length t.pairings) d.holder) (λ d. IsHolder (length (t.pairings ++ made ∷ [])) d.holder) (λ d. holder_longer t.pairings made d.holder) t.duties s.holders in
     record {
       sound = assumption (few', penalties, starts, holders, s);
+      room = k.sound.room;
+      sectors_are = k.sound.sectors_are;
       count_is = omega (arith, k.sound.count_is);
     }
 
@@ -164,7 +180,7 @@ holder-below : (place : Option ℕ) (n : ℕ) → is_some place ≡ true → unw
 holder-below None n some below = cc
 holder-below (Some p) n some below = below
 
-sound-duty : (count : ℕ) (before : List Record) (fields : Record) (t : Problem) → IsTaken count DutyRecord before fields t → AreSound (count + 1) (tables_with DutyRecord before fields t)
+sound-duty : (count : ℕ) (before : List Record) (fields : Record) (t : Problem) → IsTaken count DutyRecord before fields t → AreSound (count + 1) (length (sectors_in before)) (tables_with DutyRecord before fields t)
 unfolding code_of_kind duty_of
 sound-duty count before fields t k =
     let s = k.sound.sound in
@@ -173,12 +189,14 @@ sound-duty count before fields t k =
     let place = pairing_place before (holder_name_in fields) in
     let met = AreMet-none (duty.conditions before fields) k.met in
     let h = held before place _ _ _ met.1.1.1 in
-    let few : length t.duties < MOST_DUTIES = rw k.tables_are h.room in
+    let few : length t.duties < MOST_DUTIES = rw (k.tables_are, flown_count (sectors_in before) (duties_in before)) h.room in
     let few' : length (t.duties ++ made ∷ []) ≤ MOST_DUTIES = omega arith in
     let holder : IsHolder (length t.pairings) made.holder = rw k.tables_are (holder-below place _ h.known (place-below _ _ h.known)) in
     let holders = All-push (λ d. IsHolder (length t.pairings) d.holder) t.duties made s.holders holder in
     record {
       sound = assumption (few', holders, s);
+      room = k.sound.room;
+      sectors_are = sector_count_bare t.duties made refl ∙ k.sound.sectors_are;
       count_is = omega (arith, k.sound.count_is);
     }
 
@@ -192,7 +210,7 @@ taken-for : (is_busy : ℕ → ℕ → ℕ → Bool) (before : List Record) (pla
 taken-for is_busy before None from to h = cc h.0
 taken-for is_busy before (Some k) from to h = record { known = refl; room = below _ MOST_LEAVES h.1.1.0 }
 
-sound-leave : (count : ℕ) (before : List Record) (fields : Record) (t : Problem) → IsTaken count LeaveRecord before fields t → AreSound (count + 1) (tables_with LeaveRecord before fields t)
+sound-leave : (count : ℕ) (before : List Record) (fields : Record) (t : Problem) → IsTaken count LeaveRecord before fields t → AreSound (count + 1) (length (sectors_in before)) (tables_with LeaveRecord before fields t)
 unfolding code_of_kind leave_of
 sound-leave count before fields t k =
     let s = k.sound.sound in
@@ -207,31 +225,77 @@ sound-leave count before fields t k =
     let absences = All-push (λ leave. leave.person < length t.persons) t.leaves made s.absences there in
     record {
       sound = assumption (few', absences, s);
+      room = k.sound.room;
+      sectors_are = k.sound.sectors_are;
+      count_is = omega (arith, k.sound.count_is);
+    }
+
+-- a sector's duty is known, and there is room for one more
+record IsPlaced (before : List Record) (place : Option ℕ) (duties : List Duty) : Type 0 where
+  at : ℕ
+  place_is : place ≡ Some at
+  within : at < length duties
+  room : length (sectors_in before) < MOST_SECTORS
+
+placed : (before : List Record) (place : Option ℕ) (duties : List Duty) (off on : ℕ)
+    → AreMet (conditions_within before (option_and_then (slice_get duties) place) off on) → IsPlaced before place duties
+placed before None duties off on h = cc h.0
+placed before (Some p) duties off on h =
+    elim (slice_get_cases duties p).1 [
+      | inl (duty, within, there, same) ↦
+          let met = rw there at h in
+          record { at = p; place_is = refl; within = within; room = below _ MOST_SECTORS met.1.0 }
+      | inr (past, none) ↦ cc (rw none at h).0
+    ]
+
+sound-sector : (count : ℕ) (before : List Record) (fields : Record) (t : Problem) → IsTaken count SectorRecord before fields t → AreSound (count + 1) (length (sectors_in before ++ sector_of before fields ∷ [])) (tables_with SectorRecord before fields t)
+unfolding code_of_kind sector_of
+sound-sector count before fields t k =
+    let s = k.sound.sound in
+    let given = sector_of before fields in
+    let met = AreMet-none (sector.conditions before fields) k.met in
+    let p = placed before (duty_place before (duty_name_in fields)) (flown (sectors_in before) (duties_in before)) _ _ met.1.1 in
+    let duties : t.duties ≡ flown (sectors_in before) (duties_in before) = ap (λ (all : Problem). all.duties) k.tables_are in
+    let within : p.at < length t.duties = rw duties p.within in
+    let more : sector_count (with_sector_at t.duties given.duty given.sector) ≡ sector_count t.duties + 1 = rw p.place_is (sector_count_more t.duties p.at given.sector within) in
+    let longer = one_more (sectors_in before) given in
+    let same = length-with_sector_at t.duties given.duty given.sector in
+    let few' : length (with_sector_at t.duties given.duty given.sector) ≤ MOST_DUTIES = omega (arith, s.duties) in
+    let holders = All-with_sector_at (IsHolder (length t.pairings)) t.duties given.duty given.sector s.holders in
+    record {
+      sound = assumption (few', holders, s);
+      room = omega (arith, p.room);
+      sectors_are = more ∙ omega (arith, k.sound.sectors_are);
       count_is = omega (arith, k.sound.count_is);
     }
 
 -- ---- the records of a draft
 
 step_kind : (kind : Kind) (before : List Record) (fields : Record) → list_any (is_of PeriodRecord) before ≡ true
-    → IsTaken (length before) kind before fields (tables_in before) → AreSound (length before + 1) (tables_with kind before fields (tables_in before))
+    → IsTaken (length before) kind before fields (tables_in before)
+    → AreSound (length before + 1) (length (grown (is_same kind SectorRecord) (sectors_in before) (sector_of before fields))) (tables_with kind before fields (tables_in before))
 unfolding code_of_kind
 step_kind PeriodRecord before fields begun k = absurd (cc (begun, (AreMet-none (period.conditions before fields) k.met).1.1.0))
 step_kind BaseRecord before fields begun k = sound-base _ before fields _ k
 step_kind CrewRecord before fields begun k = sound-person _ before fields _ k
 step_kind PairingRecord before fields begun k = sound-pairing _ before fields _ k
 step_kind DutyRecord before fields begun k = sound-duty _ before fields _ k
+step_kind SectorRecord before fields begun k = sound-sector _ before fields _ k
 step_kind LeaveRecord before fields begun k = sound-leave _ before fields _ k
 
+abbrev AreSoundSoFar : List Record → Type 0
+AreSoundSoFar records = AreSound (length records) (length (sectors_in records)) (tables_in records)
+
 step : (command : Command) (before : List Record) (fields : Record) → 0 < length before → list_any (is_of PeriodRecord) before ≡ true
-    → AreSound (length before) (tables_in before) → code_of command before fields ≡ None
-    → AreSound (length (before ++ fields ∷ [])) (tables_in (before ++ fields ∷ []))
+    → AreSoundSoFar before → code_of command before fields ≡ None → AreSoundSoFar (before ++ fields ∷ [])
 step command before fields some begun s none =
-    let P : Option Kind → Type 0 = λ o. kind_in command fields ≡ o → AreSound (length (before ++ fields ∷ [])) (tables_in (before ++ fields ∷ [])) in
+    let P : Option Kind → Type 0 = λ o. kind_in command fields ≡ o → AreSoundSoFar (before ++ fields ∷ []) in
     elim (kind_in command fields) as P [
       | None ↦ λ k. cc (code_of-unknown command before fields some k, none)
       | Some kind ↦ λ k.
           let taken : IsTaken (length before) kind before fields (tables_in before) = record { sound = s; tables_are = refl; met = sym (code_of-later command kind before fields some k) ∙ none } in
-          rw (one_more before fields, tables_in-append kind before fields some (kind_is command kind fields k)) (step_kind kind before fields begun taken)
+          let is = kind_is command kind fields k in
+          rw (one_more before fields, tables_in-append kind before fields some is, table_of-append kind SectorRecord sector_of before fields is) (step_kind kind before fields begun taken)
     ] refl
 
 is_period : (b : Bool) (code : Option Code) → cond (true && not b) (Some NoPeriod) code ≡ None → b ≡ true
@@ -243,20 +307,18 @@ pub first_is_period : (command : Command) (fields : Record) → code_of command 
 unfolding code_of
 first_is_period command fields h = is_period (is_of PeriodRecord fields) _ h
 
-sound-first : (fields : Record) → is_of PeriodRecord fields ≡ true → AreSound 1 (tables_in (fields ∷ []))
-sound-first fields h = rw (tables_in-first fields h) sound-none
+sound-first : (fields : Record) → is_of PeriodRecord fields ≡ true → AreSoundSoFar (fields ∷ [])
+sound-first fields h = rw (tables_in-first fields h, no_sector fields h) sound-none
 
 sound_after : (command : Command) (before records : List Record) → 0 < length before → list_any (is_of PeriodRecord) before ≡ true
-    → AreSound (length before) (tables_in before) → IsFaultlessAfter command before records
-    → AreSound (length (before ++ records)) (tables_in (before ++ records))
+    → AreSoundSoFar before → IsFaultlessAfter command before records → AreSoundSoFar (before ++ records)
 sound_after command before [] some begun s h = rw append-nil s
 sound_after command before (fields ∷ records) some begun s h =
-    let P : List Record → Type 0 = λ all. AreSound (length all) (tables_in all) in
     let longer = one_more before fields in
     let still : list_any (is_of PeriodRecord) (before ++ fields ∷ []) ≡ true = rw (list_any-append (is_of PeriodRecord) before (fields ∷ []), begun) refl in
-    subst P (append_snoc before fields records) (sound_after command (before ++ fields ∷ []) records (omega arith) still (step command before fields some begun s h.0) h.1)
+    subst AreSoundSoFar (append_snoc before fields records) (sound_after command (before ++ fields ∷ []) records (omega arith) still (step command before fields some begun s h.0) h.1)
 
-sound-all : (command : Command) (records : List Record) → 0 < length records → IsFaultlessSoFar command records → AreSound (length records) (tables_in records)
+sound-all : (command : Command) (records : List Record) → 0 < length records → IsFaultlessSoFar command records → AreSoundSoFar records
 sound-all command [] some h = absurd (omega arith)
 sound-all command (fields ∷ records) some h =
     let first = first_is_period command fields h.0 in
@@ -272,10 +334,15 @@ has_period command (fields ∷ records) some h = rw (first_is_period command fie
 pub few_records : (command : Command) (records : List Record) → 0 < length records → IsFaultlessSoFar command records → length records ≤ MOST_RECORDS
 few_records command records some h =
     let s = sound-all command records some h in
-    omega (arith, s.count_is, s.sound.bases, s.sound.persons, s.sound.pairings, s.sound.duties, s.sound.leaves)
+    omega (arith, s.count_is, s.sound.bases, s.sound.persons, s.sound.pairings, s.sound.duties, s.sound.leaves, s.room)
 
 pub IsSound-draft : (command : Command) (row : ℕ) (before : List Record) (tables : Problem) → IsDraftOf command row before tables → IsSound tables
 IsSound-draft command row before tables d = rw d.tables_are (sound-all command before d.begun d.faultless).sound
+
+-- the duties have as many sectors as were given
+pub sectors_draft : (command : Command) (row : ℕ) (before : List Record) (tables : Problem) → IsDraftOf command row before tables
+    → sector_count (flown (sectors_in before) (duties_in before)) ≡ length (sectors_in before)
+sectors_draft command row before tables d = (sound-all command before d.begun d.faultless).sectors_are
 
 IsHolder-prop : (n : ℕ) (holder : Holder) → IsProp (IsHolder n holder)
 IsHolder-prop n (OfPairing p) = hlevel props

@@ -35,7 +35,7 @@ grown-by true entries entry = refl
 grown-by false entries entry = append-nil entries
 
 -- a table grows by records of its own kind alone
-table_of-append : {X : Type 0} (kind other : Kind) (made : List Record → Record → X) (before : List Record) (fields : Record)
+pub table_of-append : {X : Type 0} (kind other : Kind) (made : List Record → Record → X) (before : List Record) (fields : Record)
     → is_of kind fields ≡ true → table_of other made (before ++ fields ∷ []) ≡ grown (is_same kind other) (table_of other made before) (made before fields)
 table_of-append kind other made before fields h =
     gather_after-append (entry_of other made) [] before fields
@@ -101,3 +101,8 @@ tables_in-first fields h = rw (
   is_of-other PeriodRecord SectorRecord fields h,
   is_of-other PeriodRecord LeaveRecord fields h,
 ) refl
+
+-- the sectors of a period alone
+pub no_sector : (fields : Record) → is_of PeriodRecord fields ≡ true → sectors_in (fields ∷ []) ≡ []
+unfolding gather_after
+no_sector fields h = rw (is_of-other PeriodRecord SectorRecord fields h) refl

@@ -16,7 +16,7 @@ use Rattle.roster_book.specs.View.{code_of as view_of_code, Refuses}
 
 -- the tables, without where they lie in memory
 abbrev pub tables_of_draft : Draft → Problem
-tables_of_draft d = tables_of d.period d.bases.items d.persons.items d.pairings.items d.duties.items d.leaves.items
+tables_of_draft d = tables_of d.period d.bases.items d.persons.items d.pairings.items d.duties d.leaves.items
 
 -- These records come before the row, none of them has a fault of its own, and the tables are theirs.
 pub record IsDraftOf (command : Command) (row : ℕ) (before : List Record) (tables : Problem) : Type 0 where

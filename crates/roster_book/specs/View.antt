@@ -35,6 +35,7 @@ kind_of kinds.Base = record_model.BaseRecord
 kind_of kinds.Crew = record_model.CrewRecord
 kind_of kinds.Pairing = record_model.PairingRecord
 kind_of kinds.Duty = record_model.DutyRecord
+kind_of kinds.Sector = record_model.SectorRecord
 kind_of kinds.Leave = record_model.LeaveRecord
 
 abbrev pub command_of : Command → record_model.Command

@@ -21,7 +21,8 @@ pub enum Code {
     GivenTwice,
     /// What it names wasn't given before.
     NotGiven,
-    /// An end isn't after its start, or a duty begins before the last one ends.
+    /// An end isn't after its start, a sector is outside its duty, or one begins before the last one
+    /// ends.
     OutOfSequence,
     /// It reaches out of the window.
     OutOfWindow,

@@ -17,6 +17,7 @@ ghost use Rattle.roster_book.specs.View.{code_of as view_of_code, command_of};
 
 use crate::code::Code;
 use crate::command::Command;
+use crate::duties::Duties;
 use crate::fault::BookFault;
 use crate::kind::{Kind, kind_in};
 use crate::record::period;
@@ -33,7 +34,7 @@ pub(crate) struct Draft {
     pub(crate) bases: Vec<Base>,
     pub(crate) persons: Vec<Person>,
     pub(crate) pairings: Vec<Pairing>,
-    pub(crate) duties: Vec<Duty>,
+    pub(crate) duties: Duties,
     pub(crate) leaves: Vec<Leave>,
 }
 
@@ -67,7 +68,7 @@ impl Draft {
             bases: Vec::new(alloc),
             persons: Vec::new(alloc),
             pairings: Vec::new(alloc),
-            duties: Vec::new(alloc),
+            duties: Duties::new(alloc),
             leaves: Vec::new(alloc),
         })
     }
@@ -102,9 +103,11 @@ impl Draft {
                 push(&mut self.pairings, pairing)
             }
             Some(Kind::Duty) => {
-                let duty = self.judge_duty(row, fields);
-                push(&mut self.duties, duty)
+                let duty = self.judge_duty(alloc, row, fields)?;
+                self.duties.push(duty)?;
+                Ok(())
             }
+            Some(Kind::Sector) => self.take_sector(fields),
             Some(Kind::Leave) => {
                 let leave = self.judge_leave(fields);
                 push(&mut self.leaves, leave)
@@ -136,7 +139,7 @@ impl Draft {
             self.bases,
             self.persons,
             self.pairings,
-            self.duties,
+            self.duties.into_vec(),
             self.leaves,
         )?)
     }
@@ -170,11 +173,9 @@ impl Draft {
 
     /// The place of the duty with the name.
     pub(crate) fn duty_place(&self, name: &[u8]) -> Option<usize>
-        ensures { result ≡ position (is_duty_named name.now) self.now.duties.items }
+        ensures { result ≡ position (is_duty_named name.now) self.now.duties }
     {
-        self.duties
-            .iter()
-            .position(|duty| duty.id.as_bytes() == name)
+        self.duties.place(name)
     }
 
     /// The base of the pairing at the place.
@@ -200,10 +201,10 @@ impl Draft {
     /// The duty of the pairing at the place that was given last.
     #[tactic(auto, using(crate::proofs::LastDuty::last_more))]
     pub(crate) fn last_duty(&self, place: usize) -> Option<&Duty>
-        ensures { option_map (λ duty. duty.now) result ≡ last_duty self.now.duties.items place }
+        ensures { option_map (λ duty. duty.now) result ≡ last_duty self.now.duties place }
     {
         let mut last = None;
-        for duty in &self.duties {
+        for duty in self.duties.as_slice() {
             if is_of_pairing(duty, place) {
                 last = Some(duty);
             }
@@ -214,9 +215,12 @@ impl Draft {
     // Whether the pairing at the place has a duty.
     fn has_duty_of(&self, place: usize) -> bool
         ensures { result
-            ≡ list_any (λ duty. is_held_by_pairing place duty.holder) self.now.duties.items }
+            ≡ list_any (λ duty. is_held_by_pairing place duty.holder) self.now.duties }
     {
-        self.duties.iter().any(|duty| is_of_pairing(duty, place))
+        self.duties
+            .as_slice()
+            .iter()
+            .any(|duty| is_of_pairing(duty, place))
     }
 
     // The row of the first pairing without a duty.

@@ -18,6 +18,7 @@ pub(crate) enum Kind {
     Crew,
     Pairing,
     Duty,
+    Sector,
     Leave,
 }
 
@@ -39,6 +40,7 @@ pub(crate) fn kind_in(command: Command, fields: &ByteRecord) -> Option<Kind>
             b"crew" => Some(Kind::Crew),
             b"pairing" => Some(Kind::Pairing),
             b"duty" => Some(Kind::Duty),
+            b"sector" => Some(Kind::Sector),
             b"leave" => Some(Kind::Leave),
             _ => None,
         },

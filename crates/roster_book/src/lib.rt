@@ -9,6 +9,7 @@
 //! - `forms`: the forms of a record's fields
 //! - `kind`: what a record is about
 //! - `record`: a file a kind: what its records add, and what may be wrong with them
+//! - `duties`: the duties of the records taken so far, with their sectors
 //! - `draft`: the tables of the records taken so far
 //! - `fault`: why no book was read
 //! - `reading`: a book, record by record
@@ -17,6 +18,7 @@
 mod code;
 mod command;
 mod draft;
+mod duties;
 mod fault;
 mod forms;
 mod kind;
@@ -29,6 +31,7 @@ pub use command::Command;
 pub use fault::BookFault;
 pub use reading::{Book, read_book};
 pub use roster_problem::{
-    Base, Duty, Holder, Leave, Name, Pairing, Person, Places, Problem, Roster, duties_in_order,
+    Base, Duty, Holder, Leave, Name, Pairing, Person, Places, Problem, Roster, Sector,
+    duties_in_order,
 };
 pub use roster_watched::Watched;

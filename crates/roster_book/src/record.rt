@@ -8,4 +8,5 @@ mod duty;
 mod leave;
 mod pairing;
 pub(crate) mod period;
+mod sector;
 mod window;

@@ -1,6 +1,6 @@
 //! `duty,ID,P,PAIRING,STATION,REPORT,RELEASE`: a duty of a pairing.
 
-ghost use Rattle.std.specs.Prelude.{◌≡◌, ◌<◌, List, Some, true, false, MatchOption, option_map};
+ghost use Rattle.std.specs.Prelude.{◌≡◌, ◌<◌, [], List, Some, true, false, IfOk, MatchOption, option_map};
 ghost use Rattle.csv.specs.Records.{fields_of};
 ghost use Rattle.roster_model.specs.Record.{Record, Command, DutyRecord, minute_of};
 ghost use Rattle.roster_model.specs.Faults.{code_of_kind};
@@ -16,6 +16,7 @@ use csv::ByteRecord;
 use roster_instants::{BaseDays, Minute, read_minute};
 use roster_model::limits::{DAYS_AFTER, DAYS_BEFORE, MOST_DUTIES};
 use roster_problem::{Base, Duty, Holder, Name, is_identifier};
+use std::alloc::Global;
 
 // The fields of a duty that are of their forms.
 #[derive(Drop)]
@@ -72,13 +73,19 @@ fn starts_well(last: Option<&Duty>, base: &Base, station: &Name, report: Minute)
 
 impl Draft {
     /// The duty that a record of one gives, or what is wrong with it.
-    #[tactic(auto, unfolding(roster_model::specs::Faults::code_of_kind, roster_model::specs::records::Duty::duty_of))]
-    pub(crate) fn judge_duty(&self, row: usize, fields: &ByteRecord) -> Result<Duty, Code>
+    #[tactic(auto, using(crate::proofs::SectorTable::flown_position, crate::proofs::SectorTable::flown_in_sequence, crate::proofs::SectorTable::flown_starts_well, crate::proofs::SectorTable::flown_count), unfolding(roster_model::specs::Faults::code_of_kind, roster_model::specs::records::Duty::duty_of))]
+    pub(crate) fn judge_duty(
+        &self,
+        alloc: Global,
+        row: usize,
+        fields: &ByteRecord,
+    ) -> Result<Duty, Code>
         requires { HasRecords (tables_of_draft self.now) }
-        ensures { (command : Command) (before : List Record)
+        ensures judged { (command : Command) (before : List Record)
             → IsDraftOf command row before (tables_of_draft self.now)
             → Judges (code_of_kind DutyRecord before (fields_of fields.now))
             (duty_of before (fields_of fields.now)) result }
+        ensures bare { IfOk result (λ duty. duty.sectors ≡ []) }
     {
         if fields.len() != 7 {
             return Err(Code::FieldCount);
@@ -100,7 +107,7 @@ impl Draft {
         if !is_in_window(&base.days, duty.report, duty.release) {
             return Err(Code::OutOfWindow);
         }
-        if self.duties.len() >= MOST_DUTIES {
+        if self.duties.as_slice().len() >= MOST_DUTIES {
             return Err(Code::NoRoom);
         }
         if !starts_well(last, base, &duty.station, duty.report) {
@@ -112,6 +119,7 @@ impl Draft {
             station: duty.station,
             report: duty.report,
             release: duty.release,
+            sectors: Vec::new(alloc),
             row,
         })
     }

@@ -13,6 +13,6 @@ returns c =
     record {
       begun = omega arith;
       row_is = omega arith;
-      tables_are = rw (c.new.ensures.items, c.new-2.ensures.items, c.new-3.ensures.items, c.new-4.ensures.items, c.new-5.ensures.items, c.in_ok-read_first.ensures.1) (sym tables);
+      tables_are = rw (c.new.ensures.items, c.new-2.ensures.items, c.new-3.ensures.items, c.new-4.ensures, c.new-5.ensures.items, c.in_ok-read_first.ensures.1) (sym tables);
       faultless = (none, tt);
     }

@@ -6,4 +6,4 @@ use Rattle.roster_book.proofs.draft.Draft.row_without_duty.Given as goal
 -- each pairing before this one has a duty
 abbrev pub invariant-loop-place : goal.invariant-loop-place
 invariant-loop-place l =
-    (k : ℕ) → k < l.place → list_any (λ duty. is_held_by_pairing k duty.holder) l.self.duties.items ≡ true
+    (k : ℕ) → k < l.place → list_any (λ duty. is_held_by_pairing k duty.holder) l.self.duties ≡ true

@@ -9,7 +9,7 @@ use Rattle.roster_model.specs.records.Duty.{duty_of}
 use Rattle.roster_model.specs.records.Leave.{leave_of}
 use Rattle.roster_book.specs.Draft.{tables_of_draft}
 use Rattle.roster_book.specs.View.{command_of}
-use Rattle.roster_book.proofs.Drafts.{code_of-later, code_of-unknown, Takes-pushed}
+use Rattle.roster_book.proofs.Drafts.{code_of-later, code_of-unknown, IsDraftOf-append, Takes-pushed}
 use Rattle.roster_book.proofs.draft.Draft.take.Goals as goal
 
 pub returns-in-None : goal.returns-in-None
@@ -44,11 +44,24 @@ returns-in-Some-Pairing c = λ before d.
     Takes-pushed (command_of c.args.command) c.args.row PairingRecord before fields (tables_of_draft c.args.self.now) _ (pairing_of before fields) _ _ _ d (rw c.in-Some-Pairing.field-0-is at c.in-Some-Pairing.ensures)
     (c.push-in-Some-Pairing.ensures _ (pairing_of before fields) (c.judge_pairing-pairing.ensures (command_of c.args.command) before d)) (λ same. rw same refl)
 
-pub returns-in-Some-Duty : goal.returns-in-Some-Duty
-returns-in-Some-Duty c = λ before d.
+pub returns-in_err-duty-in-Some-Duty : goal.returns-in_err-duty-in-Some-Duty
+returns-in_err-duty-in-Some-Duty c = λ before d.
+    let p = err_from_is_err_and c.from_residual-in_err-duty-in-Some-Duty.result c.from_residual-in_err-duty-in-Some-Duty.ensures.1 in
+    rw (p.1, p.2, code_of-later (command_of c.args.command) DutyRecord before (fields_of c.args.fields.now) d.begun (sym (rw c.in-Some-Duty.field-0-is at c.in-Some-Duty.ensures)))
+    (c.in_err-duty-in-Some-Duty.ensures.judged (command_of c.args.command) before d)
+
+pub returns-in_err-push-in-Some-Duty : goal.returns-in_err-push-in-Some-Duty
+returns-in_err-push-in-Some-Duty c = λ before d.
+    let p = err_from_is_err_and c.from_residual-in_err-push-in-Some-Duty.result c.from_residual-in_err-push-in-Some-Duty.ensures.1 in
+    rw (p.1, p.2, code_of-later (command_of c.args.command) DutyRecord before (fields_of c.args.fields.now) d.begun (sym (rw c.in-Some-Duty.field-0-is at c.in-Some-Duty.ensures)))
+    (c.in_ok-duty-in-Some-Duty.ensures.judged (command_of c.args.command) before d).0
+
+pub returns-in_ok-push-in-Some-Duty : goal.returns-in_ok-push-in-Some-Duty
+returns-in_ok-push-in-Some-Duty c = λ before d.
     let fields = fields_of c.args.fields.now in
-    Takes-pushed (command_of c.args.command) c.args.row DutyRecord before fields (tables_of_draft c.args.self.now) _ (duty_of before fields) _ _ _ d (rw c.in-Some-Duty.field-0-is at c.in-Some-Duty.ensures)
-    (c.push-in-Some-Duty.ensures _ (duty_of before fields) (c.judge_duty-duty.ensures (command_of c.args.command) before d)) (λ same. rw same refl)
+    let judged = c.in_ok-duty-in-Some-Duty.ensures.judged (command_of c.args.command) before d in
+    rw (c.in_ok-push-in-Some-Duty.ensures, judged.1)
+    (IsDraftOf-append (command_of c.args.command) c.args.row DutyRecord before fields (tables_of_draft c.args.self.now) d (sym (rw c.in-Some-Duty.field-0-is at c.in-Some-Duty.ensures)) judged.0)
 
 pub returns-in-Some-Leave : goal.returns-in-Some-Leave
 returns-in-Some-Leave c = λ before d.

@@ -1,0 +1,23 @@
+use Rattle.std.proofs.Common.{sym}
+use Rattle.std.proofs.lemmas.Result.{err_from_is_err_and}
+use Rattle.csv.specs.Records.{fields_of}
+use Rattle.roster_model.specs.Record.{SectorRecord}
+use Rattle.roster_book.specs.Draft.{tables_of_draft}
+use Rattle.roster_book.proofs.Drafts.{code_of-later, IsDraftOf-sector}
+use Rattle.roster_book.proofs.draft.Draft.take_sector.Goals as goal
+
+pub returns-in_err-place : goal.returns-in_err-place
+returns-in_err-place c = λ command row before d k.
+    let p = err_from_is_err_and c.from_residual.result c.from_residual.ensures.1 in
+    rw (p.1, p.2, code_of-later command SectorRecord before (fields_of c.args.fields.now) d.begun (sym k)) (c.in_err-place.ensures.judged command row before d)
+
+pub returns-in_err-push_sector : goal.returns-in_err-push_sector
+returns-in_err-push_sector c = λ command row before d k.
+    let p = err_from_is_err_and c.from_residual-in_err-push_sector.result c.from_residual-in_err-push_sector.ensures.1 in
+    rw (p.1, p.2, code_of-later command SectorRecord before (fields_of c.args.fields.now) d.begun (sym k)) (c.in_ok-place.ensures.judged command row before d).0
+
+pub returns : goal.returns
+returns c = λ command row before d k.
+    let judged = c.in_ok-place.ensures.judged command row before d in
+    rw c.in_ok-push_sector.ensures
+    (IsDraftOf-sector command row before (fields_of c.args.fields.now) (tables_of_draft c.args.self.now) c.in_ok-place.place c.in_ok-place.sector d k judged.0 judged.1)

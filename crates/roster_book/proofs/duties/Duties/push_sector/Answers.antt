@@ -1,0 +1,21 @@
+use Rattle.std.proofs.Common.{◌≡◌, ◌<◌, ◌∙◌, length, Some, refl, sym, ap, subst, true}
+use Rattle.std.specs.Prelude.{slice_get}
+use Rattle.std.proofs.lemmas.Option.{slice_get_read}
+use Rattle.roster_model.specs.records.Duty.{Duty}
+use Rattle.roster_book.specs.Flown.{fits_at, sector_count, with_sector_at}
+use Rattle.roster_book.proofs.SectorTable.{fits-within, sector_count_more, with_sector_at-is}
+use Rattle.roster_book.proofs.duties.Duties.push_sector.Goals as goal
+
+pub returns : goal.returns
+returns c =
+    let items = c.self.inside.duties.items in
+    let within : c.args.place < length items = rw c.self.view_is (fits-within c.args.self.now c.args.place c.args.sector c.requires.fits) in
+    let there : slice_get items c.args.place ≡ Some c.index_mut.result.now = slice_get_read items (length items) c.args.place c.index_mut.result.now refl within c.index_mut.ensures.value in
+    rw (c.in_ok-push_sector.ensures, ← c.self.view_is) (sym (with_sector_at-is items c.args.place c.args.sector c.index_mut.result.now there))
+
+pub invariant_of-self-2 : goal.invariant_of-self-2
+invariant_of-self-2 c =
+    let items = c.self.inside.duties.items in
+    let within : c.args.place < length items = rw c.self.view_is (fits-within c.args.self.now c.args.place c.args.sector c.requires.fits) in
+    let there : slice_get items c.args.place ≡ Some c.index_mut.result.now = slice_get_read items (length items) c.args.place c.index_mut.result.now refl within c.index_mut.ensures.value in
+    rw (c.in_ok-push_sector.ensures, c.self.invariant) (sym (sector_count_more items c.args.place c.args.sector within) ∙ ap sector_count (with_sector_at-is items c.args.place c.args.sector c.index_mut.result.now there))
