@@ -63,6 +63,7 @@ duties_with-is BaseRecord before fields = refl
 duties_with-is CrewRecord before fields = refl
 duties_with-is PairingRecord before fields = refl
 duties_with-is DutyRecord before fields = flown-duty before fields
+duties_with-is LeaveRecord before fields = refl
 duties_with-is SectorRecord before fields = flown-sector (sectors_in before) (sector_of before fields) (duties_in before)
 
 -- the tables with what a record of the kind adds
@@ -98,7 +99,6 @@ tables_in-first fields h = rw (
   is_of-other PeriodRecord CrewRecord fields h,
   is_of-other PeriodRecord PairingRecord fields h,
   is_of-other PeriodRecord DutyRecord fields h,
-  is_of-other PeriodRecord SectorRecord fields h,
   is_of-other PeriodRecord LeaveRecord fields h,
 ) refl
 
