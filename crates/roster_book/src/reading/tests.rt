@@ -118,6 +118,49 @@ fn each_code_of_a_record_is_told(rt: HostRuntime) {
     }
 }
 
+// What is wrong with the last of some records after a duty from 06:00 to 14:00, or 0 where none is.
+fn fault_of_sectors(rt: &HostRuntime, records: &[u8]) -> Option<u8> {
+    let head = b"period,2024-03\nbase,AMS,UTC0\npairing,P1,AMS,5\n\
+        duty,D1,P,P1,AMS,2024-03-04T06:00Z,2024-03-04T14:00Z\n";
+    let Ok(mut text) = Vec::from_slice(rt.alloc(), head) else {
+        return None;
+    };
+    if text.extend_from_slice(records).is_err() {
+        return None;
+    }
+    let mut reader = Watched::new(text.as_slice());
+    match read_book(rt.alloc(), &mut reader, Command::Solve) {
+        Err(BookFault::At { row: 6, code }) => Some(code),
+        Ok(_) => Some(0),
+        Err(_) => None,
+    }
+}
+
+#[test]
+fn sectors_follow_each_other_in_their_duty(rt: HostRuntime) {
+    // A positioning sector from the report to 08:00 comes first.
+    let first = b"sector,D1,P,2024-03-04T06:00Z,2024-03-04T08:00Z\n";
+    let cases: [(&[u8], u8); 9] = [
+        (b"sector,D1,O,2024-03-04T08:00Z,2024-03-04T14:00Z", 0),
+        (b"sector,D1,O,2024-03-04T07:59Z,2024-03-04T14:00Z", 8),
+        (b"sector,D1,O,2024-03-04T08:00Z,2024-03-04T14:01Z", 8),
+        (b"sector,D1,O,2024-03-04T09:00Z,2024-03-04T09:00Z", 8),
+        (b"sector,D1,O,2024-03-04T05:59Z,2024-03-04T06:00Z", 8),
+        (b"sector,D2,O,2024-03-04T09:00Z,2024-03-04T08:00Z", 7),
+        (b"sector,D2,C,2024-03-04T08:00Z,2024-03-04T09:00Z", 4),
+        (b"sector,D1,O,2024-03-04T08:00,2024-03-04T09:00Z", 4),
+        (b"sector,D1,C,2024-03-04T08:00Z", 3),
+    ];
+    for (record, code) in cases {
+        let Ok(mut records) = Vec::from_slice(rt.alloc(), first) else {
+            return;
+        };
+        assert!(rt; records.extend_from_slice(record).is_ok());
+        let told = fault_of_sectors(&rt, records.as_slice());
+        assert_eq!(rt; told, Some(code), "{record:?}");
+    }
+}
+
 #[test]
 fn a_reader_that_fails_is_told_wherever_it_fails(rt: HostRuntime) {
     let text = b"period,2024-03\nbase,AMS,UTC0\n";
