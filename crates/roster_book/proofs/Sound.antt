@@ -1,6 +1,7 @@
 -- The tables of records without a fault are sound: each kind of record keeps them so.
 use Rattle.std.proofs.Common.{◌≡◌, ℕ, ◌+◌, ◌*◌, ◌<◌, ◌≤◌, Bool, true, false, cond, not, ◌&&◌, List, [], ◌∷◌, ◌++◌, length, ℤ, pos, negsuc, Option, Some, None, inl, inr, refl, sym, ◌∙◌, ap, subst, length-append, append-nil, arith}
-use Rattle.std.specs.Prelude.{All, unsigned_abs, nat_lt, is_some, option_map, position, slice_get, unwrap_or}
+use Rattle.std.specs.Prelude.{All, unsigned_abs, nat_lt, is_some, option_map, position, slice_get, unwrap_or, codes}
+use Rattle.std.specs.Str.{bytes_eq}
 use Rattle.std.specs.List.{find, list_any, position_or_len}
 use Rattle.std.specs.Option.{option_and_then}
 use Rattle.std.proofs.lemmas.Option.{slice_get_cases}
@@ -29,7 +30,7 @@ use Rattle.roster_model.specs.records.Leave as leave
 use Rattle.roster_model.specs.records.Base.{base_of, bases_in}
 use Rattle.roster_model.specs.records.Crew.{person_of, persons_in, person_place}
 use Rattle.roster_model.specs.records.Pairing.{Pairing, pairing_of, pairing_place}
-use Rattle.roster_model.specs.records.Duty.{Duty, Holder, OfPairing, duty_of, duties_in, duty_place, holder_name_in, conditions_held}
+use Rattle.roster_model.specs.records.Duty.{Duty, Holder, OfPairing, OfPerson, duty_of, duties_in, duty_place, holder_in, holder_name_in, letter_in, conditions_held}
 use Rattle.roster_model.specs.records.Sector.{conditions_within, duty_name_in, flown, sector_of, sectors_in}
 use Rattle.roster_model.specs.records.Leave.{leave_of, leaves_in, crew_in}
 use Rattle.roster_problem.specs.Sound.{IsSound, IsHolder}
@@ -74,8 +75,9 @@ longer {X = X} n xs x h = omega (arith, length-append {A = X})
 one_more : {X : Type 0} (xs : List X) (x : X) → length (xs ++ x ∷ []) ≡ length xs + 1
 one_more {X = X} xs x = omega (arith, length-append {A = X})
 
-holder_longer : (pairings : List Pairing) (pairing : Pairing) (holder : Holder) → IsHolder (length pairings) holder → IsHolder (length (pairings ++ pairing ∷ [])) holder
-holder_longer pairings pairing (OfPairing p) h = longer p pairings pairing h
+holder_of_more : {pairings persons more most : ℕ} (holder : Holder) → pairings ≤ more → persons ≤ most → IsHolder pairings persons holder → IsHolder more most holder
+holder_of_more (OfPairing p) first second h = omega (arith, h)
+holder_of_more (OfPerson k) first second h = omega (arith, h)
 
 -- The tables of so many records, of which so many are sectors, are sound.
 record AreSound (count sectors : ℕ) (tables : Problem) : Type 0 where
@@ -138,9 +140,10 @@ sound-person count before fields t k =
     let few' : length (t.persons ++ made ∷ []) ≤ MOST_PERSONS = omega arith in
     let home : made.base < length t.bases = rw k.tables_are (place-below _ (bases_in before) met.1.1.1.1.0) in
     let homes = All-push (λ person. person.base < length t.bases) t.persons made s.homes home in
+    let holders = All-weaker (λ d. IsHolder (length t.pairings) (length t.persons) d.holder) (λ d. IsHolder (length t.pairings) (length (t.persons ++ made ∷ [])) d.holder) (λ d. holder_of_more d.holder (omega arith) (omega arith)) t.duties s.holders in
     let absences = All-weaker (λ leave. leave.person < length t.persons) (λ leave. leave.person < length (t.persons ++ made ∷ [])) (λ leave. longer leave.person t.persons made) t.leaves s.absences in
     record {
-      sound = assumption (few', homes, absences, s);
+      sound = assumption (few', homes, holders, absences, s);
       room = k.sound.room;
       sectors_are = k.sound.sectors_are;
       count_is = omega (arith, k.sound.count_is);
@@ -158,7 +161,7 @@ sound-pairing count before fields t k =
     let start : made.base < length t.bases = rw k.tables_are (place-below _ (bases_in before) met.1.1.1.1.0) in
     let penalties = All-push (λ q. q.penalty ≤ MOST_PENALTY) t.pairings made s.penalties (amount-below MOST_PENALTY (number_of (pairing.penalty_in fields)) met.1.1.0) in
     let starts = All-push (λ q. q.base < length t.bases) t.pairings made s.starts start in
-    let holders = All-weaker (λ d. IsHolder (length t.pairings) d.holder) (λ d. IsHolder (length (t.pairings ++ made ∷ [])) d.holder) (λ d. holder_longer t.pairings made d.holder) t.duties s.holders in
+    let holders = All-weaker (λ d. IsHolder (length t.pairings) (length t.persons) d.holder) (λ d. IsHolder (length (t.pairings ++ made ∷ [])) (length t.persons) d.holder) (λ d. holder_of_more d.holder (omega arith) (omega arith)) t.duties s.holders in
     record {
       sound = assumption (few', penalties, starts, holders, s);
       room = k.sound.room;
@@ -167,18 +170,25 @@ sound-pairing count before fields t k =
     }
 
 -- a duty's holder is known, and there is room for one more
-record IsHeld (before : List Record) (place : Option ℕ) : Type 0 where
-  known : is_some place ≡ true
+record IsHeld (before : List Record) (holder : Option Holder) : Type 0 where
+  known : is_some holder ≡ true
   room : length (duties_in before) < MOST_DUTIES
 
-held : (before : List Record) (place : Option ℕ) (station : List ℕ) (report release : ℕ)
-    → AreMet (conditions_held before (option_map OfPairing place) station report release) → IsHeld before place
-held before None station report release h = cc h.0
-held before (Some p) station report release h = record { known = refl; room = below _ MOST_DUTIES h.1.1.0 }
+held : (busy : ℕ → ℕ → ℕ → Bool) (before : List Record) (holder : Option Holder) (station : List ℕ) (report release : ℕ)
+    → AreMet (conditions_held busy before holder station report release) → IsHeld before holder
+held busy before None station report release h = cc h.0
+held busy before (Some (OfPairing p)) station report release h = record { known = refl; room = below _ MOST_DUTIES h.1.1.0 }
+held busy before (Some (OfPerson k)) station report release h = record { known = refl; room = below _ MOST_DUTIES h.1.1.0 }
 
-holder-below : (place : Option ℕ) (n : ℕ) → is_some place ≡ true → unwrap_or place 0 < n → IsHolder n (unwrap_or (option_map OfPairing place) (OfPairing 0))
-holder-below None n some below = cc
-holder-below (Some p) n some below = below
+-- a holder that is known is there
+holder_of_place : (pairings persons : ℕ) (of_pairing : Bool) (pairing person : Option ℕ)
+    → (is_some pairing ≡ true → unwrap_or pairing 0 < pairings) → (is_some person ≡ true → unwrap_or person 0 < persons)
+    → is_some (cond of_pairing (option_map OfPairing pairing) (option_map OfPerson person)) ≡ true
+    → IsHolder pairings persons (unwrap_or (cond of_pairing (option_map OfPairing pairing) (option_map OfPerson person)) (OfPairing 0))
+holder_of_place pairings persons true None person there here some = cc
+holder_of_place pairings persons true (Some p) person there here some = there refl
+holder_of_place pairings persons false pairing None there here some = cc
+holder_of_place pairings persons false pairing (Some k) there here some = here refl
 
 sound-duty : (count : ℕ) (before : List Record) (fields : Record) (t : Problem) → IsTaken count DutyRecord before fields t → AreSound (count + 1) (length (sectors_in before)) (tables_with DutyRecord before fields t)
 unfolding code_of_kind duty_of
@@ -186,13 +196,13 @@ sound-duty count before fields t k =
     let s = k.sound.sound in
     let made = duty_of before fields in
     let n = one_more t.duties made in
-    let place = pairing_place before (holder_name_in fields) in
-    let met = AreMet-none (duty.conditions before fields) k.met in
-    let h = held before place _ _ _ met.1.1.1 in
+    let busy = is_busy (tables_in before) in
+    let met = AreMet-none (duty.conditions busy before fields) k.met in
+    let h = held busy before (holder_in before fields) _ _ _ met.1.1.1 in
     let few : length t.duties < MOST_DUTIES = rw (k.tables_are, flown_count (sectors_in before) (duties_in before)) h.room in
     let few' : length (t.duties ++ made ∷ []) ≤ MOST_DUTIES = omega arith in
-    let holder : IsHolder (length t.pairings) made.holder = rw k.tables_are (holder-below place _ h.known (place-below _ _ h.known)) in
-    let holders = All-push (λ d. IsHolder (length t.pairings) d.holder) t.duties made s.holders holder in
+    let holder : IsHolder (length t.pairings) (length t.persons) made.holder = rw k.tables_are (holder_of_place _ _ (bytes_eq (letter_in fields) (codes "P")) (pairing_place before (holder_name_in fields)) (person_place before (holder_name_in fields)) (place-below _ _) (place-below _ _) h.known) in
+    let holders = All-push (λ d. IsHolder (length t.pairings) (length t.persons) d.holder) t.duties made s.holders holder in
     record {
       sound = assumption (few', holders, s);
       room = k.sound.room;
@@ -261,7 +271,7 @@ sound-sector count before fields t k =
     let longer = one_more (sectors_in before) given in
     let same = length-with_sector_at t.duties given.duty given.sector in
     let few' : length (with_sector_at t.duties given.duty given.sector) ≤ MOST_DUTIES = omega (arith, s.duties) in
-    let holders = All-with_sector_at (IsHolder (length t.pairings)) t.duties given.duty given.sector s.holders in
+    let holders = All-with_sector_at (IsHolder (length t.pairings) (length t.persons)) t.duties given.duty given.sector s.holders in
     record {
       sound = assumption (few', holders, s);
       room = omega (arith, p.room);
@@ -344,8 +354,9 @@ pub sectors_draft : (command : Command) (row : ℕ) (before : List Record) (tabl
     → sector_count (flown (sectors_in before) (duties_in before)) ≡ length (sectors_in before)
 sectors_draft command row before tables d = (sound-all command before d.begun d.faultless).sectors_are
 
-IsHolder-prop : (n : ℕ) (holder : Holder) → IsProp (IsHolder n holder)
-IsHolder-prop n (OfPairing p) = hlevel props
+IsHolder-prop : (pairings persons : ℕ) (holder : Holder) → IsProp (IsHolder pairings persons holder)
+IsHolder-prop pairings persons (OfPairing p) = hlevel props
+IsHolder-prop pairings persons (OfPerson k) = hlevel props
 
 IsSound-prop : (tables : Problem) → IsProp (IsSound tables)
 IsSound-prop tables = hlevel (props, IsHolder-prop)
@@ -360,5 +371,5 @@ IsSound-in_order tables s =
     let order = IsPermutation-in_order tables.duties in
     let same = length_permutation tables.duties (in_order tables.duties) order in
     let few : length (in_order tables.duties) ≤ MOST_DUTIES = omega (arith, s.duties) in
-    let holders = All-permutation (λ d. IsHolder (length tables.pairings) d.holder) tables.duties (in_order tables.duties) order s.holders in
+    let holders = All-permutation (λ d. IsHolder (length tables.pairings) (length tables.persons) d.holder) tables.duties (in_order tables.duties) order s.holders in
     assumption (few, holders, s)

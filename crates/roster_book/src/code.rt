@@ -32,7 +32,7 @@ pub enum Code {
     NoRoom,
     /// The first duty of a pairing reports away from its base, or outside the month there.
     WrongStart,
-    /// The person has a leave in one of its minutes.
+    /// The person has a fixed duty or a leave in one of its minutes.
     Busy,
     /// A pairing has no duty.
     NoDuty,

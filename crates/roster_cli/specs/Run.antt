@@ -1,19 +1,9 @@
--- What a run does to the bytes that a writer holds.
+-- Of which records a run speaks, and how it ends.
 use Rattle.std.specs.Prelude.{ℕ, List, Option, None, Some, IfSome, codes}
-use Rattle.std.specs.Io.KnownBytes.{Appends}
 use Rattle.roster_model.specs.Answer.{records_of}
 use Rattle.roster_model.specs.Record.{Record}
-use Rattle.roster_report.specs.Writing.{AppendsPrefix}
 use Rattle.roster_cli.specs.declared.status.Status.{Status}
 use Rattle.roster_cli.specs.declared.status.Status.TheVariants as statuses
-
--- The writer holds what it held, followed by a text that fits.
-abbrev pub Writes : (List ℕ → Type 0) → Option (List ℕ) → Option (List ℕ) → Type 0
-Writes IsText old new = (text : List ℕ) × IsText text × Appends old new text
-
--- The same, where only the first bytes of the text went out.
-abbrev pub WritesPart : (List ℕ → Type 0) → Option (List ℕ) → Option (List ℕ) → Type 0
-WritesPart IsText old new = (text : List ℕ) × IsText text × AppendsPrefix old new text
 
 -- The reader told some bytes, and this holds of their records.
 abbrev pub OfTold : (List Record → Type 0) → Option (List ℕ) → Type 0

@@ -5,6 +5,7 @@ ghost use Rattle.roster_model.specs.Answer.{IsAnswer};
 ghost use Rattle.roster_model.specs.Record.{Command, Record};
 
 use roster_combine::{has_best, one_best};
+use roster_legal::{has_locks, one_list_of_locks};
 
 /// Records have at most one answer: what the program writes is determined by what it read.
 pub fn one_answer()
@@ -12,6 +13,7 @@ pub fn one_answer()
         → IsAnswer command records s → IsAnswer command records t → s ≡ t }
 {
     one_best();
+    one_list_of_locks();
 }
 
 /// Records have an answer, whatever they are: there can't be none.
@@ -20,4 +22,5 @@ pub fn has_answer()
         → ¬ ¬ ((text : List ℕ) × IsAnswer command records text) }
 {
     has_best();
+    has_locks();
 }

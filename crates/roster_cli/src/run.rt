@@ -5,7 +5,8 @@ ghost use Rattle.roster_model.specs.Answer.{IsAnswer, IsBestReport, IsRefusal, I
 ghost use Rattle.roster_model.specs.Record.{Record};
 ghost use Rattle.roster_book.specs.View.{command_of};
 ghost use Rattle.roster_watched.specs.Watch.{inner_of, has_failed, is_flushed};
-ghost use Rattle.roster_cli.specs.Run.{OfTold, Writes, WritesPart};
+ghost use Rattle.roster_report.specs.Writing.{Writes, WritesPart};
+ghost use Rattle.roster_cli.specs.Run.{OfTold};
 
 use crate::status::Status;
 use roster_book::{BookFault, Command, Problem, Watched, read_book};

@@ -1,4 +1,4 @@
--- The positions of the duties of a set, gathered pairing by pairing.
+-- The positions of the fixed duties of a person and of the duties of a set, gathered pairing by pairing.
 use Rattle.std.proofs.Common.{◌≡◌, ℕ, ◌+◌, ◌<◌, ◌≤◌, Bool, true, false, ◌&&◌, ◌||◌, eqb, eq-eqb, List, [], ◌∷◌, ◌++◌, length, Option, Some, None, refl, sym, ap, ◌∙◌, subst, inl, inr, arith}
 use Rattle.std.specs.Prelude.{nat_lt, All, filter, slice_get}
 use Rattle.std.specs.List.{IsDistinct, AllByRecursion}
@@ -11,7 +11,7 @@ use Rattle.std.proofs.lemmas.List.Elements.{All-head, All-tail, All-weaker, recu
 use Rattle.std.proofs.lemmas.List.Sorted.{IsNonDecreasingBy-from_sort, list_any-IsPermutation}
 use Rattle.std.proofs.lemmas.Map.Keys.{IsDistinct-cons, IsDistinct-head, IsDistinct-tail, IsDistinct-IsPermutation, IsStrictlyIncreasing-from_distinct}
 use Rattle.std.proofs.lemmas.Option.{slice_get_past}
-use Rattle.roster_model.specs.records.Duty.{Duty, Holder, OfPairing, is_held_by_pairing}
+use Rattle.roster_model.specs.records.Duty.{Duty, Holder, OfPairing, OfPerson, is_held_by_pairing, is_held_by_person}
 use Rattle.roster_model.specs.Rules.{is_among, is_listed}
 use Rattle.roster_model.proofs.SetLemmas.{Ascends, Ascends-from_rising, is_among-filter, is_among-append, is_among-here, All-from_is_among}
 
@@ -43,6 +43,9 @@ IsDistinct-from_ascending [] up = tt
 IsDistinct-from_ascending (x ∷ xs) up =
     let apart = All-weaker (λ y. x < y) (λ y. eqb x y ≡ false) (λ y l. ne_eqb x y (λ e. let same : x ≡ y = e in omega arith)) xs up.0 in
     (recursion_from_All (λ y. eqb x y ≡ false) xs apart, IsDistinct-from_ascending xs up.1)
+
+pub distinct_rising : (xs : List ℕ) → IsStrictlyIncreasing xs → IsDistinct eqb xs
+distinct_rising xs rises = IsDistinct-from_ascending xs (Ascends-from_rising xs rises)
 
 eqb_sym : (x y : ℕ) → eqb x y ≡ eqb y x
 eqb_sym x y =
@@ -78,8 +81,9 @@ before-next from p q b l here skipped =
     ]
 
 -- with one pairing more, its duties are listed too
-is_listed-next : (from p : ℕ) (set : List ℕ) (holder : Holder) → from ≤ p → is_among set p ≡ true → ((q : ℕ) → from ≤ q → q < p → is_among set q ≡ false) → is_listed (places_before (p + 1) set) holder ≡ (is_listed (places_before from set) holder || is_held_by_pairing p holder)
-is_listed-next from p set (OfPairing q) l here skipped =
+is_listed-next : (k from p : ℕ) (set : List ℕ) (holder : Holder) → from ≤ p → is_among set p ≡ true → ((q : ℕ) → from ≤ q → q < p → is_among set q ≡ false) → is_listed k (places_before (p + 1) set) holder ≡ (is_listed k (places_before from set) holder || is_held_by_pairing p holder)
+is_listed-next k from p set (OfPerson j) l here skipped = sym (or-false (eqb j k))
+is_listed-next k from p set (OfPairing q) l here skipped =
     is_among-filter (λ r. nat_lt r (p + 1)) set q
     ∙ before-next from p q (is_among set q) l (λ e. subst (λ r. is_among set r ≡ true) (sym e) here) (skipped q)
     ∙ ap (λ b. b || eqb q p) (sym (is_among-filter (λ r. nat_lt r from) set q))
@@ -92,32 +96,34 @@ neither : (f g : Duty → Bool) → ((duty : Duty) → f duty ≡ true → g dut
 neither f g e None h = refl
 neither f g e (Some duty) h = e duty h
 
-not_held : (from p : ℕ) (set : List ℕ) (holder : Holder) → from ≤ p → is_listed (places_before from set) holder ≡ true → is_held_by_pairing p holder ≡ false
-not_held from p set (OfPairing q) l h =
+not_held : (k from p : ℕ) (set : List ℕ) (holder : Holder) → from ≤ p → is_listed k (places_before from set) holder ≡ true → is_held_by_pairing p holder ≡ false
+not_held k from p set (OfPerson j) l h = refl
+not_held k from p set (OfPairing q) l h =
     let parts = and_parts (nat_lt q from) (is_among set q) (sym (is_among-filter (λ r. nat_lt r from) set q) ∙ h) in
     let before = ltb-true q from parts.0 in
     ne_eqb q p (λ e. let same : q ≡ p = e in omega arith)
 
 -- whether the duty at a position is on the list of the places so far
-abbrev pub is_gathered : ℕ → List ℕ → List Duty → ℕ → Bool
-is_gathered from set duties i = option_map_or (λ duty. is_listed (places_before from set) duty.holder) (slice_get duties i) false
+abbrev pub is_gathered : ℕ → ℕ → List ℕ → List Duty → ℕ → Bool
+is_gathered k from set duties i = option_map_or (λ duty. is_listed k (places_before from set) duty.holder) (slice_get duties i) false
 
 abbrev pub is_of : ℕ → List Duty → ℕ → Bool
 is_of p duties i = option_map_or (λ duty. is_held_by_pairing p duty.holder) (slice_get duties i) false
 
-pub members-more : (from p : ℕ) (set positions more : List ℕ) (duties : List Duty) → from ≤ p → is_among set p ≡ true → ((q : ℕ) → from ≤ q → q < p → is_among set q ≡ false) → ((i : ℕ) → is_among positions i ≡ is_gathered from set duties i) → ((i : ℕ) → is_among more i ≡ is_of p duties i) → (i : ℕ) → is_among (positions ++ more) i ≡ is_gathered (p + 1) set duties i
-members-more from p set positions more duties l here skipped old new i =
+pub members-more : (k from p : ℕ) (set positions more : List ℕ) (duties : List Duty) → from ≤ p → is_among set p ≡ true → ((q : ℕ) → from ≤ q → q < p → is_among set q ≡ false) → ((i : ℕ) → is_among positions i ≡ is_gathered k from set duties i) → ((i : ℕ) → is_among more i ≡ is_of p duties i) → (i : ℕ) → is_among (positions ++ more) i ≡ is_gathered k (p + 1) set duties i
+members-more k from p set positions more duties l here skipped old new i =
     is_among-append positions more i
-    ∙ rw (old i, new i) (sym (either (λ duty. is_listed (places_before from set) duty.holder) (λ duty. is_held_by_pairing p duty.holder) (λ duty. is_listed (places_before (p + 1) set) duty.holder) (λ duty. is_listed-next from p set duty.holder l here skipped) (slice_get duties i)))
+    ∙ rw (old i, new i) (sym (either (λ duty. is_listed k (places_before from set) duty.holder) (λ duty. is_held_by_pairing p duty.holder) (λ duty. is_listed k (places_before (p + 1) set) duty.holder) (λ duty. is_listed-next k from p set duty.holder l here skipped) (slice_get duties i)))
 
-pub distinct-more : (from p : ℕ) (set positions more : List ℕ) (duties : List Duty) → from ≤ p → IsStrictlyIncreasing more → IsDistinct eqb positions → ((i : ℕ) → is_among positions i ≡ is_gathered from set duties i) → ((i : ℕ) → is_among more i ≡ is_of p duties i) → IsDistinct eqb (positions ++ more)
-distinct-more from p set positions more duties l rises distinct old new =
-    IsDistinct-append positions more distinct (IsDistinct-from_ascending more (Ascends-from_rising more rises)) (λ i h.
-    new i ∙ neither (λ duty. is_listed (places_before from set) duty.holder) (λ duty. is_held_by_pairing p duty.holder) (λ duty. not_held from p set duty.holder l) (slice_get duties i) (sym (old i) ∙ h))
+pub distinct-more : (k from p : ℕ) (set positions more : List ℕ) (duties : List Duty) → from ≤ p → IsStrictlyIncreasing more → IsDistinct eqb positions → ((i : ℕ) → is_among positions i ≡ is_gathered k from set duties i) → ((i : ℕ) → is_among more i ≡ is_of p duties i) → IsDistinct eqb (positions ++ more)
+distinct-more k from p set positions more duties l rises distinct old new =
+    IsDistinct-append positions more distinct (distinct_rising more rises) (λ i h.
+    new i ∙ neither (λ duty. is_listed k (places_before from set) duty.holder) (λ duty. is_held_by_pairing p duty.holder) (λ duty. not_held k from p set duty.holder l) (slice_get duties i) (sym (old i) ∙ h))
 
 -- where no place is left, all are gathered
-listed-all : (from : ℕ) (set : List ℕ) (holder : Holder) → ((q : ℕ) → from ≤ q → is_among set q ≡ false) → is_listed (places_before from set) holder ≡ is_listed set holder
-listed-all from set (OfPairing q) none =
+listed-all : (k from : ℕ) (set : List ℕ) (holder : Holder) → ((q : ℕ) → from ≤ q → is_among set q ≡ false) → is_listed k (places_before from set) holder ≡ is_listed k set holder
+listed-all k from set (OfPerson j) none = refl
+listed-all k from set (OfPairing q) none =
     is_among-filter (λ r. nat_lt r from) set q
     ∙ elim (cases_lt q from) [
       | inl before ↦ rw (lt-ltb q from before) refl
@@ -128,19 +134,18 @@ map-same : (f g : Duty → Bool) → ((duty : Duty) → f duty ≡ g duty) → (
 map-same f g e None = refl
 map-same f g e (Some duty) = e duty
 
-pub gathered-all : (from : ℕ) (set : List ℕ) (duties : List Duty) (i : ℕ) → ((q : ℕ) → from ≤ q → is_among set q ≡ false) → is_gathered from set duties i ≡ option_map_or (λ duty. is_listed set duty.holder) (slice_get duties i) false
-gathered-all from set duties i none =
-    map-same (λ duty. is_listed (places_before from set) duty.holder) (λ duty. is_listed set duty.holder) (λ duty. listed-all from set duty.holder none) (slice_get duties i)
+pub gathered-all : (k from : ℕ) (set : List ℕ) (duties : List Duty) (i : ℕ) → ((q : ℕ) → from ≤ q → is_among set q ≡ false) → is_gathered k from set duties i ≡ option_map_or (λ duty. is_listed k set duty.holder) (slice_get duties i) false
+gathered-all k from set duties i none =
+    map-same (λ duty. is_listed k (places_before from set) duty.holder) (λ duty. is_listed k set duty.holder) (λ duty. listed-all k from set duty.holder none) (slice_get duties i)
 
-none_listed : (set : List ℕ) (holder : Holder) → is_listed (places_before 0 set) holder ≡ false
-none_listed set (OfPairing q) = is_among-filter (λ r. nat_lt r 0) set q ∙ rw (le-ltb q 0 (omega arith)) refl
+fixed_listed : (k : ℕ) (set : List ℕ) (holder : Holder) → is_held_by_person k holder ≡ is_listed k (places_before 0 set) holder
+fixed_listed k set (OfPerson j) = refl
+fixed_listed k set (OfPairing q) = sym (is_among-filter (λ r. nat_lt r 0) set q ∙ rw (le-ltb q 0 (omega arith)) refl)
 
-none_of : (f : Duty → Bool) → ((duty : Duty) → f duty ≡ false) → (o : Option Duty) → option_map_or f o false ≡ false
-none_of f e None = refl
-none_of f e (Some duty) = e duty
-
-pub gathered-none : (set : List ℕ) (duties : List Duty) (i : ℕ) → is_gathered 0 set duties i ≡ false
-gathered-none set duties i = none_of (λ duty. is_listed (places_before 0 set) duty.holder) (λ duty. none_listed set duty.holder) (slice_get duties i)
+-- before the first pairing, the fixed duties are gathered
+pub gathered-fixed : (k : ℕ) (set positions : List ℕ) (duties : List Duty) → ((i : ℕ) → is_among positions i ≡ option_map_or (λ duty. is_held_by_person k duty.holder) (slice_get duties i) false) → (i : ℕ) → is_among positions i ≡ is_gathered k 0 set duties i
+gathered-fixed k set positions duties fixed i =
+    fixed i ∙ map-same (λ duty. is_held_by_person k duty.holder) (λ duty. is_listed k (places_before 0 set) duty.holder) (λ duty. fixed_listed k set duty.holder) (slice_get duties i)
 
 -- ---- the positions in order
 
@@ -165,12 +170,12 @@ some_duty f duties i h =
       | inr past ↦ absurd (both_ways _ (ap (λ (o : Option Duty). option_map_or f o false) (slice_get_past duties i past)) h)
     ]
 
-pub positions_within : (set positions : List ℕ) (duties : List Duty) → ((i : ℕ) → is_among positions i ≡ option_map_or (λ duty. is_listed set duty.holder) (slice_get duties i) false) → All (λ i. i < length duties) positions
-positions_within set positions duties members =
-    All-from_is_among (λ i. i < length duties) positions (λ i h. some_duty (λ duty. is_listed set duty.holder) duties i (sym (members i) ∙ h))
+pub positions_within : (test : Duty → Bool) (positions : List ℕ) (duties : List Duty) → ((i : ℕ) → is_among positions i ≡ option_map_or test (slice_get duties i) false) → All (λ i. i < length duties) positions
+positions_within test positions duties members =
+    All-from_is_among (λ i. i < length duties) positions (λ i h. some_duty test duties i (sym (members i) ∙ h))
 
 -- the positions once they are sorted
-pub members-sorted : (set positions sorted : List ℕ) (all duties : List Duty) → IsPermutation positions sorted → ((i : ℕ) → is_among positions i ≡ option_map_or (λ duty. is_listed set duty.holder) (slice_get all i) false) → duties ≡ all → (i : ℕ) → is_among sorted i ≡ option_map_or (λ duty. is_listed set duty.holder) (slice_get duties i) false
-members-sorted set positions sorted all duties same members here i =
+pub members-sorted : (test : Duty → Bool) (positions sorted : List ℕ) (all duties : List Duty) → IsPermutation positions sorted → ((i : ℕ) → is_among positions i ≡ option_map_or test (slice_get all i) false) → duties ≡ all → (i : ℕ) → is_among sorted i ≡ option_map_or test (slice_get duties i) false
+members-sorted test positions sorted all duties same members here i =
     is_among-IsPermutation positions sorted i same ∙ members i
-    ∙ ap (λ (ds : List Duty). option_map_or (λ duty. is_listed set duty.holder) (slice_get ds i) false) (sym here)
+    ∙ ap (λ (ds : List Duty). option_map_or test (slice_get ds i) false) (sym here)

@@ -3,3 +3,4 @@ pub mod Apart
 pub mod OffLeave
 pub mod Parts
 pub mod FirstBroken
+pub mod Locks

@@ -5,13 +5,13 @@ pub mod Overlap
 pub mod Leave
 pub mod Rest
 pub mod Recovery
-use Rattle.std.proofs.Common.{◌≡◌, ℕ, ◌<◌, Bool, true, false, List, [], refl, sym, ap, ◌∙◌, subst, inl, inr}
+use Rattle.std.proofs.Common.{◌≡◌, ℕ, ◌<◌, Bool, true, false, eqb, List, [], refl, sym, ap, ◌∙◌, subst, inl, inr}
 use Rattle.std.specs.Prelude.{All, AllPairs, filter}
 use Rattle.std.proofs.lemmas.Bool.{both_ways, false_from_ne_true}
-use Rattle.std.proofs.lemmas.List.Elements.{All-filter}
+use Rattle.std.proofs.lemmas.List.Elements.{All-filter, filter_passes}
 use Rattle.std.proofs.lemmas.List.Kept.{AllPairs-filter}
 use Rattle.roster_model.specs.Problem.{Problem, home_of, leaves_of, precedes}
-use Rattle.roster_model.specs.records.Duty.{Duty, Holder, OfPairing}
+use Rattle.roster_model.specs.records.Duty.{Duty, Holder, OfPairing, OfPerson}
 use Rattle.roster_model.specs.Rules.{duty_list, is_among, is_listed, Rule, BaseRule, OverlapRule, LeaveRule, RestRule, RecoveryRule, Holds, IsLegal}
 use Rattle.roster_model.specs.Rules.Overlap.{NoOverlap}
 use Rattle.roster_model.specs.Rules.Leave.{KeepsLeave}
@@ -23,34 +23,40 @@ use Rattle.roster_legal.proofs.Parts.Listed.{IsPart, shorter}
 use Rattle.roster_legal.proofs.Parts.Base.{KeepsBase-part}
 use Rattle.roster_legal.proofs.Parts.Overlap.{NoOverlap-filter}
 use Rattle.roster_legal.proofs.Parts.Leave.{KeepsLeave-filter}
-use Rattle.roster_legal.proofs.Parts.Rest.{KeepsRest-filter}
+use Rattle.roster_legal.proofs.Parts.Rest.{KeepsRest-filter, LeavesPairings}
 use Rattle.roster_legal.proofs.Parts.Recovery.{KeepsRecovery-filter}
 
-of_pairing : (set : List ℕ) (holder : Holder) → is_listed set holder ≡ false → is_of_pairing holder ≡ true
-of_pairing set (OfPairing p) h = refl
+of_pairing : (k : ℕ) (set part : List ℕ) (holder : Holder) → is_listed k set holder ≡ true → is_listed k part holder ≡ false → is_of_pairing holder ≡ true
+of_pairing k set part (OfPairing p) listed left = refl
+of_pairing k set part (OfPerson j) listed left = absurd (both_ways (eqb j k) left listed)
+
+-- what a part of the set leaves out belongs to pairings: fixed duties stay
+leaves_pairings : (problem : Problem) (k : ℕ) (set part : List ℕ) → LeavesPairings (λ duty. is_listed k part duty.holder) (duty_list problem k set)
+leaves_pairings problem k set part i d inside left =
+    of_pairing k set part _ (filter_passes (λ duty. is_listed k set duty.holder) problem.duties i d inside) left
 
 -- the duty list of a set is in order, and its duties end after they begin, as all duties do
 list_ordered : (problem : Problem) (k : ℕ) (set : List ℕ) → IsInOrder problem.duties → IsInOrder (duty_list problem k set)
 list_ordered problem k set ordered =
-    AllPairs-filter (λ a b. precedes b a ≡ false) (λ duty. is_listed set duty.holder) problem.duties ordered
+    AllPairs-filter (λ a b. precedes b a ≡ false) (λ duty. is_listed k set duty.holder) problem.duties ordered
 
 list_timed : (problem : Problem) (k : ℕ) (set : List ℕ) → AreTimed problem.duties → AreTimed (duty_list problem k set)
-list_timed problem k set timed = All-filter (λ duty. is_listed set duty.holder) (λ d. d.report < d.release) problem.duties timed
+list_timed problem k set timed = All-filter (λ duty. is_listed k set duty.holder) (λ d. d.report < d.release) problem.duties timed
 
 pub Holds-part : (problem : Problem) (k : ℕ) (set part : List ℕ) → IsInOrder problem.duties → AreTimed problem.duties → IsPart part set → ((rule : Rule) → Holds problem k set rule) → (rule : Rule) → Holds problem k part rule
 Holds-part problem k set part ordered timed more holds BaseRule = KeepsBase-part problem k set part more (holds BaseRule)
 Holds-part problem k set part ordered timed more holds OverlapRule =
     subst NoOverlap (shorter problem k set part more)
-    (NoOverlap-filter (λ duty. is_listed part duty.holder) (duty_list problem k set) (holds OverlapRule))
+    (NoOverlap-filter (λ duty. is_listed k part duty.holder) (duty_list problem k set) (holds OverlapRule))
 Holds-part problem k set part ordered timed more holds LeaveRule =
     subst (KeepsLeave (leaves_of problem k)) (shorter problem k set part more)
-    (KeepsLeave-filter (leaves_of problem k) (λ duty. is_listed part duty.holder) (duty_list problem k set) (holds LeaveRule))
+    (KeepsLeave-filter (leaves_of problem k) (λ duty. is_listed k part duty.holder) (duty_list problem k set) (holds LeaveRule))
 Holds-part problem k set part ordered timed more holds RestRule =
     subst (KeepsRest (home_of problem k)) (shorter problem k set part more)
-    (KeepsRest-filter (home_of problem k) (λ duty. is_listed part duty.holder) (duty_list problem k set) (λ i d inside. of_pairing part _) (list_timed problem k set timed) (holds RestRule))
+    (KeepsRest-filter (home_of problem k) (λ duty. is_listed k part duty.holder) (duty_list problem k set) (leaves_pairings problem k set part) (list_timed problem k set timed) (holds RestRule))
 Holds-part problem k set part ordered timed more holds RecoveryRule =
     subst (KeepsRecovery (home_of problem k).days) (shorter problem k set part more)
-    (KeepsRecovery-filter (home_of problem k).days (λ duty. is_listed part duty.holder) (duty_list problem k set) (list_ordered problem k set ordered) (list_timed problem k set timed) (holds OverlapRule) (holds RecoveryRule))
+    (KeepsRecovery-filter (home_of problem k).days (λ duty. is_listed k part duty.holder) (duty_list problem k set) (list_ordered problem k set ordered) (list_timed problem k set timed) (holds OverlapRule) (holds RecoveryRule))
 
 pub IsLegal-part : (problem : Problem) (k : ℕ) (set part : List ℕ) → IsInOrder problem.duties → AreTimed problem.duties → IsPart part set → IsLegal problem k set → IsLegal problem k part
 IsLegal-part problem k set part ordered timed more legal =

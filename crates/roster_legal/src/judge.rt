@@ -1,7 +1,7 @@
 //! The rules together.
 
 ghost use Rattle.std.specs.Prelude.{◌≡◌, ◌<◌, ◌↔◌, IfOk, IsTrue, All, length, option_map};
-ghost use Rattle.roster_model.specs.Rules.{duty_list, Holds, IsFirstBroken, IsLegal};
+ghost use Rattle.roster_model.specs.Rules.{duty_list, Holds, IsFirstBroken, IsLegal, IsLock};
 ghost use Rattle.roster_problem.specs.Duties.{AreTimed, IsInOrder};
 ghost use Rattle.roster_problem.specs.View.{rule_of};
 
@@ -62,6 +62,14 @@ pub fn first_broken(
 {
     let list = merge(alloc, problem, k, set)?;
     Ok(first_broken_on(problem, k, set, &list))
+}
+
+/// What locks person `k`: the first rule that is broken without any pairing, if there is one.
+pub fn locked(alloc: Global, problem: &Problem, k: usize) -> Result<Option<Rule>, AllocError>
+    requires { k < length problem.now.persons }
+    ensures { IfOk result (λ lock. IsLock problem.now k (option_map rule_of lock)) }
+{
+    first_broken(alloc, problem, k, &Set::empty())
 }
 
 /// Whether the set is legal for person `k`: it is empty, or no rule is broken.

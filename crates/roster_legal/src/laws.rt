@@ -2,13 +2,25 @@
 
 ghost use Rattle.std.specs.Prelude.{◌≡◌, ℕ, true, List, Option};
 ghost use Rattle.roster_model.specs.Problem.{Problem as Tables};
-ghost use Rattle.roster_model.specs.Rules.{is_among, IsFirstBroken, IsLegal, Rule};
+ghost use Rattle.roster_model.specs.Rules.{is_among, AreLocks, IsFirstBroken, IsLegal, Rule};
 ghost use Rattle.roster_problem.specs.Duties.{AreTimed, IsInOrder};
 
 /// A person breaks at most one rule first with a set.
 pub fn one_first_broken()
     ensures { (problem : Tables) (k : ℕ) (set : List ℕ) (a b : Option Rule)
         → IsFirstBroken problem k set a → IsFirstBroken problem k set b → a ≡ b }
+{}
+
+/// What locks each person is one list at most.
+pub fn one_list_of_locks()
+    ensures { (problem : Tables) (a b : List (Option Rule))
+        → AreLocks problem a → AreLocks problem b → a ≡ b }
+{}
+
+/// There is a list of what locks each person: there can't be none. Rules are facts that no test need
+/// decide, so nothing more than that is said.
+pub fn has_locks()
+    ensures { (problem : Tables) → ¬ ¬ ((locks : List (Option Rule)) × AreLocks problem locks) }
 {}
 
 /// What is part of a legal set is legal, where the duties are in their order in time.
@@ -26,6 +38,8 @@ mod tests {
     #[test]
     fn can_be_called() {
         one_first_broken();
+        one_list_of_locks();
+        has_locks();
         part_of_legal_is_legal();
     }
 }

@@ -1,7 +1,8 @@
 //! Which sets of pairings are legal for a person.
 //!
-//! `first_broken` tells the first rule that a person breaks with a set, and `is_legal` whether the set
-//! is empty or none is broken. Both look at the duties of the set alone. In reading order:
+//! `first_broken` tells the first rule that a person breaks with a set, `locked` the one that is broken
+//! without any pairing, and `is_legal` whether the set is empty or none is broken. They look at the
+//! fixed duties of the person and at the duties of the set alone. In reading order:
 //!
 //! - `listing`: the duty list of a person with a set
 //! - `base`, `overlap`, `leave`: a rule each; `roster_restrules` has the rules of rest
@@ -16,6 +17,6 @@ mod leave;
 mod listing;
 mod overlap;
 
-pub use judge::{first_broken, is_legal};
-pub use laws::{one_first_broken, part_of_legal_is_legal};
+pub use judge::{first_broken, is_legal, locked};
+pub use laws::{has_locks, one_first_broken, one_list_of_locks, part_of_legal_is_legal};
 pub use listing::merge;

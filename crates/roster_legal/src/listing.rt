@@ -1,15 +1,16 @@
 //! The duty list of a person.
 
-ghost use Rattle.std.specs.Prelude.{◌≡◌, ◌<◌, ℕ, false, IfOk, All, length, slice_get, nat_eq};
+ghost use Rattle.std.specs.Prelude.{◌≡◌, ◌<◌, ◌≤◌, ◌*◌, ℕ, false, IfOk, All, length, slice_get, nat_eq};
 ghost use Rattle.std.specs.List.{IsDistinct};
 ghost use Rattle.roster_model.specs.Rules.{duty_list, is_among, is_listed};
 ghost use Rattle.roster_problem.specs.Duties.{AreTimed, IsInOrder, passes_at};
 
+use roster_model::limits::{MOST_DUTIES, MOST_PAIRINGS};
 use roster_problem::{DutyList, Problem, Set};
 use std::alloc::{AllocError, Global};
 
-/// The duties of the pairings in the set, as the list of person `k`. It looks at no other duty, and
-/// grows memory once.
+/// The duty list of person `k` with the set: their fixed duties and those of the pairings in the set.
+/// It looks at no other duty, and grows memory once.
 pub fn merge<'a>(
     alloc: Global,
     problem: &'a Problem,
@@ -23,19 +24,28 @@ pub fn merge<'a>(
     ensures timed { IfOk result AreTimed }
 {
     let duties = problem.duties();
-    let mut positions = positions_of(alloc, problem, set)?;
+    let mut positions = positions_of(alloc, problem, k, set)?;
     positions.sort_unstable();
     Ok(DutyList::new(duties, positions))
 }
 
-// The positions of the duties of the pairings in the set, one pairing after another.
-fn positions_of(alloc: Global, problem: &Problem, set: &Set) -> Result<Vec<u16>, AllocError>
-    requires { All (λ p. p < length problem.now.pairings) set.now }
+// The positions of the fixed duties of person k, and of those of the pairings in the set, one pairing
+// after another.
+fn positions_of(
+    alloc: Global,
+    problem: &Problem,
+    k: usize,
+    set: &Set,
+) -> Result<Vec<u16>, AllocError>
+    requires person { k < length problem.now.persons }
+    requires places { All (λ p. p < length problem.now.pairings) set.now }
     ensures distinct { IfOk result (λ positions. IsDistinct nat_eq positions.items) }
     ensures members { IfOk result (λ positions. (i : ℕ) → is_among positions.items i
-        ≡ passes_at (λ duty. is_listed set.now duty.holder) problem.now.duties i) }
+        ≡ passes_at (λ duty. is_listed k set.now duty.holder) problem.now.duties i) }
 {
-    let mut positions = Vec::with_capacity(alloc, count_of(problem, set))?;
+    let fixed = problem.fixed_of(k);
+    let mut positions = Vec::with_capacity(alloc, fixed.len() + count_of(problem, set))?;
+    positions.extend_from_slice(fixed)?;
     let mut from = 0;
     while let Some(p) = set.first_from(from) {
         positions.extend_from_slice(problem.duties_of(p))?;
@@ -47,6 +57,7 @@ fn positions_of(alloc: Global, problem: &Problem, set: &Set) -> Result<Vec<u16>,
 // How many duties the pairings in the set have.
 fn count_of(problem: &Problem, set: &Set) -> usize
     requires { All (λ p. p < length problem.now.pairings) set.now }
+    ensures { result ≤ MOST_PAIRINGS * MOST_DUTIES }
 {
     let mut count = 0;
     let mut from = 0;

@@ -6,7 +6,7 @@ use Rattle.roster_model.specs.Record.{Record, Command, Solve}
 use Rattle.roster_model.specs.Problem.{Problem, problem_of}
 use Rattle.roster_model.specs.Faults.{Fault, first_fault}
 use Rattle.roster_model.specs.Rosters.{IsBest}
-use Rattle.roster_model.specs.Texts.{report_text, fault_text}
+use Rattle.roster_model.specs.Texts.{IsReportOf, fault_text}
 
 -- the records that `csv` gives for the bytes: no header row, and any number of fields
 abbrev pub records_of : List ℕ → List Record
@@ -20,7 +20,7 @@ IsFirstFault command records fault = first_fault command records ≡ Some fault
 pub record IsBestReport (problem : Problem) (text : List ℕ) : Type 0 where
   pub places : List ℕ
   pub best : IsBest problem places
-  pub written : text ≡ report_text problem places
+  pub written : IsReportOf problem places text
 
 -- the text is what the command reports of the problem
 abbrev pub Reports : Command → Problem → List ℕ → Type 0

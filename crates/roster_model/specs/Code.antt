@@ -26,7 +26,7 @@ pub data Code : Type 0 where
   NoRoom : Code
   -- the first duty of a pairing reports away from its base, or outside the month there
   WrongStart : Code
-  -- the person has a leave in one of its minutes
+  -- the person has a fixed duty or a leave in one of its minutes
   Busy : Code
   -- a pairing has no duty
   NoDuty : Code

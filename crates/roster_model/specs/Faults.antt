@@ -22,7 +22,7 @@ conditions_of PeriodRecord before fields = period.conditions before fields
 conditions_of BaseRecord before fields = base.conditions before fields
 conditions_of CrewRecord before fields = crew.conditions before fields
 conditions_of PairingRecord before fields = pairing.conditions before fields
-conditions_of DutyRecord before fields = duty.conditions before fields
+conditions_of DutyRecord before fields = duty.conditions (is_busy (tables_in before)) before fields
 conditions_of SectorRecord before fields = sector.conditions before fields
 conditions_of LeaveRecord before fields = leave.conditions (is_busy (tables_in before)) before fields
 

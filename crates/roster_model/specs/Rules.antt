@@ -6,9 +6,9 @@ pub mod Leave
 pub mod Rest
 pub mod Recovery
 pub mod Limits
-use Rattle.std.specs.Prelude.{◌≡◌, ◌<◌, ◌⊎◌, ℕ, Bool, ◌==◌, List, [], Option, Some, None, codes}
+use Rattle.std.specs.Prelude.{◌≡◌, ◌<◌, ◌⊎◌, ℕ, Bool, ◌==◌, List, [], length, Option, Some, None, slice_get, codes}
 use Rattle.std.specs.List.{filter, list_any}
-use Rattle.roster_model.specs.records.Duty.{Duty, Holder, OfPairing}
+use Rattle.roster_model.specs.records.Duty.{Duty, Holder, OfPairing, OfPerson}
 use Rattle.roster_model.specs.Problem.{Problem, home_of, leaves_of}
 use Rattle.roster_model.specs.Rules.Base.{KeepsBase}
 use Rattle.roster_model.specs.Rules.Overlap.{NoOverlap}
@@ -20,14 +20,15 @@ use Rattle.roster_model.specs.Rules.Recovery.{KeepsRecovery}
 abbrev pub is_among : List ℕ → ℕ → Bool
 is_among set p = list_any (λ q. q == p) set
 
--- whether a duty of this holder is on the list of a person with this set
-abbrev pub is_listed : List ℕ → Holder → Bool
-is_listed set (OfPairing p) = is_among set p
+-- whether a duty of this holder is on the list of person k with this set
+abbrev pub is_listed : ℕ → List ℕ → Holder → Bool
+is_listed k set (OfPairing p) = is_among set p
+is_listed k set (OfPerson j) = j == k
 
--- The duty list of person k with a set: the duties of the pairings in the set, by report, release
--- and row.
+-- The duty list of person k with a set: the fixed duties of k and the duties of the pairings in the
+-- set, by report, release and row.
 abbrev pub duty_list : Problem → ℕ → List ℕ → List Duty
-duty_list problem k set = filter (λ duty. is_listed set duty.holder) problem.duties
+duty_list problem k set = filter (λ duty. is_listed k set duty.holder) problem.duties
 
 -- the rules, in the order in which they are judged
 pub data Rule : Type 0 where
@@ -72,3 +73,13 @@ IsFirstBroken problem k set None = (rule : Rule) → Holds problem k set rule
 IsFirstBroken problem k set (Some broken) =
     (¬ Holds problem k set broken)
     × ((rule : Rule) → rank_of rule < rank_of broken → Holds problem k set rule)
+
+-- What locks person k: the first rule that is broken without any pairing. A locked person can only be
+-- left without pairings.
+abbrev pub IsLock : Problem → ℕ → Option Rule → Type 0
+IsLock problem k lock = IsFirstBroken problem k [] lock
+
+-- what locks each person, in book order
+pub record AreLocks (problem : Problem) (locks : List (Option Rule)) : Type 0 where
+  pub covers : length locks ≡ length problem.persons
+  pub each : (k : ℕ) (lock : Option Rule) → slice_get locks k ≡ Some lock → IsLock problem k lock

@@ -1,5 +1,5 @@
 -- The lines that the program writes. Each ends with a line feed; words are parted by one space.
-use Rattle.std.specs.Prelude.{ℕ, ◌/◌, ◌%◌, List, [], ◌∷◌, ◌++◌, map, codes}
+use Rattle.std.specs.Prelude.{◌≡◌, ℕ, ◌/◌, ◌%◌, List, [], ◌∷◌, ◌++◌, Option, Some, None, map, slice_get, unwrap_or, codes}
 use Rattle.std.specs.List.{flat_map, join_with_byte, enumerate_from}
 use Rattle.std.specs.Fmt.{decimal, signed_decimal}
 use Rattle.roster_model.specs.Calendar.{Days, Period}
@@ -7,7 +7,7 @@ use Rattle.roster_model.specs.records.Crew.{Person}
 use Rattle.roster_model.specs.records.Duty.{Duty}
 use Rattle.roster_model.specs.Problem.{Problem, home_of, pairing_name}
 use Rattle.roster_model.specs.Faults.{Fault}
-use Rattle.roster_model.specs.Rules.{duty_list}
+use Rattle.roster_model.specs.Rules.{Rule, AreLocks, duty_list, word_of_rule}
 use Rattle.roster_model.specs.Rosters.{set_of, open_number, cost_of}
 use Rattle.roster_model.specs.Sums.{greatest_duty}
 
@@ -36,18 +36,34 @@ crew_line problem set k person =
     line_of (codes "CREW" ∷ person.id
     ∷ (map decimal (numbers_of (home_of problem k).days (duty_list problem k set)) ++ names_of problem set))
 
--- the lines of all persons, each with their set of a roster
-unfoldable pub crew_lines : Problem → List ℕ → List ℕ
-crew_lines problem places =
-    flat_map (λ (entry : ℕ × Person). crew_line problem (set_of entry.0 places) entry.0 entry.1) (enumerate_from 0 problem.persons)
+-- the line of the rule that locks a person, and of a person who isn't locked none
+abbrev pub lock_line : Person → Option Rule → List ℕ
+lock_line person None = []
+lock_line person (Some rule) = line_of (codes "LOCKED" ∷ person.id ∷ word_of_rule rule ∷ [])
 
--- the report of a roster
-unfoldable pub report_text : Problem → List ℕ → List ℕ
-report_text problem places =
+-- what locks the person at place k, of what locks each person
+abbrev pub lock_at : List (Option Rule) → ℕ → Option Rule
+lock_at locks k = unwrap_or (slice_get locks k) None
+
+-- the lines of all persons, each with what locks them and with their set of a roster
+unfoldable pub crew_lines : Problem → List (Option Rule) → List ℕ → List ℕ
+crew_lines problem locks places =
+    flat_map (λ (entry : ℕ × Person). crew_line problem (set_of entry.0 places) entry.0 entry.1 ++ lock_line entry.1 (lock_at locks entry.0))
+    (enumerate_from 0 problem.persons)
+
+-- the report of a roster, where this locks each person
+unfoldable pub report_text : Problem → List (Option Rule) → List ℕ → List ℕ
+report_text problem locks places =
     line_of (codes "ROSTER" ∷ period_text problem.period ∷ [])
     ++ line_of (codes "COST" ∷ signed_decimal (cost_of problem places) ∷ [])
-    ++ crew_lines problem places
+    ++ crew_lines problem locks places
     ++ line_of (codes "OPEN" ∷ names_of problem (set_of (open_number problem) places))
+
+-- the text is the report of the roster, with what locks each person
+pub record IsReportOf (problem : Problem) (places : List ℕ) (text : List ℕ) : Type 0 where
+  pub locks : List (Option Rule)
+  pub locked : AreLocks problem locks
+  pub written : text ≡ report_text problem locks places
 
 -- the line of a fault
 unfoldable pub fault_text : Fault → List ℕ

@@ -1,14 +1,14 @@
--- Indexes: for each place the positions of the entries that belong to it.
-use Rattle.std.proofs.Common.{◌≡◌, refl, false, ℕ, ◌+◌, ◌<◌, cond, eqb, eq-eqb, List, [], ◌∷◌, ◌++◌, length, take, get_or, set, map, replicate, Some, sym, ap, ◌∙◌, subst, inl, inr, arith, append-nil}
-use Rattle.std.specs.Prelude.{Option, None, Bool, slice_get, All, IfSome}
-use Rattle.std.specs.Option.{option_map_or}
-use Rattle.std.proofs.lemmas.Bool.{cases_eq, cond-true, cond-false, ne_eqb}
+-- The index from places to the positions of the elements that belong to them.
+use Rattle.std.proofs.Common.{◌≡◌, ℕ, ◌+◌, ◌<◌, Bool, true, cond, eqb, eq-eqb, List, [], ◌∷◌, ◌++◌, length, take, get_or, set, map, replicate, Option, Some, None, refl, sym, ap, ◌∙◌, subst, inl, inr, arith, append-nil}
+use Rattle.std.specs.Prelude.{All, slice_get}
+use Rattle.std.proofs.lemmas.Bool.{cases_eq, cond-true, cond-false, ne_eqb, eqb-true, both_ways}
 use Rattle.std.proofs.lemmas.List.{map-set, get_or-map, get_or-set_same, get_or-set_other, get_or-replicate, length-map, length-set, length-replicate}
 use Rattle.std.proofs.lemmas.Option.{slice_get-get_or, get_or_from_slice_get, same_Some}
-use Rattle.roster_model.specs.records.Duty.{Holder, OfPairing, is_held_by_pairing}
+use Rattle.roster_model.specs.records.Duty.{Duty, Holder, OfPairing, OfPerson, is_held_by_pairing, is_held_by_person}
+use Rattle.roster_model.specs.records.Leave.{Leave, is_leave_of}
 use Rattle.roster_problem.specs.Sound.{IsHolder}
-use Rattle.roster_problem.specs.Duties.{IsIndex, pairing_of, positions_where, pushed}
-use Rattle.roster_problem.proofs.PositionLists.{positions_where-more}
+use Rattle.roster_problem.specs.Duties.{ArePositionsOf, IsIndex, is_at, is_of_pairing, is_of_person, positions_where}
+use Rattle.roster_problem.proofs.PositionLists.{positions_where-more, ArePositionsOf-where}
 
 -- one position more in a list of a table of lists
 pub map-pushed : {V : Type 0} (f : V → List ℕ) (xs : List V) (ys : List (List ℕ)) (i x : ℕ) (old new : V) → map f xs ≡ ys → i < length ys → old ≡ get_or xs i old → f new ≡ f old ++ x ∷ [] → map f (set xs i new) ≡ set ys i (get_or ys i [] ++ x ∷ [])
@@ -17,50 +17,71 @@ map-pushed f xs ys i x old new view inside at more =
     let was : get_or ys i [] ≡ f old = ap (λ zs. get_or zs i []) (sym view) ∙ get_or-map f xs i old [] (omega arith) ∙ ap f (sym at) in
     map-set f xs i new ∙ ap (λ zs. set zs i (f new)) view ∙ ap (set ys i) (more ∙ ap (λ zs. zs ++ x ∷ []) (sym was))
 
--- one entry more, which belongs to the place that is given for it
-pub IsIndex-more : {X : Type 0} (belongs : ℕ → X → Bool) (n i : ℕ) (entries : List X) (entry : X) (place : Option ℕ) (lists : List (List ℕ)) → length lists ≡ n → i < length entries → entry ≡ get_or entries i entry → ((p : ℕ) → belongs p entry ≡ option_map_or (λ q. eqb q p) place false) → IsIndex belongs n (take i entries) lists → IsIndex belongs n (take (i + 1) entries) (pushed lists place i)
-IsIndex-more belongs n i entries entry None lists long inside at of_place index q within =
-    let more = positions_where-more (belongs q) i entries entry inside at in
-    index q within ∙ ap Some (sym (more ∙ ap (λ b. positions_where (belongs q) 0 (take i entries) ++ cond b (i ∷ []) []) (of_place q) ∙ append-nil _))
-IsIndex-more belongs n i entries entry (Some p) lists long inside at of_place index q within =
+-- with one element more, which belongs to this place or to none
+belongs-more : {X : Type 0} (belongs : ℕ → X → Bool) (q i : ℕ) (xs : List X) (x : X) (place : Option ℕ) → i < length xs → x ≡ get_or xs i x → belongs q x ≡ is_at q place → positions_where (belongs q) 0 (take (i + 1) xs) ≡ positions_where (belongs q) 0 (take i xs) ++ cond (is_at q place) (i ∷ []) []
+belongs-more belongs q i xs x place inside at tells =
+    positions_where-more (belongs q) i xs x inside at
+    ∙ ap (λ b. positions_where (belongs q) 0 (take i xs) ++ cond b (i ∷ []) []) tells
+
+pub IsIndex-more : {X : Type 0} (belongs : ℕ → X → Bool) (n p i : ℕ) (xs : List X) (x : X) (lists : List (List ℕ)) → p < n → i < length xs → x ≡ get_or xs i x → ((q : ℕ) → belongs q x ≡ is_at q (Some p)) → IsIndex belongs n (take i xs) lists → IsIndex belongs n (take (i + 1) xs) (set lists p (get_or lists p [] ++ i ∷ []))
+IsIndex-more belongs n p i xs x lists known inside at tells index =
     let new : List ℕ = get_or lists p [] ++ i ∷ [] in
-    let there : slice_get (set lists p new) q ≡ Some (get_or (set lists p new) q []) = slice_get-get_or (set lists p new) q [] (omega (arith, length-set lists p new)) in
-    let was : get_or lists q [] ≡ positions_where (belongs q) 0 (take i entries) = get_or_from_slice_get lists q _ [] (index q within) in
-    let more = positions_where-more (belongs q) i entries entry inside at ∙ ap (λ b. positions_where (belongs q) 0 (take i entries) ++ cond b (i ∷ []) []) (of_place q) in
-    there ∙ ap Some (elim (cases_eq q p) [
-      | inl same ↦
-          let here : get_or (set lists p new) q [] ≡ new = ap (λ r. get_or (set lists p new) r []) same ∙ get_or-set_same lists p new [] (omega arith) in
-          let old : get_or lists p [] ≡ positions_where (belongs q) 0 (take i entries) = ap (λ r. get_or lists r []) (sym same) ∙ was in
-          here ∙ ap (λ ys. ys ++ i ∷ []) old ∙ sym (more ∙ ap (λ ys. positions_where (belongs q) 0 (take i entries) ++ ys) (cond-true (eqb p q) (i ∷ []) [] (eq-eqb p q (sym same))))
-      | inr other ↦
-          let apart : p ≡ q → ⊥ = λ e. other (sym e) in
-          get_or-set_other lists p q new [] other ∙ was ∙ sym (more ∙ ap (λ ys. positions_where (belongs q) 0 (take i entries) ++ ys) (cond-false (eqb p q) (i ∷ []) [] (ne_eqb p q apart)) ∙ append-nil _)
-    ])
+    let long : length lists ≡ n = index.long in
+    record {
+      long = length-set lists p new ∙ long;
+      each = λ q within.
+          let there : slice_get (set lists p new) q ≡ Some (get_or (set lists p new) q []) = slice_get-get_or (set lists p new) q [] (omega (arith, length-set lists p new)) in
+          let was : get_or lists q [] ≡ positions_where (belongs q) 0 (take i xs) = get_or_from_slice_get lists q _ [] (index.each q within) in
+          let more = belongs-more belongs q i xs x (Some p) inside at (tells q) in
+          there ∙ ap Some (elim (cases_eq q p) [
+            | inl same ↦
+                let here : get_or (set lists p new) q [] ≡ new = ap (λ r. get_or (set lists p new) r []) same ∙ get_or-set_same lists p new [] (omega arith) in
+                let old : get_or lists p [] ≡ positions_where (belongs q) 0 (take i xs) = ap (λ r. get_or lists r []) (sym same) ∙ was in
+                here ∙ ap (λ ys. ys ++ i ∷ []) old ∙ sym (more ∙ ap (λ ys. positions_where (belongs q) 0 (take i xs) ++ ys) (cond-true (eqb p q) (i ∷ []) [] (eq-eqb p q (sym same))))
+            | inr other ↦
+                let apart : p ≡ q → ⊥ = λ e. other (sym e) in
+                get_or-set_other lists p q new [] other ∙ was ∙ sym (more ∙ ap (λ ys. positions_where (belongs q) 0 (take i xs) ++ ys) (cond-false (eqb p q) (i ∷ []) [] (ne_eqb p q apart)) ∙ append-nil _)
+          ]);
+    }
 
--- the place that is given for an entry is there
-pub place_below : {X : Type 0} (gives : X → Option ℕ → Type 0) (n m i : ℕ) (entries : List X) (entry : X) (place : Option ℕ) → All (λ e. (p : ℕ) → gives e (Some p) → p < n) entries → m ≡ n → i < length entries → entry ≡ get_or entries i entry → gives entry place → IfSome place (λ p. p < m)
-place_below gives n m i entries entry None all same inside at gave = tt
-place_below gives n m i entries entry (Some p) all same inside at gave =
-    let below = all i entry inside p (subst (λ e. gives e (Some p)) at gave) in
-    omega arith
-
-pub length-pushed : (lists : List (List ℕ)) (place : Option ℕ) (i : ℕ) → length (pushed lists place i) ≡ length lists
-length-pushed lists None i = refl
-length-pushed lists (Some p) i = length-set lists p _
+pub IsIndex-passed : {X : Type 0} (belongs : ℕ → X → Bool) (n i : ℕ) (xs : List X) (x : X) (lists : List (List ℕ)) → i < length xs → x ≡ get_or xs i x → ((q : ℕ) → belongs q x ≡ is_at q None) → IsIndex belongs n (take i xs) lists → IsIndex belongs n (take (i + 1) xs) lists
+IsIndex-passed belongs n i xs x lists inside at tells index = record {
+  long = index.long;
+  each = λ q within.
+      index.each q within ∙ ap Some (sym (belongs-more belongs q i xs x None inside at (tells q) ∙ append-nil _));
+}
 
 pub IsIndex-none : {X : Type 0} (belongs : ℕ → X → Bool) (n : ℕ) → IsIndex belongs n [] (replicate n [])
-IsIndex-none belongs n p within =
+IsIndex-none belongs n =
     let none : List ℕ = [] in
-    slice_get-get_or (replicate n none) p none (omega (arith, length-replicate n none)) ∙ ap Some (get_or-replicate n p none none within)
+    record {
+      long = length-replicate n none;
+      each = λ p within. slice_get-get_or (replicate n none) p none (omega (arith, length-replicate n none)) ∙ ap Some (get_or-replicate n p none none within);
+    }
 
--- the list of a place that some code holds
-pub index_of : {X : Type 0} (belongs : ℕ → X → Bool) (n p : ℕ) (entries : List X) (lists : List (List ℕ)) (list : List ℕ) → IsIndex belongs n entries lists → p < n → slice_get lists p ≡ Some list → list ≡ positions_where (belongs p) 0 entries
-index_of belongs n p entries lists list index within at = same_Some _ _ (sym at ∙ index p within)
+-- the list of a place, as some code holds it
+pub positions_of_place : {X : Type 0} (belongs : ℕ → X → Bool) (n p : ℕ) (xs : List X) (lists : List (List ℕ)) (list : List ℕ) → IsIndex belongs n xs lists → p < n → slice_get lists p ≡ Some list → ArePositionsOf (belongs p) xs list
+positions_of_place belongs n p xs lists list index within at =
+    ArePositionsOf-where (belongs p) xs list (same_Some _ _ (sym at ∙ index.each p within))
 
--- ---- the pairing of a duty
+-- the place that is told of an entry is there, where all places that may be told of entries are
+pub inside_at : {X : Type 0} (Tells : X → ℕ → Type 0) (n : ℕ) (xs : List X) (i p : ℕ) (x : X) → All (λ y. (q : ℕ) → Tells y q → q < n) xs → i < length xs → x ≡ get_or xs i x → Tells x p → p < n
+inside_at Tells n xs i p x all inside at told = all i x inside p (subst (λ y. Tells y p) at told)
 
-pub is_held_by_pairing_of : (p : ℕ) (holder : Holder) (place : Option ℕ) → place ≡ pairing_of holder → is_held_by_pairing p holder ≡ option_map_or (λ q. eqb q p) place false
-is_held_by_pairing_of p (OfPairing q) place e = ap (λ o. option_map_or (λ r. eqb r p) o false) (sym e)
+-- the place of a duty's holder is there
+pairing_below : (pairings persons p : ℕ) (holder : Holder) → IsHolder pairings persons holder → is_held_by_pairing p holder ≡ true → p < pairings
+pairing_below pairings persons p (OfPairing q) there same = subst (λ r. r < pairings) (eqb-true q p same) there
+pairing_below pairings persons p (OfPerson k) there same = absurd (both_ways _ refl same)
 
-pub holder_below : (n p : ℕ) (holder : Holder) → IsHolder n holder → Some p ≡ pairing_of holder → p < n
-holder_below n p (OfPairing q) h e = let P : ℕ → Type 0 = λ r. r < n in subst P (same_Some q p (sym e)) h
+pub pairing_there : (pairings persons p : ℕ) (duty : Duty) → IsHolder pairings persons duty.holder → is_of_pairing p duty ≡ is_at p (Some p) → p < pairings
+pairing_there pairings persons p duty there told = pairing_below pairings persons p duty.holder there (told ∙ eq-eqb p p refl)
+
+person_below : (pairings persons k : ℕ) (holder : Holder) → IsHolder pairings persons holder → is_held_by_person k holder ≡ true → k < persons
+person_below pairings persons k (OfPairing q) there same = absurd (both_ways _ refl same)
+person_below pairings persons k (OfPerson j) there same = subst (λ r. r < persons) (eqb-true j k same) there
+
+pub person_there : (pairings persons k : ℕ) (duty : Duty) → IsHolder pairings persons duty.holder → is_of_person k duty ≡ is_at k (Some k) → k < persons
+person_there pairings persons k duty there told = person_below pairings persons k duty.holder there (told ∙ eq-eqb k k refl)
+
+pub leave_there : (persons k : ℕ) (leave : Leave) → leave.person < persons → is_leave_of k leave ≡ is_at k (Some k) → k < persons
+leave_there persons k leave there told = subst (λ j. j < persons) (eqb-true leave.person k (told ∙ eq-eqb k k refl)) there

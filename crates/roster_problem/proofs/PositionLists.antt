@@ -9,8 +9,8 @@ use Rattle.std.proofs.lemmas.List.Elements.{All-nil, All-cons, All-head, All-tai
 use Rattle.std.proofs.lemmas.Option.{slice_get-get_or, slice_get_cases, none-some, same_Some}
 use Rattle.roster_model.specs.Rules.{is_among}
 use Rattle.roster_model.specs.records.Duty.{Duty}
-use Rattle.roster_model.proofs.SetLemmas.{Ascends, Ascends-from_rising, is_among-before, is_among-here, is_among-later, same_set}
-use Rattle.roster_problem.specs.Duties.{picked, positions_where, ArePositions}
+use Rattle.roster_model.proofs.SetLemmas.{Ascends, Ascends-from_rising, rising_from_Ascends, is_among-before, is_among-here, is_among-later, same_set}
+use Rattle.roster_problem.specs.Duties.{picked, positions_where, ArePositions, ArePositionsOf}
 
 -- ---- one element more
 
@@ -33,7 +33,7 @@ positions_where-more test i xs x inside is =
 
 -- ---- they ascend, and are below the length
 
-pub ascending_positions : {X : Type 0} (test : X → Bool) (i : ℕ) (xs : List X) → All (λ k. i ≤ k) (positions_where test i xs) × Ascends (positions_where test i xs)
+ascending_positions : {X : Type 0} (test : X → Bool) (i : ℕ) (xs : List X) → All (λ k. i ≤ k) (positions_where test i xs) × Ascends (positions_where test i xs)
 ascending_positions test i [] = (All-nil (λ k. i ≤ k), tt)
 ascending_positions test i (x ∷ xs) =
     let rest = ascending_positions test (i + 1) xs in
@@ -45,14 +45,14 @@ ascending_positions test i (x ∷ xs) =
       | false ↦ (weak, rest.1)
     ]
 
-pub positions_below : {X : Type 0} (test : X → Bool) (i n : ℕ) (xs : List X) → i + length xs ≡ n → All (λ k. k < n) (positions_where test i xs)
+positions_below : {X : Type 0} (test : X → Bool) (i n : ℕ) (xs : List X) → i + length xs ≡ n → All (λ k. k < n) (positions_where test i xs)
 positions_below test i n [] e = All-nil (λ k. k < n)
 positions_below test i n (x ∷ xs) e =
     let rest = positions_below test (i + 1) n xs (omega arith) in
     let P : Bool → Type 0 = λ b. All (λ k. k < n) (cond b (i ∷ positions_where test (i + 1) xs) (positions_where test (i + 1) xs)) in
     elim (test x) as P [ true ↦ All-cons (λ k. k < n) i _ (omega arith) rest | false ↦ rest ]
 
-pub length-positions_where : {X : Type 0} (test : X → Bool) (i : ℕ) (xs : List X) → length (positions_where test i xs) ≤ length xs
+length-positions_where : {X : Type 0} (test : X → Bool) (i : ℕ) (xs : List X) → length (positions_where test i xs) ≤ length xs
 length-positions_where test i [] = omega arith
 length-positions_where test i (x ∷ xs) =
     let rest = length-positions_where test (i + 1) xs in
@@ -83,7 +83,7 @@ among_from test i (suc k) p (x ∷ xs) e =
       | inr fails ↦ ap (λ ys. is_among ys p) (cond-false (test x) (i ∷ positions_where test (i + 1) xs) _ fails) ∙ rest
     ]
 
-pub is_among-positions_where : {X : Type 0} (test : X → Bool) (xs : List X) (p : ℕ) → is_among (positions_where test 0 xs) p ≡ option_map_or test (slice_get xs p) false
+is_among-positions_where : {X : Type 0} (test : X → Bool) (xs : List X) (p : ℕ) → is_among (positions_where test 0 xs) p ≡ option_map_or test (slice_get xs p) false
 is_among-positions_where test xs p = among_from test 0 p p xs (omega arith)
 
 -- ---- the elements at them
@@ -101,8 +101,19 @@ picked-front {X} test front (x ∷ xs) whole i at is =
       | false ↦ rest
     ]
 
-pub picked-positions_where : {X : Type 0} (test : X → Bool) (xs : List X) → picked xs (positions_where test 0 xs) ≡ filter test xs
+picked-positions_where : {X : Type 0} (test : X → Bool) (xs : List X) → picked xs (positions_where test 0 xs) ≡ filter test xs
 picked-positions_where test xs = picked-front test [] xs xs 0 refl refl
+
+-- all that is said of them
+pub ArePositionsOf-where : {X : Type 0} (test : X → Bool) (xs : List X) (positions : List ℕ) → positions ≡ positions_where test 0 xs → ArePositionsOf test xs positions
+ArePositionsOf-where test xs positions is = subst (ArePositionsOf test xs) (sym is) (record {
+  value = refl;
+  elements = picked-positions_where test xs;
+  ascending = rising_from_Ascends _ (ascending_positions test 0 xs).1;
+  members = is_among-positions_where test xs;
+  within = positions_below test 0 (length xs) xs (omega arith);
+  bound = length-positions_where test 0 xs;
+})
 
 -- ascending positions of just the elements that pass
 pub picked-passing : {X : Type 0} (test : X → Bool) (xs : List X) (positions : List ℕ) → IsStrictlyIncreasing positions → ((p : ℕ) → is_among positions p ≡ option_map_or test (slice_get xs p) false) → picked xs positions ≡ filter test xs

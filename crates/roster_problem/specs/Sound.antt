@@ -2,11 +2,12 @@
 use Rattle.std.specs.Prelude.{ℕ, ◌<◌, ◌≤◌, length, All}
 use Rattle.roster_model.specs.declared.limits.TheConstants.{MOST_BASES, MOST_PERSONS, MOST_PAIRINGS, MOST_DUTIES, MOST_LEAVES, MOST_PENALTY}
 use Rattle.roster_model.specs.Problem.{Problem}
-use Rattle.roster_model.specs.records.Duty.{Holder, OfPairing}
+use Rattle.roster_model.specs.records.Duty.{Holder, OfPairing, OfPerson}
 
--- the holder is among so many pairings
-abbrev pub IsHolder : ℕ → Holder → Type 0
-IsHolder pairings (OfPairing p) = p < pairings
+-- the holder is among so many pairings or persons
+abbrev pub IsHolder : ℕ → ℕ → Holder → Type 0
+IsHolder pairings persons (OfPairing p) = p < pairings
+IsHolder pairings persons (OfPerson k) = k < persons
 
 pub record IsSound (problem : Problem) : Type 0 where
   -- no table is longer than its limit
@@ -19,5 +20,5 @@ pub record IsSound (problem : Problem) : Type 0 where
   -- what is referred to is there
   pub homes : All (λ person. person.base < length problem.bases) problem.persons
   pub starts : All (λ pairing. pairing.base < length problem.bases) problem.pairings
-  pub holders : All (λ duty. IsHolder (length problem.pairings) duty.holder) problem.duties
+  pub holders : All (λ duty. IsHolder (length problem.pairings) (length problem.persons) duty.holder) problem.duties
   pub absences : All (λ leave. leave.person < length problem.persons) problem.leaves

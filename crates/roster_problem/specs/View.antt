@@ -15,6 +15,7 @@ use Rattle.roster_model.specs.records.Leave.{Leave}
 
 abbrev pub holder_of : Holder → model.Holder
 holder_of (holders.Pairing p) = model.OfPairing p
+holder_of (holders.Person k) = model.OfPerson k
 
 abbrev pub rule_of : Rule → judged.Rule
 rule_of rules.Base = judged.BaseRule

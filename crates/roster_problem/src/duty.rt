@@ -1,7 +1,8 @@
 //! Duties.
 
-ghost use Rattle.std.specs.Prelude.{◌≡◌, ◌++◌, ◌∷◌, [], true, is_ok, if◌then◌else◌};
+ghost use Rattle.std.specs.Prelude.{◌≡◌, ◌<◌, ◌++◌, ◌∷◌, [], ℕ, true, is_ok, if◌then◌else◌};
 ghost use Rattle.roster_model.specs.records.Sector.{is_in_sequence};
+ghost use Rattle.roster_problem.specs.Duties.{is_at, is_of_pairing, is_of_person};
 
 use crate::name::Name;
 use crate::sector::Sector;
@@ -14,6 +15,8 @@ use std::marker::Model;
 pub enum Holder {
     /// The pairing at this place.
     Pairing(usize),
+    /// The person at this place, for whom it is fixed.
+    Person(usize),
 }
 
 /// A duty, from its report to its later release. Its sectors lie in it, and each begins no earlier
@@ -80,5 +83,26 @@ impl Duty {
     {
         self.sectors.push(sector)?;
         Ok(())
+    }
+
+    /// The place of the pairing whose duty it is, if it is one's.
+    pub(crate) fn pairing(&self) -> Option<usize>
+        ensures place { (p : ℕ) → is_of_pairing p self.now ≡ is_at p result }
+        ensures timed { self.now.report < self.now.release }
+    {
+        match self.holder {
+            Holder::Pairing(p) => Some(p),
+            Holder::Person(_) => None,
+        }
+    }
+
+    /// The place of the person for whom it is fixed, if it is.
+    pub(crate) fn person(&self) -> Option<usize>
+        ensures { (k : ℕ) → is_of_person k self.now ≡ is_at k result }
+    {
+        match self.holder {
+            Holder::Pairing(_) => None,
+            Holder::Person(k) => Some(k),
+        }
     }
 }

@@ -1,5 +1,9 @@
 //! Leaves.
 
+ghost use Rattle.std.specs.Prelude.{◌≡◌, ℕ};
+ghost use Rattle.roster_model.specs.records.Leave.{is_leave_of};
+ghost use Rattle.roster_problem.specs.Duties.{is_at};
+
 use roster_instants::Minute;
 use std::marker::Model;
 
@@ -23,4 +27,13 @@ impl Model for Leave {
     ghost view = { λ l. record { person = l.person; from = l.from; to = l.to } };
 
     ghost invariant = { λ l. l.from < l.to };
+}
+
+impl Leave {
+    /// The place of the person, which each leave has.
+    pub(crate) fn place(&self) -> Option<usize>
+        ensures { (k : ℕ) → is_leave_of k self.now ≡ is_at k result }
+    {
+        Some(self.person)
+    }
 }

@@ -1,19 +1,15 @@
 //! What is to be rostered.
 
-ghost use Rattle.std.specs.Prelude.{◌≡◌, ◌<◌, ◌≤◌, ℕ, false, IfOk, Some, All, filter, length, slice_get};
-ghost use Rattle.std.specs.List.Sorted.{IsStrictlyIncreasing};
-ghost use Rattle.std.specs.Option.{option_map_or};
+ghost use Rattle.std.specs.Prelude.{◌≡◌, ◌<◌, ◌≤◌, IfOk, Some, length, slice_get};
 ghost use Rattle.roster_model.specs.Faults.{IsFaultless};
-ghost use Rattle.roster_model.specs.Problem.{home_of, in_order, leaves_of};
-ghost use Rattle.roster_model.specs.Rules.{is_among};
-ghost use Rattle.roster_model.specs.records.Duty.{is_held_by_pairing};
+ghost use Rattle.roster_model.specs.Problem.{home_of, in_order};
 ghost use Rattle.roster_model.specs.records.Leave.{is_leave_of};
-ghost use Rattle.roster_problem.specs.Duties.{AreTimed, IsInOrder, passes_at, picked, positions_of_pairing, positions_where};
+ghost use Rattle.roster_problem.specs.Duties.{ArePositionsOf, AreTimed, IsInOrder, is_of_pairing, is_of_person};
 ghost use Rattle.roster_problem.specs.Sound.{IsSound};
 
 use crate::base::Base;
 use crate::duty::Duty;
-use crate::index::{Lists, by_pairing, by_person};
+use crate::index::{Lists, by_place};
 use crate::leave::Leave;
 use crate::order::in_order;
 use crate::pairing::Pairing;
@@ -36,6 +32,7 @@ pub struct Problem {
     leaves: Vec<Leave>,
     by_pairing: Lists,
     by_person: Lists,
+    on_leave: Lists,
 }
 
 impl Model for Problem {
@@ -50,7 +47,7 @@ impl Model for Problem {
         p.duties.items p.leaves.items };
 
     ghost invariant = { λ p. IsKept (tables_of p.period p.bases.items p.persons.items
-        p.pairings.items p.duties.items p.leaves.items) p.by_pairing p.by_person };
+        p.pairings.items p.duties.items p.leaves.items) p.by_pairing p.by_person p.on_leave };
 }
 
 impl Problem {
@@ -74,8 +71,9 @@ impl Problem {
             pairings.items (in_order duties.items) leaves.items) }
     {
         let duties = in_order(alloc, duties)?;
-        let by_pairing = by_pairing(alloc, pairings.len(), &duties)?;
-        let by_person = by_person(alloc, persons.len(), &leaves)?;
+        let by_pairing = by_place(alloc, pairings.len(), &duties, Duty::pairing)?;
+        let by_person = by_place(alloc, persons.len(), &duties, Duty::person)?;
+        let on_leave = by_place(alloc, persons.len(), &leaves, Leave::place)?;
         Ok(Problem {
             period,
             bases,
@@ -85,6 +83,7 @@ impl Problem {
             leaves,
             by_pairing,
             by_person,
+            on_leave,
         })
     }
 
@@ -136,28 +135,29 @@ impl Problem {
     /// looks at no other duty.
     pub fn duties_of(&self, p: usize) -> &[u16]
         requires { p < length self.now.pairings }
-        ensures value { result.now ≡ positions_of_pairing p self.now.duties }
-        ensures duties { picked self.now.duties result.now
-            ≡ filter (λ duty. is_held_by_pairing p duty.holder) self.now.duties }
-        ensures ascending { IsStrictlyIncreasing result.now }
-        ensures members { (i : ℕ) → is_among result.now i
-            ≡ passes_at (λ duty. is_held_by_pairing p duty.holder) self.now.duties i }
-        ensures within { All (λ i. i < length self.now.duties) result.now }
+        ensures positions { ArePositionsOf (is_of_pairing p) self.now.duties result.now }
         ensures bound { length result.now ≤ MOST_DUTIES }
     {
         self.by_pairing.list(p)
+    }
+
+    /// The positions in `duties` of the duties that are fixed for the person at place `k`, in
+    /// ascending order. It looks at no other duty.
+    pub fn fixed_of(&self, k: usize) -> &[u16]
+        requires { k < length self.now.persons }
+        ensures positions { ArePositionsOf (is_of_person k) self.now.duties result.now }
+        ensures bound { length result.now ≤ MOST_DUTIES }
+    {
+        self.by_person.list(k)
     }
 
     /// The positions in `leaves` of the leaves of the person at place `k`, in ascending order. It
     /// looks at no other leave.
     pub fn leaves_of(&self, k: usize) -> &[u16]
         requires { k < length self.now.persons }
-        ensures value { result.now ≡ positions_where (is_leave_of k) 0 self.now.leaves }
-        ensures leaves { picked self.now.leaves result.now ≡ leaves_of self.now k }
-        ensures ascending { IsStrictlyIncreasing result.now }
-        ensures within { All (λ i. i < length self.now.leaves) result.now }
+        ensures { ArePositionsOf (is_leave_of k) self.now.leaves result.now }
     {
-        self.by_person.list(k)
+        self.on_leave.list(k)
     }
 
     /// The person at place `k`.

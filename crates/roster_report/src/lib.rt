@@ -5,6 +5,7 @@
 //!
 //! - `report`: the report of a roster, written whole
 //! - `lines`: its lines
+//! - `locks`: what locks persons
 //! - `names`: the names of the pairings of one number
 //! - `words`: words and numbers behind one another
 //! - `fault_line`: the line of a fault, written whole
@@ -16,6 +17,7 @@ mod device;
 mod fault;
 mod fault_line;
 mod lines;
+mod locks;
 mod names;
 mod report;
 mod words;

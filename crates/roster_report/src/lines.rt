@@ -1,21 +1,23 @@
 //! The lines of a report.
 
-ghost use Rattle.std.specs.Prelude.{◌≡◌, ◌≤◌, ◌<◌, ◌∷◌, [], ◌++◌, Some, length, slice_get, string_bytes, codes, map, IfOk, OnOk};
+ghost use Rattle.std.specs.Prelude.{◌≡◌, ◌≤◌, ◌<◌, ◌∷◌, [], ◌++◌, Some, length, slice_get, string_bytes, codes, map, option_map, IfOk, OnOk};
 ghost use Rattle.std.specs.Fmt.{decimal, signed_decimal};
 ghost use Rattle.roster_model.specs.Problem.{home_of};
 ghost use Rattle.roster_model.specs.Rosters.{set_of, open_number};
 ghost use Rattle.roster_model.specs.Rules.{duty_list};
 ghost use Rattle.roster_model.specs.Texts as texts;
 ghost use Rattle.roster_model.specs.Texts.{line_of, names_of};
+ghost use Rattle.roster_problem.specs.View.{rule_of};
 ghost use Rattle.roster_report.specs.Words.{further};
 
+use crate::locks::push_lock;
 use crate::names::push_names;
 use crate::words::{end_line, push_number, push_signed, push_word};
 use roster_cumulative::greatest_duty;
 use roster_instants::{BaseDays, Period};
 use roster_legal::merge;
 use roster_model::limits::MOST_PAIRINGS;
-use roster_problem::{DutyList, Person, Problem, Set};
+use roster_problem::{DutyList, Person, Problem, Rule, Set};
 use std::alloc::{AllocError, Global};
 
 /// The month as `YYYY-MM`.
@@ -122,20 +124,23 @@ fn push_crew(
     end_line(out)
 }
 
-/// Appends the lines of all persons, in book order.
+/// Appends the lines of all persons, in book order, each with what locks them.
 #[tactic(auto, unfolding(roster_model::specs::Texts::crew_lines))]
 pub(crate) fn push_crews(
     alloc: Global,
     out: &mut Vec<u8>,
     problem: &Problem,
+    locks: &[Option<Rule>],
     places: &[u16],
 ) -> Result<(), AllocError>
-    requires { length places.now ≡ length problem.now.pairings }
-    ensures { OnOk result
-        (out.new.items ≡ out.old.items ++ texts.crew_lines problem.now places.now) }
+    requires covers { length places.now ≡ length problem.now.pairings }
+    requires locks { length locks.now ≡ length problem.now.persons }
+    ensures { OnOk result (out.new.items ≡ out.old.items
+        ++ texts.crew_lines problem.now (map (option_map rule_of) locks.now) places.now) }
 {
     for (k, person) in problem.persons().iter().enumerate() {
         push_crew(alloc, out, problem, places, k, person)?;
+        push_lock(out, person, locks[k])?;
     }
     Ok(())
 }

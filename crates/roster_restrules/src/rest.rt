@@ -43,6 +43,7 @@ fn is_of_pairing(duty: &Duty) -> bool
 {
     match duty.holder {
         Holder::Pairing(_) => true,
+        Holder::Person(_) => false,
     }
 }
 

@@ -1,11 +1,18 @@
-//! `duty,ID,P,PAIRING,STATION,REPORT,RELEASE`: a duty of a pairing.
+//! `duty,ID,P,PAIRING,STATION,REPORT,RELEASE`: a duty of a pairing; with C and a person in place of P
+//! and the pairing, a duty that is fixed for the person.
 
-ghost use Rattle.std.specs.Prelude.{◌≡◌, ◌<◌, [], List, Some, true, false, IfOk, MatchOption, option_map};
+ghost use Rattle.std.specs.Prelude.{◌≡◌, ◌<◌, ◌||◌, [], List, Some, true, false, IfOk, IfSome, IsOk, MatchOption, codes, length, option_map};
+ghost use Rattle.std.specs.Str.{bytes_eq};
 ghost use Rattle.csv.specs.Records.{fields_of};
 ghost use Rattle.roster_model.specs.Record.{Record, Command, DutyRecord, minute_of};
+ghost use Rattle.roster_model.specs.Code.{first_unmet};
+ghost use Rattle.roster_model.specs.Problem.{tables_in};
+ghost use Rattle.roster_model.specs.Busy.{is_busy};
 ghost use Rattle.roster_model.specs.Faults.{code_of_kind};
 ghost use Rattle.roster_model.specs.records.Duty.{id_in, station_in, report_in, release_in, is_formed, duty_of};
 ghost use Rattle.roster_model.specs.records.Duty as model;
+ghost use Rattle.roster_problem.specs.Sound.{IsHolder};
+ghost use Rattle.roster_problem.specs.View.{holder_of};
 ghost use Rattle.roster_book.specs.Draft.{HasRecords, IsDraftOf, Judges, tables_of_draft};
 
 use crate::code::Code;
@@ -27,6 +34,13 @@ struct Form {
     release: Minute,
 }
 
+// Whether it is the letter of a pairing's duties, or that of persons'.
+fn is_letter(letter: &[u8]) -> bool
+    ensures { result ≡ (bytes_eq letter.now (codes "P") || bytes_eq letter.now (codes "C")) }
+{
+    letter == b"P".as_slice() || letter == b"C".as_slice()
+}
+
 fn formed(fields: &ByteRecord) -> Option<Form>
     ensures { MatchOption result (is_formed (fields_of fields.now) ≡ false) (λ f.
         (is_formed (fields_of fields.now) ≡ true)
@@ -35,7 +49,7 @@ fn formed(fields: &ByteRecord) -> Option<Form>
         × (f.release ≡ minute_of (release_in (fields_of fields.now)))) }
 {
     let id = Name::new(field(fields, 1))?;
-    if field(fields, 2) != b"P".as_slice() || !is_identifier(field(fields, 3)) {
+    if !is_letter(field(fields, 2)) || !is_identifier(field(fields, 3)) {
         return None;
     }
     Some(Form {
@@ -72,8 +86,92 @@ fn starts_well(last: Option<&Duty>, base: &Base, station: &Name, report: Minute)
 }
 
 impl Draft {
+    // Whose duty a record of one tells, if that was given before.
+    fn holder_in(&self, fields: &ByteRecord) -> Option<Holder>
+        ensures told { (before : List Record) → tables_of_draft self.now ≡ tables_in before
+            → option_map holder_of result ≡ model.holder_in before (fields_of fields.now) }
+        ensures known { IfSome result (λ holder. IsHolder (length self.now.pairings.items)
+            (length self.now.persons.items) (holder_of holder)) }
+    {
+        let name = field(fields, 3);
+        if field(fields, 2) == b"P".as_slice() {
+            Some(Holder::Pairing(self.pairing_place(name)?))
+        } else {
+            Some(Holder::Person(self.person_place(name)?))
+        }
+    }
+
+    // What is wrong with it as a duty of the pairing at the place.
+    #[tactic(auto, using(crate::proofs::SectorTable::flown_in_sequence, crate::proofs::SectorTable::flown_starts_well, crate::proofs::SectorTable::flown_count))]
+    fn judge_of_pairing(&self, p: usize, duty: &Form) -> Result<(), Code>
+        requires known { p < length self.now.pairings.items }
+        requires records { HasRecords (tables_of_draft self.now) }
+        ensures told { (before : List Record) → tables_of_draft self.now ≡ tables_in before
+            → Judges (first_unmet (model.conditions_of_pairing before p duty.now.station
+            duty.now.report duty.now.release)) tt result }
+        ensures order { IsOk result → duty.now.report < duty.now.release }
+    {
+        let last = self.last_duty(p);
+        if !is_in_sequence(last, duty.report, duty.release) {
+            return Err(Code::OutOfSequence);
+        }
+        let base = self.base_of(p);
+        if !is_in_window(&base.days, duty.report, duty.release) {
+            return Err(Code::OutOfWindow);
+        }
+        if self.duties.as_slice().len() >= MOST_DUTIES {
+            return Err(Code::NoRoom);
+        }
+        if !starts_well(last, base, &duty.station, duty.report) {
+            return Err(Code::WrongStart);
+        }
+        Ok(())
+    }
+
+    // What is wrong with it as a fixed duty of the person at the place.
+    #[tactic(auto, using(crate::proofs::SectorTable::flown_count))]
+    fn judge_of_person(&self, k: usize, duty: &Form) -> Result<(), Code>
+        requires known { k < length self.now.persons.items }
+        requires records { HasRecords (tables_of_draft self.now) }
+        ensures told { (before : List Record) → tables_of_draft self.now ≡ tables_in before
+            → Judges (first_unmet (model.conditions_of_person (is_busy (tables_in before)) before k
+            duty.now.report duty.now.release)) tt result }
+        ensures order { IsOk result → duty.now.report < duty.now.release }
+    {
+        if duty.report >= duty.release {
+            return Err(Code::OutOfSequence);
+        }
+        if !is_in_window(&self.home_of(k).days, duty.report, duty.release) {
+            return Err(Code::OutOfWindow);
+        }
+        if self.duties.as_slice().len() >= MOST_DUTIES {
+            return Err(Code::NoRoom);
+        }
+        if self.is_busy(k, duty.report, duty.release) {
+            return Err(Code::Busy);
+        }
+        Ok(())
+    }
+
+    // What is wrong with it as a duty of the holder.
+    fn judge_held(&self, holder: Holder, duty: &Form) -> Result<(), Code>
+        requires known { IsHolder (length self.now.pairings.items)
+            (length self.now.persons.items) (holder_of holder) }
+        requires records { HasRecords (tables_of_draft self.now) }
+        ensures told { (before : List Record) → tables_of_draft self.now ≡ tables_in before
+            → Judges (first_unmet (model.conditions_held (is_busy (tables_in before)) before
+            (Some (holder_of holder)) duty.now.station duty.now.report duty.now.release))
+            tt result }
+        ensures order { IsOk result → duty.now.report < duty.now.release }
+    {
+        match holder {
+            Holder::Pairing(p) => self.judge_of_pairing(p, duty),
+            Holder::Person(k) => self.judge_of_person(k, duty),
+        }
+    }
+
     /// The duty that a record of one gives, or what is wrong with it.
-    #[tactic(auto, using(crate::proofs::SectorTable::flown_position, crate::proofs::SectorTable::flown_in_sequence, crate::proofs::SectorTable::flown_starts_well, crate::proofs::SectorTable::flown_count), unfolding(roster_model::specs::Faults::code_of_kind, roster_model::specs::records::Duty::duty_of))]
+    #[tactic(auto, using(crate::proofs::SectorTable::flown_position), unfolding(roster_model::specs::Faults::code_of_kind, roster_model::specs::records::Duty::duty_of))]
     pub(crate) fn judge_duty(
         &self,
         alloc: Global,
@@ -96,26 +194,15 @@ impl Draft {
         if self.duty_place(field(fields, 1)).is_some() {
             return Err(Code::GivenTwice);
         }
-        let Some(pairing) = self.pairing_place(field(fields, 3)) else {
+        let Some(holder) = self.holder_in(fields) else {
             return Err(Code::NotGiven);
         };
-        let last = self.last_duty(pairing);
-        if !is_in_sequence(last, duty.report, duty.release) {
-            return Err(Code::OutOfSequence);
-        }
-        let base = self.base_of(pairing);
-        if !is_in_window(&base.days, duty.report, duty.release) {
-            return Err(Code::OutOfWindow);
-        }
-        if self.duties.as_slice().len() >= MOST_DUTIES {
-            return Err(Code::NoRoom);
-        }
-        if !starts_well(last, base, &duty.station, duty.report) {
-            return Err(Code::WrongStart);
+        if let Err(code) = self.judge_held(holder, &duty) {
+            return Err(code);
         }
         Ok(Duty {
             id: duty.id,
-            holder: Holder::Pairing(pairing),
+            holder,
             station: duty.station,
             report: duty.report,
             release: duty.release,

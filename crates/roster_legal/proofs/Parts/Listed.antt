@@ -3,7 +3,7 @@ use Rattle.std.proofs.Common.{◌≡◌, ℕ, Bool, true, false, cond, List, [],
 use Rattle.std.specs.Prelude.{filter}
 use Rattle.std.proofs.lemmas.Bool.{cases_Bool, cond-true, cond-false, both_ways, false_from_ne_true}
 use Rattle.roster_model.specs.Problem.{Problem}
-use Rattle.roster_model.specs.records.Duty.{Holder, OfPairing}
+use Rattle.roster_model.specs.records.Duty.{Duty, Holder, OfPairing, OfPerson}
 use Rattle.roster_model.specs.Rules.{duty_list, is_among, is_listed}
 
 -- what passes p passes q
@@ -20,9 +20,10 @@ filter-filter p q more (x ∷ xs) =
 abbrev pub IsPart : List ℕ → List ℕ → Type 0
 IsPart part set = (p : ℕ) → is_among part p ≡ true → is_among set p ≡ true
 
-is_listed-part : (set part : List ℕ) → IsPart part set → (holder : Holder) → is_listed part holder ≡ true → is_listed set holder ≡ true
-is_listed-part set part more (OfPairing p) h = more p h
+is_listed-part : (k : ℕ) (set part : List ℕ) → IsPart part set → (holder : Holder) → is_listed k part holder ≡ true → is_listed k set holder ≡ true
+is_listed-part k set part more (OfPairing p) h = more p h
+is_listed-part k set part more (OfPerson j) h = h
 
-pub shorter : (problem : Problem) (k : ℕ) (set part : List ℕ) → IsPart part set → filter (λ duty. is_listed part duty.holder) (duty_list problem k set) ≡ duty_list problem k part
+pub shorter : (problem : Problem) (k : ℕ) (set part : List ℕ) → IsPart part set → filter (λ duty. is_listed k part duty.holder) (duty_list problem k set) ≡ duty_list problem k part
 shorter problem k set part more =
-    filter-filter (λ duty. is_listed part duty.holder) (λ duty. is_listed set duty.holder) (λ duty. is_listed-part set part more duty.holder) problem.duties
+    filter-filter (λ duty. is_listed k part duty.holder) (λ duty. is_listed k set duty.holder) (λ duty. is_listed-part k set part more duty.holder) problem.duties

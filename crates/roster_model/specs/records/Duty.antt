@@ -1,5 +1,6 @@
--- `duty,ID,P,PAIRING,STATION,REPORT,RELEASE`: a duty of a pairing.
-use Rattle.std.specs.Prelude.{ℕ, ◌+◌, Bool, true, false, not, ◌&&◌, ◌||◌, ◌==◌, List, [], ◌∷◌, length, Option, Some, None, is_some, option_map, nat_lt, nat_le, position, unwrap_or, slice_get, codes}
+-- `duty,ID,P,PAIRING,STATION,REPORT,RELEASE`: a duty of a pairing; with C and a person in place of P
+-- and the pairing, a duty that is fixed for the person.
+use Rattle.std.specs.Prelude.{ℕ, ◌+◌, Bool, true, false, not, ◌&&◌, ◌||◌, ◌==◌, if◌then◌else◌, List, [], ◌∷◌, length, Option, Some, None, is_some, option_map, nat_lt, nat_le, position, unwrap_or, slice_get, codes}
 use Rattle.std.specs.List.{filter, last_or}
 use Rattle.std.specs.Option.{option_map_or}
 use Rattle.std.specs.Str.{bytes_eq}
@@ -8,16 +9,23 @@ use Rattle.roster_model.specs.Form.{is_identifier}
 use Rattle.roster_model.specs.Calendar.{Days, instant_of}
 use Rattle.roster_model.specs.Window.{midnight, is_in_window}
 use Rattle.roster_model.specs.Record.{Record, DutyRecord, field, minute_of, next_row, table_of}
-use Rattle.roster_model.specs.Code.{Code, FieldCount, FieldForm, GivenTwice, NotGiven, OutOfSequence, OutOfWindow, NoRoom, WrongStart}
+use Rattle.roster_model.specs.Code.{Code, FieldCount, FieldForm, GivenTwice, NotGiven, OutOfSequence, OutOfWindow, NoRoom, WrongStart, Busy}
 use Rattle.roster_model.specs.records.Base.{Base, bases_in, base_at}
+use Rattle.roster_model.specs.records.Crew.{persons_in, person_place, home_at}
 use Rattle.roster_model.specs.records.Pairing.{pairings_in, pairing_place}
 
--- whose duty it is: that of a pairing, by its place
+-- whose duty it is: that of a pairing, or of a person for whom it is fixed, by its or their place
 pub data Holder : Type 0 where
   OfPairing : ℕ → Holder
+  OfPerson : ℕ → Holder
 
 abbrev pub is_held_by_pairing : ℕ → Holder → Bool
 is_held_by_pairing p (OfPairing q) = q == p
+is_held_by_pairing p (OfPerson k) = false
+
+abbrev pub is_held_by_person : ℕ → Holder → Bool
+is_held_by_person k (OfPairing p) = false
+is_held_by_person k (OfPerson j) = j == k
 
 -- A flight from off to on, both instants, that the person of its duty operates or is positioned by.
 pub record Sector : Type 0 where
@@ -58,9 +66,12 @@ release_in fields = field fields 6
 
 -- ---- what a record of a duty adds: the records of its sectors come after it
 
--- its holder, if that was given before
+-- its holder, if that was given before: the letter says among which names it is looked up
 abbrev pub holder_in : List Record → Record → Option Holder
-holder_in before fields = option_map OfPairing (pairing_place before (holder_name_in fields))
+holder_in before fields =
+    if bytes_eq (letter_in fields) (codes "P")
+    then option_map OfPairing (pairing_place before (holder_name_in fields))
+    else option_map OfPerson (person_place before (holder_name_in fields))
 
 unfoldable pub duty_of : List Record → Record → Duty
 duty_of before fields = record {
@@ -91,18 +102,15 @@ last_duty duties p = last_or None (filter (λ duty. is_held_by_pairing p duty.ho
 
 abbrev pub is_formed : Record → Bool
 is_formed fields =
-    is_identifier (id_in fields) && bytes_eq (letter_in fields) (codes "P")
+    is_identifier (id_in fields)
+    && (bytes_eq (letter_in fields) (codes "P") || bytes_eq (letter_in fields) (codes "C"))
     && is_identifier (holder_name_in fields) && is_identifier (station_in fields)
     && is_some (instant_of (report_in fields)) && is_some (instant_of (release_in fields))
 
--- the base by whose clocks it is judged
-abbrev pub base_of_holder : List Record → Holder → Base
-base_of_holder before (OfPairing p) =
+-- the base by whose clocks a duty of the pairing at place p is judged
+abbrev pub base_of_pairing : List Record → ℕ → Base
+base_of_pairing before p =
     base_at (bases_in before) (unwrap_or (option_map (λ pairing. pairing.base) (slice_get (pairings_in before) p)) 0)
-
--- the last given duty of the holder, where duties have to follow each other
-abbrev pub last_of : List Record → Holder → Option Duty
-last_of before (OfPairing p) = last_duty (duties_in before) p
 
 -- it is released after it reports, no earlier than the last duty was released
 abbrev pub is_in_sequence : Option Duty → ℕ → ℕ → Bool
@@ -118,20 +126,37 @@ abbrev pub starts_well : Option Duty → Base → List ℕ → ℕ → Bool
 starts_well last base station report =
     is_some last || bytes_eq station base.id && is_in_month base.days report
 
--- what it has to meet besides, as the duty of a holder that was given before, or of none
-abbrev pub conditions_held : List Record → Option Holder → List ℕ → ℕ → ℕ → List (Code × Bool)
-conditions_held before None station report release = (NotGiven, false) ∷ []
-conditions_held before (Some holder) station report release =
-    (OutOfSequence, is_in_sequence (last_of before holder) report release)
-    ∷ (OutOfWindow, is_in_window (base_of_holder before holder).days report release)
+-- what a duty has to meet besides, as one of the pairing at place p
+abbrev pub conditions_of_pairing : List Record → ℕ → List ℕ → ℕ → ℕ → List (Code × Bool)
+conditions_of_pairing before p station report release =
+    (OutOfSequence, is_in_sequence (last_duty (duties_in before) p) report release)
+    ∷ (OutOfWindow, is_in_window (base_of_pairing before p).days report release)
     ∷ (NoRoom, nat_lt (length (duties_in before)) MOST_DUTIES)
-    ∷ (WrongStart, starts_well (last_of before holder) (base_of_holder before holder) station report)
+    ∷ (WrongStart, starts_well (last_duty (duties_in before) p) (base_of_pairing before p) station report)
     ∷ []
 
-abbrev pub conditions : List Record → Record → List (Code × Bool)
-conditions before fields =
+-- The same as a fixed duty of the person at place k: fixed duties may be given in any order. `is_busy`
+-- tells whether a person is busy in a minute between two instants, by the records before.
+abbrev pub conditions_of_person : (ℕ → ℕ → ℕ → Bool) → List Record → ℕ → ℕ → ℕ → List (Code × Bool)
+conditions_of_person is_busy before k report release =
+    (OutOfSequence, nat_lt report release)
+    ∷ (OutOfWindow, is_in_window (home_at (bases_in before) (persons_in before) k).days report release)
+    ∷ (NoRoom, nat_lt (length (duties_in before)) MOST_DUTIES)
+    ∷ (Busy, not (is_busy k report release))
+    ∷ []
+
+-- the same as the duty of a holder that was given before, or of none
+abbrev pub conditions_held : (ℕ → ℕ → ℕ → Bool) → List Record → Option Holder → List ℕ → ℕ → ℕ → List (Code × Bool)
+conditions_held is_busy before None station report release = (NotGiven, false) ∷ []
+conditions_held is_busy before (Some (OfPairing p)) station report release =
+    conditions_of_pairing before p station report release
+conditions_held is_busy before (Some (OfPerson k)) station report release =
+    conditions_of_person is_busy before k report release
+
+abbrev pub conditions : (ℕ → ℕ → ℕ → Bool) → List Record → Record → List (Code × Bool)
+conditions is_busy before fields =
     (FieldCount, length fields == 7)
     ∷ (FieldForm, is_formed fields)
     ∷ (GivenTwice, not (is_some (duty_place before (id_in fields))))
-    ∷ conditions_held before (holder_in before fields) (station_in fields)
+    ∷ conditions_held is_busy before (holder_in before fields) (station_in fields)
     (minute_of (report_in fields)) (minute_of (release_in fields))

@@ -17,7 +17,7 @@ returns-then-not-is_apart c = (
       let leaves = c.args.problem.now.leaves in
       let positions = c.leaves_of-place-items.result.now in
       let at = leave_at c.leaves-leaves.result.now leaves positions c.loop-place.place-index c.from.result c.index-leaves-from.result c.leaves-leaves.ensures.value c.leaves_of-place-items.ensures.within c.loop-place-test.true c.from.ensures c.index-leaves-from.is in
-      let all = All-at_picked P leaves positions (subst (All P) (sym c.leaves_of-place-items.ensures.leaves) off) in
+      let all = All-at_picked P leaves positions (subst (All P) (sym c.leaves_of-place-items.ensures.elements) off) in
       absurd (both_ways _ c.if-not-is_apart.true (c.is_apart.ensures.1 (all c.loop-place.place-index 0 c.loop-place-test.true c.index-leaves-from.result at))),
 )
 
@@ -36,4 +36,4 @@ returns c =
     let leaves = c.args.problem.now.leaves in
     let positions = c.leaves_of-place-items.result.now in
     let all = subst (All (HoldsAt P leaves)) (take_all c.loop-place.place-index positions c.loop-place-test.false) c.loop-place.invariant in
-    (λ _. subst (All P) c.leaves_of-place-items.ensures.leaves (All-picked P leaves positions all), λ _. refl)
+    (λ _. subst (All P) c.leaves_of-place-items.ensures.elements (All-picked P leaves positions all), λ _. refl)

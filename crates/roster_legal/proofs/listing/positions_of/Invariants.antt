@@ -7,11 +7,11 @@ use Rattle.roster_model.specs.Rules.{is_among, is_listed}
 use Rattle.roster_legal.proofs.Gathered.{places_before}
 use Rattle.roster_legal.proofs.listing.positions_of.Given as goal
 
--- the positions of the duties of the pairings so far, each once
+-- the positions of the fixed duties and of the duties of the pairings so far, each once
 abbrev pub invariant-loop-p : goal.invariant-loop-p
 invariant-loop-p l = record {
   distinct : IsDistinct eqb l.positions.items;
-  members : (i : ℕ) → is_among l.positions.items i ≡ option_map_or (λ duty. is_listed (places_before l.from l.set) duty.holder) (slice_get l.problem.duties i) false;
+  members : (i : ℕ) → is_among l.positions.items i ≡ option_map_or (λ duty. is_listed l.k (places_before l.from l.set) duty.holder) (slice_get l.problem.duties i) false;
 }
 
 abbrev pub decreases-loop-p : goal.decreases-loop-p

@@ -1,11 +1,14 @@
-use Rattle.std.proofs.Common.{ap, ◌∙◌, List, [], ◌∷◌, ℕ, ◌++◌, ℤ, codes, rules}
+use Rattle.std.proofs.Common.{ap, ◌∙◌, List, [], ◌∷◌, ℕ, ◌++◌, ℤ, codes, map, rules}
+use Rattle.std.specs.Prelude.{Option, option_map}
 use Rattle.std.specs.Int.{w64}
 use Rattle.std.proofs.lemmas.Int.{to_z-of_z}
 use Rattle.std.specs.Int.RustNames.{FitsSigned}
 use Rattle.std.specs.Fmt.{signed_decimal}
 use Rattle.roster_model.specs.Calendar.{Period}
 use Rattle.roster_model.specs.Rosters.{set_of, open_number}
+use Rattle.roster_model.specs.Rules.{Rule}
 use Rattle.roster_model.specs.Texts.{report_text, line_of, period_text, crew_lines, names_of}
+use Rattle.roster_problem.specs.View.{rule_of}
 use Rattle.roster_report.proofs.LineOf.{four-texts}
 use Rattle.roster_report.proofs.report.report.Goals as goal
 
@@ -16,6 +19,11 @@ returns c =
     let heading = c.in_ok-push_heading.ensures ∙ ap (λ (t : List ℕ). t ++ line_of (codes "ROSTER" ∷ period_text c.period.result ∷ [])) c.new-text.ensures.items ∙ ap (λ (p : Period). line_of (codes "ROSTER" ∷ period_text p ∷ [])) c.period.ensures in
     let fits : FitsSigned w64 c.args.roster.now.cost = search rules in
     let cost = c.in_ok-push_cost.ensures ∙ ap (λ (z : ℤ). c.push_heading.new.out.items ++ line_of (codes "COST" ∷ signed_decimal z ∷ [])) (to_z-of_z w64 c.args.roster.now.cost fits ∙ c.requires.cost) in
-    let crews = c.in_ok-push_crews.ensures ∙ ap (λ (places : List ℕ). c.push_cost.new.out.items ++ crew_lines problem places) c.as_slice-places.ensures in
+    let locks : List (Option Rule) = map (option_map rule_of) c.in_ok-locks.locks.items in
+    let crews = c.in_ok-push_crews.ensures ∙ ap (λ (places : List ℕ). c.push_cost.new.out.items ++ crew_lines problem (map (option_map rule_of) c.deref.result.now) places) c.as_slice-places.ensures ∙ ap (λ ls. c.push_cost.new.out.items ++ crew_lines problem (map (option_map rule_of) ls) c.args.roster.now.places) c.deref.ensures.value in
     let open_line = c.in_ok-push_open.ensures ∙ ap (λ (places : List ℕ). c.push_crews.new.out.items ++ line_of (codes "OPEN" ∷ names_of problem (set_of (open_number problem) places))) c.as_slice-places.ensures in
-    four-texts _ _ _ _ _ _ _ _ heading cost crews open_line
+    record {
+      locks = locks;
+      locked = c.in_ok-locks.ensures;
+      written = four-texts _ _ _ _ _ _ _ _ heading cost crews open_line;
+    }

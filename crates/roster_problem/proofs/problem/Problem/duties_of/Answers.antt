@@ -1,41 +1,22 @@
-use Rattle.std.proofs.Common.{◌≡◌, ℕ, ◌<◌, length, ap, subst, sym, ◌∙◌, arith, ◌≤◌}
-use Rattle.std.specs.Prelude.{All}
-use Rattle.std.specs.List.Sorted.{IsStrictlyIncreasing}
-use Rattle.roster_model.proofs.SetLemmas.{rising_from_Ascends}
-use Rattle.roster_problem.specs.Duties.{IsKept, is_of_pairing, positions_of_pairing}
-use Rattle.roster_problem.proofs.Indexes.{index_of}
-use Rattle.roster_problem.proofs.PositionLists.{length-positions_where, ascending_positions, positions_below, is_among-positions_where, picked-positions_where}
+use Rattle.std.proofs.Common.{◌<◌, ◌≤◌, length, subst, sym, arith}
+use Rattle.roster_model.specs.declared.limits.TheConstants.{MOST_DUTIES}
+use Rattle.roster_model.specs.Problem.{Problem}
+use Rattle.roster_problem.specs.Duties.{ArePositionsOf, is_of_pairing}
+use Rattle.roster_problem.specs.View.{tables_of}
+use Rattle.roster_problem.proofs.Indexes.{positions_of_place}
 use Rattle.roster_problem.proofs.problem.Problem.duties_of.Goals as goal
 
-listed : (c : goal.After-list) → c.list.result.now ≡ positions_of_pairing c.args.p c.args.self.now.duties
-listed c =
-    let kept : IsKept c.args.self.now c.self.inside.by_pairing c.self.inside.by_person = subst (λ problem. IsKept problem c.self.inside.by_pairing c.self.inside.by_person) c.self.view_is c.self.invariant in
-    index_of is_of_pairing (length c.args.self.now.pairings) c.args.p c.args.self.now.duties c.self.inside.by_pairing c.list.result.now kept.pairings c.requires c.list.ensures
+positions : (c : goal.After-list) → ArePositionsOf (is_of_pairing c.args.p) c.args.self.now.duties c.list.result.now
+positions c =
+    let tables : Problem = tables_of c.self.inside.period c.self.inside.bases.items c.self.inside.persons.items c.self.inside.pairings.items c.self.inside.duties.items c.self.inside.leaves.items in
+    let within = subst (λ (problem : Problem). c.args.p < length problem.pairings) (sym c.self.view_is) c.requires in
+    subst (λ (problem : Problem). ArePositionsOf (is_of_pairing c.args.p) problem.duties c.list.result.now) c.self.view_is
+    (positions_of_place is_of_pairing (length tables.pairings) c.args.p tables.duties c.self.inside.by_pairing c.list.result.now c.self.invariant.of_pairings within c.list.ensures)
 
-pub returns-clause-value : goal.returns-clause-value
-returns-clause-value c = listed c
-
-pub returns-clause-duties : goal.returns-clause-duties
-returns-clause-duties c =
-    rw (listed c) (picked-positions_where (is_of_pairing c.args.p) c.args.self.now.duties)
-
-pub returns-clause-ascending : goal.returns-clause-ascending
-returns-clause-ascending c =
-    subst IsStrictlyIncreasing (sym (listed c)) (rising_from_Ascends _ (ascending_positions (is_of_pairing c.args.p) 0 c.args.self.now.duties).1)
-
-pub returns-clause-members : goal.returns-clause-members
-returns-clause-members c i =
-    rw (listed c) (is_among-positions_where (is_of_pairing c.args.p) c.args.self.now.duties i)
-
-pub returns-clause-within : goal.returns-clause-within
-returns-clause-within c =
-    let n : ℕ = length c.args.self.now.duties in
-    subst (All (λ i. i < n)) (sym (listed c)) (positions_below (is_of_pairing c.args.p) 0 n c.args.self.now.duties (omega arith))
+pub returns-clause-positions : goal.returns-clause-positions
+returns-clause-positions c = positions c
 
 pub returns-clause-bound : goal.returns-clause-bound
 returns-clause-bound c =
-    let kept : IsKept c.args.self.now c.self.inside.by_pairing c.self.inside.by_person = subst (λ problem. IsKept problem c.self.inside.by_pairing c.self.inside.by_person) c.self.view_is c.self.invariant in
-    let all = kept.sound.duties in
-    let some = length-positions_where (is_of_pairing c.args.p) 0 c.args.self.now.duties in
-    let long = ap length (listed c) in
-    omega arith
+    let few = subst (λ (problem : Problem). length problem.duties ≤ MOST_DUTIES) c.self.view_is c.self.invariant.sound.duties in
+    omega (arith, (positions c).bound)

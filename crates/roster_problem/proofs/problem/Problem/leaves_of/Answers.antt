@@ -1,29 +1,14 @@
-use Rattle.std.proofs.Common.{◌≡◌, ℕ, ◌<◌, length, subst, sym, arith}
-use Rattle.std.specs.Prelude.{All}
-use Rattle.std.specs.List.Sorted.{IsStrictlyIncreasing}
+use Rattle.std.proofs.Common.{◌<◌, length, subst, sym}
+use Rattle.roster_model.specs.Problem.{Problem}
 use Rattle.roster_model.specs.records.Leave.{is_leave_of}
-use Rattle.roster_model.proofs.SetLemmas.{rising_from_Ascends}
-use Rattle.roster_problem.specs.Duties.{IsKept, positions_where}
-use Rattle.roster_problem.proofs.Indexes.{index_of}
-use Rattle.roster_problem.proofs.PositionLists.{ascending_positions, positions_below, picked-positions_where}
+use Rattle.roster_problem.specs.Duties.{ArePositionsOf}
+use Rattle.roster_problem.specs.View.{tables_of}
+use Rattle.roster_problem.proofs.Indexes.{positions_of_place}
 use Rattle.roster_problem.proofs.problem.Problem.leaves_of.Goals as goal
 
-listed : (c : goal.After-list) → c.list.result.now ≡ positions_where (is_leave_of c.args.k) 0 c.args.self.now.leaves
-listed c =
-    let kept : IsKept c.args.self.now c.self.inside.by_pairing c.self.inside.by_person = subst (λ problem. IsKept problem c.self.inside.by_pairing c.self.inside.by_person) c.self.view_is c.self.invariant in
-    index_of is_leave_of (length c.args.self.now.persons) c.args.k c.args.self.now.leaves c.self.inside.by_person c.list.result.now kept.persons c.requires c.list.ensures
-
-pub returns-clause-value : goal.returns-clause-value
-returns-clause-value c = listed c
-
-pub returns-clause-leaves : goal.returns-clause-leaves
-returns-clause-leaves c = rw (listed c) (picked-positions_where (is_leave_of c.args.k) c.args.self.now.leaves)
-
-pub returns-clause-ascending : goal.returns-clause-ascending
-returns-clause-ascending c =
-    subst IsStrictlyIncreasing (sym (listed c)) (rising_from_Ascends _ (ascending_positions (is_leave_of c.args.k) 0 c.args.self.now.leaves).1)
-
-pub returns-clause-within : goal.returns-clause-within
-returns-clause-within c =
-    let n : ℕ = length c.args.self.now.leaves in
-    subst (All (λ i. i < n)) (sym (listed c)) (positions_below (is_leave_of c.args.k) 0 n c.args.self.now.leaves (omega arith))
+pub returns : goal.returns
+returns c =
+    let tables : Problem = tables_of c.self.inside.period c.self.inside.bases.items c.self.inside.persons.items c.self.inside.pairings.items c.self.inside.duties.items c.self.inside.leaves.items in
+    let within = subst (λ (problem : Problem). c.args.k < length problem.persons) (sym c.self.view_is) c.requires in
+    subst (λ (problem : Problem). ArePositionsOf (is_leave_of c.args.k) problem.leaves c.list.result.now) c.self.view_is
+    (positions_of_place is_leave_of (length tables.persons) c.args.k tables.leaves c.self.inside.on_leave c.list.result.now c.self.invariant.leaves within c.list.ensures)

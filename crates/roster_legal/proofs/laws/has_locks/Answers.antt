@@ -1,0 +1,5 @@
+use Rattle.roster_legal.proofs.Locks.{AreLocks-exist}
+use Rattle.roster_legal.proofs.laws.has_locks.Goals as goal
+
+pub returns : goal.returns
+returns c = AreLocks-exist

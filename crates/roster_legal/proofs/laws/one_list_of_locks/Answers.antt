@@ -1,0 +1,5 @@
+use Rattle.roster_legal.proofs.Locks.{AreLocks-one}
+use Rattle.roster_legal.proofs.laws.one_list_of_locks.Goals as goal
+
+pub returns : goal.returns
+returns c = AreLocks-one
