@@ -1,11 +1,14 @@
--- Runs of days, from one to the next.
+-- Runs of days, from one to the next, and limits of them.
 use Rattle.std.proofs.Common.{◌≡◌, ℕ, zero, suc, ◌+◌, ◌-◌, ◌*◌, ◌≤◌, List, [], ◌∷◌, length, get_or, map, max, refl, sym, ap, ◌∙◌, arith}
 use Rattle.std.specs.Prelude.{All}
 use Rattle.std.specs.List.{range_with_len, fold, sum_by}
+use Rattle.std.proofs.lemmas.List.Elements.{All-head, All-tail, All-nil, All-cons}
 use Rattle.std.proofs.lemmas.List.FromFn.{map-range_with_len_more, length-range_with_len}
 use Rattle.std.proofs.lemmas.List.Sums.{sum_by-cons, sum_by-le, sum_by-le-sum_by, fold_push}
 use Rattle.roster_model.specs.Calendar.{Days}
-use Rattle.roster_model.specs.Sums.{in_run, greatest_run, judged_days}
+use Rattle.roster_model.specs.Rules.Limits.{KeepsLimit}
+use Rattle.roster_model.specs.Sums.{in_month, in_run, greatest_run, judged_days}
+use Rattle.roster_model.proofs.LimitLemmas.{KeepsLimit-lighter, in_month-lighter}
 
 -- the sum over some days in a row, and one day more
 pub sum_by-range_more : (f : ℕ → ℕ) (first n last : ℕ) → first + n ≡ last → sum_by f (range_with_len first (suc n)) ≡ sum_by f (range_with_len first n) + f last
@@ -48,3 +51,35 @@ in_run-agree f g same n last =
 pub greatest_run-agree : (f g : ℕ → ℕ) → ((i : ℕ) → f i ≡ g i) → (days : Days) (n : ℕ) → greatest_run f days n ≡ greatest_run g days n
 greatest_run-agree f g same days n =
     ap (λ (xs : List ℕ). fold max 0 xs) (map-agree (in_run f n) (in_run g n) (in_run-agree f g same n) (judged_days days))
+
+-- ---- the most of some numbers
+
+most-within : (h : ℕ → ℕ) (a m : ℕ) (xs : List ℕ) → a ≤ m → All (λ x. h x ≤ m) xs → fold max a (map h xs) ≤ m
+most-within h a m [] first all = first
+most-within h a m (x ∷ xs) first all =
+    let here = All-head (λ x. h x ≤ m) x xs all in
+    most-within h (max a (h x)) m xs (omega arith) (All-tail (λ x. h x ≤ m) x xs all)
+
+most-bounds : (h : ℕ → ℕ) (a m : ℕ) (xs : List ℕ) → fold max a (map h xs) ≤ m → (a ≤ m) × All (λ x. h x ≤ m) xs
+most-bounds h a m [] most = (most, All-nil (λ x. h x ≤ m))
+most-bounds h a m (x ∷ xs) most =
+    let rest = most-bounds h (max a (h x)) m xs most in
+    let both = rest.0 in
+    (omega arith, All-cons (λ x. h x ≤ m) x xs (omega arith) rest.1)
+
+pub greatest-within : (f : ℕ → ℕ) (days : Days) (n most : ℕ) → KeepsLimit f days n most → greatest_run f days n ≤ most
+greatest-within f days n most keeps = most-within (in_run f n) 0 most (judged_days days) (omega arith) keeps
+
+pub greatest-bounds : (f : ℕ → ℕ) (days : Days) (n most : ℕ) → greatest_run f days n ≤ most → KeepsLimit f days n most
+greatest-bounds f days n most within = (most-bounds (in_run f n) 0 most (judged_days days) within).1
+
+-- ---- where each day has the same
+
+pub KeepsLimit-agree : (f g : ℕ → ℕ) → ((i : ℕ) → f i ≡ g i) → (days : Days) (n most : ℕ) → KeepsLimit f days n most → KeepsLimit g days n most
+KeepsLimit-agree f g same days n most keeps = KeepsLimit-lighter g f (λ i. omega (arith, same i)) days n most keeps
+
+pub in_month-agree : (f g : ℕ → ℕ) → ((i : ℕ) → f i ≡ g i) → (days : Days) → in_month f days ≡ in_month g days
+in_month-agree f g same days =
+    let less = in_month-lighter f g (λ i. omega (arith, same i)) days in
+    let more = in_month-lighter g f (λ i. omega (arith, same i)) days in
+    omega (arith, less, more)

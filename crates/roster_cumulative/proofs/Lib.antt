@@ -1,2 +1,4 @@
 pub mod OnDay
 pub mod InRun
+pub mod Flown
+pub mod KeptLimits

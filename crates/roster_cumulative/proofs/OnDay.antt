@@ -1,7 +1,8 @@
 -- Which days of a window share minutes with the time from one instant to another.
-use Rattle.std.proofs.Common.{◌≡◌, ℕ, ◌+◌, ◌<◌, ◌≤◌, pos, ◌<ℤ◌, true, Ordering, Less, Equal, Greater, is_le, int_cmp, length, get_or, Option, Some, None, inl, inr, arith}
+use Rattle.std.proofs.Common.{◌≡◌, ℕ, zero, suc, ◌+◌, ◌<◌, ◌≤◌, pos, ◌<ℤ◌, true, Ordering, Less, Equal, Greater, is_le, int_cmp, length, get_or, Option, Some, None, refl, inl, inr, arith}
 use Rattle.std.specs.Prelude.{slice_get, unwrap_or, MatchOption}
 use Rattle.std.specs.Cmp.{int_ranks}
+use Rattle.std.proofs.Math.ListN.{replicate}
 use Rattle.std.specs.Ordering.{MatchOrdering}
 use Rattle.std.proofs.lemmas.Bool.{cases_lt, false≢true}
 use Rattle.std.proofs.lemmas.List.{get_or_past}
@@ -12,6 +13,12 @@ use Rattle.roster_model.proofs.WindowLemmas.{mid-rises}
 -- what the time from `from` to `to` shares with day j; days that the window lacks are empty
 abbrev pub shares : Days → ℕ → ℕ → ℕ → ℕ
 shares days from to j = common from to (get_or days.mid j 0) (get_or days.mid (j + 1) 0)
+
+-- a table in which nothing is counted so far
+pub zeros : (n i : ℕ) → get_or {A = ℕ} (replicate n 0) i 0 ≡ 0
+zeros zero i = refl
+zeros (suc n) zero = refl
+zeros (suc n) (suc i) = zeros n i
 
 over_before : (a b c d : ℕ) → d ≤ a → common a b c d ≡ 0
 over_before a b c d before = omega arith

@@ -1,10 +1,18 @@
--- How many minutes a day and a run of days may have.
+-- What is counted, and how many minutes a day and a run of days may have.
 use Rattle.std.specs.Prelude.{ℕ, ◌*◌, ◌≤◌, List, slice_index}
 use Rattle.roster_model.specs.declared.limits.TheConstants.{DAYS_BEFORE, MOST_DUTIES}
+use Rattle.roster_model.specs.records.Duty.{Duty}
+use Rattle.roster_model.specs.Sums.{duty_between, flight_between}
+use Rattle.roster_cumulative.specs.declared.table.Measure.{Measure}
+use Rattle.roster_cumulative.specs.declared.table.Measure.TheVariants as measures
 
--- No day has more minutes than as many duties as there may be.
-abbrev pub IsLight : List ℕ → Type 0
-IsLight table = (i : ℕ) → slice_index table i ≤ MOST_DUTIES * 5000000000
+abbrev pub minutes_of : Measure → Duty → ℕ → ℕ → ℕ
+minutes_of measures.Duty = duty_between
+minutes_of measures.Flight = flight_between
+
+-- No day has more minutes than so many duties.
+abbrev pub IsLight : ℕ → List ℕ → Type 0
+IsLight duties table = (i : ℕ) → slice_index table i ≤ duties * 5000000000
 
 -- so this is the most that days in a row have, as many as are judged
 abbrev pub most_in_run : ℕ

@@ -1,20 +1,25 @@
-//! The minutes of duty by local day, and in runs of days, after ORO.FTL.210 of Regulation (EU) No
-//! 83/2014.
+//! The minutes of duty and flight by local day, in runs of days, and in the month, and their limits,
+//! after ORO.FTL.210 of Regulation (EU) No 83/2014.
 //!
-//! `duty_on` is the duty of a list on a day, and `greatest_duty` the most duty of a judged run of
-//! days. Any list will do: its duties may overlap, and may lie outside the window. No call takes
-//! memory. In reading order:
+//! `duty_on` and `flight_on` are those of a list on a day, `greatest_duty` and `greatest_flight` the
+//! most of a judged run of days, and `month_flight` the flight in the month, of a list or, by
+//! `duty_flight`, of one duty. `cumulative_broken` tells the first limit that a list breaks. Any list
+//! will do: its duties may overlap, and may lie outside the window. No call takes memory. In reading
+//! order:
 //!
 //! - `table`: the minutes of each day of a window
-//! - `runs`: the most minutes of a judged run of days
-//! - `duty`: both for duty
+//! - `runs`: the minutes of days in a row
+//! - `sums`: both for duty and for flight
+//! - `limits`: the limits together
 #![tactic(auto)]
 
-mod duty;
+mod limits;
 mod runs;
+mod sums;
 mod table;
 
-pub use duty::{duty_on, greatest_duty};
+pub use limits::cumulative_broken;
+pub use sums::{duty_flight, duty_on, flight_on, greatest_duty, greatest_flight, month_flight};
 
 #[cfg(test)]
 mod tests;

@@ -1,4 +1,4 @@
-//! The most minutes of a judged run of days.
+//! The minutes of days in a row: of the judged runs, and of the month.
 
 ghost use Rattle.std.specs.Prelude.{◌≡◌, ◌-◌, ◌≤◌, slice_index};
 ghost use Rattle.std.specs.List.{range_with_len, sum_by};
@@ -6,14 +6,16 @@ ghost use Rattle.roster_model.specs.Sums as sums;
 ghost use Rattle.roster_cumulative.specs.Table.{IsLight, most_in_run};
 
 use roster_instants::BaseDays;
-use roster_model::limits::{DAYS_BEFORE, MOST_DAYS};
+use roster_model::limits::{DAYS_BEFORE, MOST_DAYS, MOST_DUTIES};
 
 /// The minutes of the `n` days before day `end`.
 fn run_before(table: &[u64; MOST_DAYS], n: usize, end: usize) -> u64
     requires run { n ≤ end }
-    requires window { end ≤ DAYS_BEFORE }
-    requires light { IsLight table.now }
-    ensures { result ≡ sum_by (slice_index table.now) (range_with_len (end - n) n) }
+    requires least { n ≤ DAYS_BEFORE }
+    requires window { end ≤ MOST_DAYS }
+    requires light { IsLight MOST_DUTIES table.now }
+    ensures value { result ≡ sum_by (slice_index table.now) (range_with_len (end - n) n) }
+    ensures bound { result ≤ most_in_run }
 {
     let mut total = 0;
     for i in end - n..end {
@@ -22,11 +24,21 @@ fn run_before(table: &[u64; MOST_DAYS], n: usize, end: usize) -> u64
     total
 }
 
+/// The minutes of the days of the month.
+pub(crate) fn month_of(days: &BaseDays, table: &[u64; MOST_DAYS]) -> u64
+    requires { IsLight MOST_DUTIES table.now }
+    ensures value { result ≡ sums.in_month (slice_index table.now) days.now }
+    ensures bound { result ≤ most_in_run }
+{
+    let n = days.month_days();
+    run_before(table, n, DAYS_BEFORE + n)
+}
+
 /// The most minutes of a judged run of `n` days: one whose last day is of the month or after it.
 /// From one run to the next a day is added, and the first one dropped.
 pub(crate) fn greatest_run(days: &BaseDays, table: &[u64; MOST_DAYS], n: usize) -> u64
     requires run { n ≤ DAYS_BEFORE }
-    requires light { IsLight table.now }
+    requires light { IsLight MOST_DUTIES table.now }
     ensures value { result ≡ sums.greatest_run (slice_index table.now) days.now n }
     ensures bound { result ≤ most_in_run }
 {

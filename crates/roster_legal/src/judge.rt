@@ -1,7 +1,7 @@
 //! The rules together.
 
 ghost use Rattle.std.specs.Prelude.{◌≡◌, ◌<◌, ◌↔◌, IfOk, IsTrue, All, length, option_map};
-ghost use Rattle.roster_model.specs.Rules.{duty_list, Holds, IsFirstBroken, IsLegal, IsLock};
+ghost use Rattle.roster_model.specs.Rules.{duty_list, IsFirstBroken, IsLegal, IsLock};
 ghost use Rattle.roster_problem.specs.Duties.{AreTimed, IsInOrder};
 ghost use Rattle.roster_problem.specs.View.{rule_of};
 
@@ -9,27 +9,10 @@ use crate::base::keeps_base;
 use crate::leave::keeps_leave;
 use crate::listing::merge;
 use crate::overlap::no_overlap;
+use roster_cumulative::cumulative_broken;
 use roster_problem::{DutyList, Problem, Rule, Set};
 use roster_restrules::{recovery_ok, rest_ok};
 use std::alloc::{AllocError, Global};
-
-/// Whether person `k` keeps the rule with the set, whose duty list is `list`.
-fn holds(rule: Rule, problem: &Problem, k: usize, set: &Set, list: &DutyList) -> bool
-    requires person { k < length problem.now.persons }
-    requires places { All (λ p. p < length problem.now.pairings) set.now }
-    requires list { list.now ≡ duty_list problem.now k set.now }
-    requires ordered { IsInOrder list.now }
-    requires timed { AreTimed list.now }
-    ensures { IsTrue result ↔ Holds problem.now k set.now (rule_of rule) }
-{
-    match rule {
-        Rule::Base => keeps_base(problem, k, set),
-        Rule::Overlap => no_overlap(list),
-        Rule::Leave => keeps_leave(problem, k, list),
-        Rule::Rest => rest_ok(list, problem.home(k)),
-        Rule::Recovery => recovery_ok(problem.days_of(k), list),
-    }
-}
 
 /// The first rule that person `k` breaks with the set, whose duty list is `list`.
 fn first_broken_on(problem: &Problem, k: usize, set: &Set, list: &DutyList) -> Option<Rule>
@@ -40,12 +23,22 @@ fn first_broken_on(problem: &Problem, k: usize, set: &Set, list: &DutyList) -> O
     requires timed { AreTimed list.now }
     ensures { IsFirstBroken problem.now k set.now (option_map rule_of result) }
 {
-    for rule in Rule::ALL {
-        if !holds(rule, problem, k, set, list) {
-            return Some(rule);
-        }
+    if !keeps_base(problem, k, set) {
+        return Some(Rule::Base);
     }
-    None
+    if !no_overlap(list) {
+        return Some(Rule::Overlap);
+    }
+    if !keeps_leave(problem, k, list) {
+        return Some(Rule::Leave);
+    }
+    if !rest_ok(list, problem.home(k)) {
+        return Some(Rule::Rest);
+    }
+    if !recovery_ok(problem.days_of(k), list) {
+        return Some(Rule::Recovery);
+    }
+    cumulative_broken(problem.days_of(k), list, problem.person(k))
 }
 
 /// The first rule that person `k` breaks with the set, if there is one.

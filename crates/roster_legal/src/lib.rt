@@ -5,7 +5,8 @@
 //! fixed duties of the person and at the duties of the set alone. In reading order:
 //!
 //! - `listing`: the duty list of a person with a set
-//! - `base`, `overlap`, `leave`: a rule each; `roster_restrules` has the rules of rest
+//! - `base`, `overlap`, `leave`: a rule each; `roster_restrules` has the rules of rest, and
+//!   `roster_cumulative` the limits
 //! - `judge`: the rules together
 //! - `laws`: what follows from the definitions
 #![tactic(auto)]

@@ -2,3 +2,5 @@ pub mod OrderLemmas
 pub mod PlacesLemmas
 pub mod SetLemmas
 pub mod WindowLemmas
+pub mod LimitLemmas
+pub mod RuleLemmas

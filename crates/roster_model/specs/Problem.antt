@@ -64,6 +64,14 @@ home_of problem k = home_at problem.bases problem.persons k
 abbrev pub leaves_of : Problem → ℕ → List Leave
 leaves_of problem k = filter (is_leave_of k) problem.leaves
 
+-- The minutes that the person at place k has flown before the month: in its calendar year, and in the
+-- eleven calendar months before it.
+abbrev pub year_of : Problem → ℕ → ℕ
+year_of problem k = unwrap_or (option_map (λ person. person.year) (slice_get problem.persons k)) 0
+
+abbrev pub eleven_of : Problem → ℕ → ℕ
+eleven_of problem k = unwrap_or (option_map (λ person. person.eleven) (slice_get problem.persons k)) 0
+
 -- the name of the pairing at place p
 abbrev pub pairing_name : Problem → ℕ → List ℕ
 pairing_name problem p = unwrap_or (option_map (λ pairing. pairing.id) (slice_get problem.pairings p)) []

@@ -9,7 +9,7 @@ use Rattle.roster_model.specs.Problem.{Problem, home_of, pairing_name}
 use Rattle.roster_model.specs.Faults.{Fault}
 use Rattle.roster_model.specs.Rules.{Rule, AreLocks, duty_list, word_of_rule}
 use Rattle.roster_model.specs.Rosters.{set_of, open_number, cost_of}
-use Rattle.roster_model.specs.Sums.{greatest_duty}
+use Rattle.roster_model.specs.Sums.{greatest_duty, greatest_flight, month_flight}
 
 abbrev pub line_of : List (List ℕ) → List ℕ
 line_of words = join_with_byte 32 words ++ 10 ∷ []
@@ -24,11 +24,11 @@ names_of problem [] = codes "-" ∷ []
 names_of problem (p ∷ set) = pairing_name problem p ∷ map (pairing_name problem) set
 
 -- The numbers of a person's line, in minutes: the month's flight, the greatest duty of a judged run
--- of 7, 14 and 28 days, and the greatest flight of one of 28 days. No flight is read so far, so both
--- are 0.
+-- of 7, 14 and 28 days, and the greatest flight of one of 28 days.
 abbrev pub numbers_of : Days → List Duty → List ℕ
 numbers_of days list =
-    0 ∷ greatest_duty days list 7 ∷ greatest_duty days list 14 ∷ greatest_duty days list 28 ∷ 0 ∷ []
+    month_flight days list ∷ greatest_duty days list 7 ∷ greatest_duty days list 14
+    ∷ greatest_duty days list 28 ∷ greatest_flight days list 28 ∷ []
 
 -- the line of the person at place k, with their set
 unfoldable pub crew_line : Problem → List ℕ → ℕ → Person → List ℕ

@@ -18,7 +18,7 @@
 //! - `Problem`: what is to be rostered
 //! - `Busy`: when persons are busy
 //! - `Faults`: the code of a record, and the first fault of all
-//! - `Sums`: duty by local day, and in runs of days
+//! - `Sums`: duty and flight by local day, in runs of days, and in the month
 //! - `Rules`: which sets of pairings are legal for a person
 //! - `Rosters`: legal rosters, their cost and order, and the best one
 //! - `Texts`: the lines that are written

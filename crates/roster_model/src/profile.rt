@@ -27,3 +27,12 @@ pub const MOST_DUTY_IN_14_DAYS: u64 = 6_600;
 
 /// The duty of 28 days in a row, at most: 190 hours. (ORO.FTL.210(a)(3).)
 pub const MOST_DUTY_IN_28_DAYS: u64 = 11_400;
+
+/// The flight of 28 days in a row, at most: 100 hours. (ORO.FTL.210(b)(1).)
+pub const MOST_FLIGHT_IN_28_DAYS: u64 = 6_000;
+
+/// The flight of a calendar year, at most: 900 hours. (ORO.FTL.210(b)(2).)
+pub const MOST_FLIGHT_IN_A_YEAR: u64 = 54_000;
+
+/// The flight of 12 calendar months in a row, at most: 1000 hours. (ORO.FTL.210(b)(3).)
+pub const MOST_FLIGHT_IN_12_MONTHS: u64 = 60_000;

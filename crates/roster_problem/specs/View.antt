@@ -23,6 +23,12 @@ rule_of rules.Overlap = judged.OverlapRule
 rule_of rules.Leave = judged.LeaveRule
 rule_of rules.Rest = judged.RestRule
 rule_of rules.Recovery = judged.RecoveryRule
+rule_of rules.Duty7 = judged.Duty7Rule
+rule_of rules.Duty14 = judged.Duty14Rule
+rule_of rules.Duty28 = judged.Duty28Rule
+rule_of rules.Flight28 = judged.Flight28Rule
+rule_of rules.FlightYear = judged.FlightYearRule
+rule_of rules.Flight12 = judged.Flight12Rule
 
 -- the tables as one problem
 abbrev pub tables_of : Period → List Base → List Person → List Pairing → List model.Duty → List Leave → Problem

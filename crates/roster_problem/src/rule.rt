@@ -16,18 +16,36 @@ pub enum Rule {
     Rest,
     /// Recurrent rests follow one another soon enough.
     Recovery,
+    /// There is not too much duty in 7 days in a row.
+    Duty7,
+    /// There is not too much duty in 14 days in a row.
+    Duty14,
+    /// There is not too much duty in 28 days in a row.
+    Duty28,
+    /// There is not too much flight in 28 days in a row.
+    Flight28,
+    /// There is not too much flight in the calendar year.
+    FlightYear,
+    /// There is not too much flight in 12 calendar months in a row.
+    Flight12,
 }
 
 impl Rule {
     ghost use Rattle.roster_problem.specs.View.{rule_of};
 
     /// All rules, in the order in which they are judged.
-    pub const ALL: [Rule; 5] = [
+    pub const ALL: [Rule; 11] = [
         Rule::Base,
         Rule::Overlap,
         Rule::Leave,
         Rule::Rest,
         Rule::Recovery,
+        Rule::Duty7,
+        Rule::Duty14,
+        Rule::Duty28,
+        Rule::Flight28,
+        Rule::FlightYear,
+        Rule::Flight12,
     ];
 
     /// The word that tells it.
@@ -40,6 +58,12 @@ impl Rule {
             Rule::Leave => "LEAVE",
             Rule::Rest => "REST",
             Rule::Recovery => "RECOVERY",
+            Rule::Duty7 => "DUTY7",
+            Rule::Duty14 => "DUTY14",
+            Rule::Duty28 => "DUTY28",
+            Rule::Flight28 => "FLIGHT28",
+            Rule::FlightYear => "FLIGHTYEAR",
+            Rule::Flight12 => "FLIGHT12",
         }
     }
 }

@@ -24,14 +24,20 @@ fn identifiers_are_told(rt: HostRuntime) {
 
 #[test]
 fn rules_have_words(rt: HostRuntime) {
-    assert_eq!(rt; Rule::ALL.len(), 5);
-    for (rule, word) in [
-        (Rule::ALL[0], "BASE"),
-        (Rule::ALL[1], "OVERLAP"),
-        (Rule::ALL[2], "LEAVE"),
-        (Rule::ALL[3], "REST"),
-        (Rule::ALL[4], "RECOVERY"),
-    ] {
+    let words = [
+        "BASE",
+        "OVERLAP",
+        "LEAVE",
+        "REST",
+        "RECOVERY",
+        "DUTY7",
+        "DUTY14",
+        "DUTY28",
+        "FLIGHT28",
+        "FLIGHTYEAR",
+        "FLIGHT12",
+    ];
+    for (rule, word) in Rule::ALL.iter().zip(words) {
         assert_eq!(rt; rule.word(), word);
     }
 }

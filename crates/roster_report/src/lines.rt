@@ -13,7 +13,7 @@ ghost use Rattle.roster_report.specs.Words.{further};
 use crate::locks::push_lock;
 use crate::names::push_names;
 use crate::words::{end_line, push_number, push_signed, push_word};
-use roster_cumulative::greatest_duty;
+use roster_cumulative::{greatest_duty, greatest_flight, month_flight};
 use roster_instants::{BaseDays, Period};
 use roster_legal::merge;
 use roster_model::limits::MOST_PAIRINGS;
@@ -58,17 +58,16 @@ pub(crate) fn push_cost(alloc: Global, out: &mut Vec<u8>, cost: i64) -> Result<(
 /// How many numbers a person's line has.
 const NUMBERS: usize = 5;
 
-/// The numbers of the line of a person with these duties and days, in minutes. No flight is read so
-/// far, so both sums of flight are 0.
+/// The numbers of the line of a person with these duties and days, in minutes.
 fn numbers_of(list: &DutyList, days: &BaseDays) -> [u64; NUMBERS]
     ensures { result ≡ texts.numbers_of days.now list.now }
 {
     [
-        0,
+        month_flight(days, list) as u64,
         greatest_duty(days, list, 7) as u64,
         greatest_duty(days, list, 14) as u64,
         greatest_duty(days, list, 28) as u64,
-        0,
+        greatest_flight(days, list, 28) as u64,
     ]
 }
 

@@ -1,9 +1,9 @@
--- Limits of duty in days in a row: ORO.FTL.210(a) of Regulation (EU) No 83/2014.
-use Rattle.std.specs.Prelude.{ℕ, ◌≤◌, List, All}
-use Rattle.roster_model.specs.declared.profile.TheConstants.{MOST_DUTY_IN_7_DAYS, MOST_DUTY_IN_14_DAYS, MOST_DUTY_IN_28_DAYS}
+-- Limits of duty and of flight: ORO.FTL.210 of Regulation (EU) No 83/2014.
+use Rattle.std.specs.Prelude.{ℕ, ◌+◌, ◌≤◌, List, All}
+use Rattle.roster_model.specs.declared.profile.TheConstants.{MOST_DUTY_IN_7_DAYS, MOST_DUTY_IN_14_DAYS, MOST_DUTY_IN_28_DAYS, MOST_FLIGHT_IN_28_DAYS, MOST_FLIGHT_IN_A_YEAR, MOST_FLIGHT_IN_12_MONTHS}
 use Rattle.roster_model.specs.Calendar.{Days}
 use Rattle.roster_model.specs.records.Duty.{Duty}
-use Rattle.roster_model.specs.Sums.{in_run, judged_days, duty_on}
+use Rattle.roster_model.specs.Sums.{in_run, judged_days, duty_on, flight_on, month_flight}
 
 -- Each judged run of n days has at most so many minutes.
 abbrev pub KeepsLimit : (ℕ → ℕ) → Days → ℕ → ℕ → Type 0
@@ -20,3 +20,15 @@ KeepsDuty14 days list = KeepsLimit (duty_on days list) days 14 MOST_DUTY_IN_14_D
 -- (ORO.FTL.210(a)(3))
 abbrev pub KeepsDuty28 : Days → List Duty → Type 0
 KeepsDuty28 days list = KeepsLimit (duty_on days list) days 28 MOST_DUTY_IN_28_DAYS
+
+-- (ORO.FTL.210(b)(1))
+abbrev pub KeepsFlight28 : Days → List Duty → Type 0
+KeepsFlight28 days list = KeepsLimit (flight_on days list) days 28 MOST_FLIGHT_IN_28_DAYS
+
+-- with what was flown in the calendar year before the month (ORO.FTL.210(b)(2))
+abbrev pub KeepsFlightYear : Days → List Duty → ℕ → Type 0
+KeepsFlightYear days list year = year + month_flight days list ≤ MOST_FLIGHT_IN_A_YEAR
+
+-- with what was flown in the eleven calendar months before the month (ORO.FTL.210(b)(3))
+abbrev pub KeepsFlight12 : Days → List Duty → ℕ → Type 0
+KeepsFlight12 days list eleven = eleven + month_flight days list ≤ MOST_FLIGHT_IN_12_MONTHS

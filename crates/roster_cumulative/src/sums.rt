@@ -1,0 +1,87 @@
+//! Duty and flight by local day, in runs of days, and in the month, in minutes.
+
+ghost use Rattle.std.specs.Prelude.{◌≡◌, ◌≤◌, ◌<◌, length, pos};
+ghost use Rattle.roster_model.specs.Sums as sums;
+ghost use Rattle.roster_cumulative.specs.Table.{minutes_of, most_in_run};
+
+use crate::runs::{greatest_run, month_of};
+use crate::table::{Measure, add_flight, table_of};
+use roster_instants::BaseDays;
+use roster_model::limits::{DAYS_BEFORE, MOST_DAYS};
+use roster_problem::{Duty, DutyList};
+
+/// What the list has of the measure on day `i`.
+fn minutes_on(days: &BaseDays, list: &DutyList, i: usize, measure: Measure) -> i64
+    requires { i < length days.now.eight }
+    ensures value { result ≡ pos (sums.on_day (minutes_of measure) days.now list.now i) }
+    ensures bound { sums.on_day (minutes_of measure) days.now list.now i ≤ most_in_run }
+{
+    prove!(i < days.days());
+    table_of(days, list, measure)[i] as i64
+}
+
+/// The most that the list has of the measure in a judged run of `n` days.
+fn most_minutes(days: &BaseDays, list: &DutyList, n: usize, measure: Measure) -> i64
+    requires { n ≤ DAYS_BEFORE }
+    ensures value { let minutes = sums.on_day (minutes_of measure) days.now list.now in
+        result ≡ pos (sums.greatest_run minutes days.now n) }
+    ensures bound { let minutes = sums.on_day (minutes_of measure) days.now list.now in
+        sums.greatest_run minutes days.now n ≤ most_in_run }
+{
+    greatest_run(days, &table_of(days, list, measure), n) as i64
+}
+
+/// The duty of the list on day `i`.
+pub fn duty_on(days: &BaseDays, list: &DutyList, i: usize) -> i64
+    requires { i < length days.now.eight }
+    ensures value { result ≡ pos (sums.duty_on days.now list.now i) }
+    ensures bound { sums.duty_on days.now list.now i ≤ most_in_run }
+{
+    minutes_on(days, list, i, Measure::Duty)
+}
+
+/// The flight of the list on day `i`.
+pub fn flight_on(days: &BaseDays, list: &DutyList, i: usize) -> i64
+    requires { i < length days.now.eight }
+    ensures value { result ≡ pos (sums.flight_on days.now list.now i) }
+    ensures bound { sums.flight_on days.now list.now i ≤ most_in_run }
+{
+    minutes_on(days, list, i, Measure::Flight)
+}
+
+/// The greatest duty of a judged run of `n` days; `n` is at most the days before the month. A run is
+/// judged where its last day is of the month or after it.
+pub fn greatest_duty(days: &BaseDays, list: &DutyList, n: usize) -> i64
+    requires { n ≤ DAYS_BEFORE }
+    ensures value { result ≡ pos (sums.greatest_duty days.now list.now n) }
+    ensures bound { sums.greatest_duty days.now list.now n ≤ most_in_run }
+{
+    most_minutes(days, list, n, Measure::Duty)
+}
+
+/// The greatest flight of a judged run of `n` days; `n` is at most the days before the month.
+pub fn greatest_flight(days: &BaseDays, list: &DutyList, n: usize) -> i64
+    requires { n ≤ DAYS_BEFORE }
+    ensures value { result ≡ pos (sums.greatest_flight days.now list.now n) }
+    ensures bound { sums.greatest_flight days.now list.now n ≤ most_in_run }
+{
+    most_minutes(days, list, n, Measure::Flight)
+}
+
+/// The flight of the list in the month.
+pub fn month_flight(days: &BaseDays, list: &DutyList) -> i64
+    ensures value { result ≡ pos (sums.month_flight days.now list.now) }
+    ensures bound { sums.month_flight days.now list.now ≤ most_in_run }
+{
+    month_of(days, &table_of(days, list, Measure::Flight)) as i64
+}
+
+/// The flight of the duty in the month.
+pub fn duty_flight(days: &BaseDays, duty: &Duty) -> i64
+    ensures value { result ≡ pos (sums.duty_flight days.now duty.now) }
+    ensures bound { sums.duty_flight days.now duty.now ≤ most_in_run }
+{
+    let mut table = [0; MOST_DAYS];
+    add_flight(&mut table, days, duty);
+    month_of(days, &table) as i64
+}
