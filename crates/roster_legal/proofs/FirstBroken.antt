@@ -1,6 +1,6 @@
 -- The rule that is broken first is one alone, that there is none or one can't be refuted, and the limits
 -- come after the other rules.
-use Rattle.std.proofs.Common.{◌≡◌, ℕ, List, Option, Some, None, refl, sym, ap, subst, inl, inr, arith}
+use Rattle.std.proofs.Common.{◌≡◌, ℕ, zero, suc, ◌<◌, ◌⊎◌, List, Option, Some, None, refl, sym, ap, subst, inl, inr, arith}
 use Rattle.std.specs.Prelude.{option_map, slice_get, unwrap_or}
 use Rattle.std.proofs.lemmas.Bool.{cases_lt, cases_order}
 use Rattle.roster_model.proofs.RuleLemmas.{HoldBelow, below-all, one_of_rank}
