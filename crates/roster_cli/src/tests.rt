@@ -19,6 +19,25 @@ const BOOK: &[u8] =
 const REPORT: &[u8] =
     b"ROSTER 2024-03\nCOST 0\nCREW A 0 480 480 480 0 P1\nCREW B 0 0 0 0 0 -\nOPEN -\n";
 
+// The first person is locked by fixed duties: six without a recurrent rest between them, of which the
+// last ends a minute more than 168 hours after the first begins. So the second has the pairing.
+const FIXED: &[u8] = b"period,2024-03
+base,BAS,UTC0
+crew,A,BAS,0,0,0
+crew,B,BAS,0,0,0
+duty,F6,C,A,BAS,2024-03-11T02:00Z,2024-03-11T06:01Z
+duty,F1,C,A,BAS,2024-03-04T06:00Z,2024-03-04T16:00Z
+duty,F2,C,A,BAS,2024-03-05T02:00Z,2024-03-05T06:00Z
+duty,F3,C,A,BAS,2024-03-06T18:00Z,2024-03-06T20:00Z
+duty,F4,C,A,BAS,2024-03-08T05:00Z,2024-03-08T07:00Z
+duty,F5,C,A,BAS,2024-03-09T18:00Z,2024-03-09T20:00Z
+pairing,P1,BAS,100
+duty,Q1,P,P1,BAS,2024-03-20T06:00Z,2024-03-20T14:00Z
+";
+
+const FIXED_REPORT: &[u8] =
+    b"ROSTER 2024-03\nCOST 0\nCREW A 0 1200 1441 1441 0 -\nLOCKED A RECOVERY\nCREW B 0 480 480 480 0 P1\nOPEN -\n";
+
 /// The problem of a book.
 fn problem_of(alloc: Global, book: &[u8]) -> Result<Problem, BookFault> {
     let mut reader = Watched::new(book);

@@ -90,7 +90,7 @@ fn fault_of_sixth(rt: &HostRuntime, record: &[u8]) -> Option<u8> {
 
 #[test]
 fn each_code_of_a_record_is_told(rt: HostRuntime) {
-    let cases: [(&[u8], u8); 20] = [
+    let cases: [(&[u8], u8); 23] = [
         (b"jump,A,AMS,0,0,0", 2),
         (b"crew,A,AMS,0,0", 3),
         (b"crew,A B,AMS,0,0,0", 4),
@@ -105,6 +105,9 @@ fn each_code_of_a_record_is_told(rt: HostRuntime) {
         (b"duty,D1,P,P1,AMS,2024-01-26T00:00Z,2024-01-26T06:00Z", 12),
         (b"duty,D1,P,P1,BER,2024-03-04T06:00Z,2024-03-04T14:00Z", 12),
         (b"duty,D1,P,P1,AMS,2024-04-01T00:00Z,2024-04-01T06:00Z", 12),
+        (b"duty,F1,C,P1,AMS,2024-03-13T06:00Z,2024-03-13T14:00Z", 7),
+        (b"duty,F1,C,B,XYZ,2024-03-13T06:00Z,2024-03-13T06:00Z", 8),
+        (b"duty,F1,C,B,XYZ,2024-03-11T23:59Z,2024-03-12T06:00Z", 13),
         (b"leave,B,2024-03-13T00:00Z", 3),
         (b"leave,B,2024-02-30T00:00Z,2024-03-01T00:00Z", 4),
         (b"leave,A,2024-03-13T00:00Z,2024-03-14T00:00Z", 7),

@@ -2,8 +2,8 @@
 
 ghost use Rattle.std.specs.Prelude.{◌<◌, All, IfSome, length};
 
-use super::{long_book, problem_of};
-use roster_legal::{first_broken, is_legal, merge, part_of_legal_is_legal};
+use super::{FIXED, long_book, problem_of};
+use roster_legal::{first_broken, is_legal, locked, merge, part_of_legal_is_legal};
 use roster_model::limits::{MOST_PAIRINGS, MOST_PERSONS};
 use roster_problem::{Problem, Rule, Set};
 use roster_restrules::recovery_ok;
@@ -130,6 +130,24 @@ fn duties_are_merged_in_their_order(rt: HostRuntime) -> Result<(), Fail> {
     for i in 0..list.len() {
         let duty = list.duty(i);
         assert_eq!(rt; duty.id.as_bytes(), names[i]);
+    }
+    Ok(())
+}
+
+#[test]
+fn fixed_duties_lock(rt: HostRuntime) -> Result<(), Fail> {
+    let problem = problem_of(rt.alloc(), FIXED)?;
+    assert_eq!(rt; problem.persons().len(), 2);
+    assert_eq!(rt; problem.fixed_of(0), [0u16, 1, 2, 3, 4, 5].as_slice());
+    assert!(rt; problem.fixed_of(1).is_empty());
+    let lock = locked(rt.alloc(), &problem, 0)?;
+    assert!(rt; matches!(lock, Some(Rule::Recovery)));
+    assert!(rt; locked(rt.alloc(), &problem, 1)?.is_none());
+    for (place, is_first) in [(0u16, true), (1, false)] {
+        let set = set_of(&problem, &[place], 0).ok_or("a set")?;
+        let list = merge(rt.alloc(), &problem, 0, &set)?;
+        assert_eq!(rt; list.len(), if is_first { 7 } else { 6 });
+        assert_eq!(rt; is_legal(rt.alloc(), &problem, 0, &set)?, !is_first);
     }
     Ok(())
 }

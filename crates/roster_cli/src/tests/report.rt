@@ -1,6 +1,6 @@
 //! Reports.
 
-use super::{BOOK, REPORT, long_book, problem_of};
+use super::{BOOK, FIXED, FIXED_REPORT, REPORT, long_book, problem_of};
 use roster_book::{Problem, Watched};
 use roster_combine::solve;
 use roster_model::limits::{MOST_PAIRINGS, MOST_PERSONS};
@@ -18,9 +18,11 @@ fn best_report(alloc: Global, problem: &Problem) -> Result<Vec<u8>, Fail> {
 
 #[test]
 fn a_report_is_written(rt: HostRuntime) -> Result<(), Fail> {
-    let problem = problem_of(rt.alloc(), BOOK)?;
-    let report = best_report(rt.alloc(), &problem)?;
-    assert_eq!(rt; report.as_slice(), REPORT);
+    for (book, want) in [(BOOK, REPORT), (FIXED, FIXED_REPORT)] {
+        let problem = problem_of(rt.alloc(), book)?;
+        let report = best_report(rt.alloc(), &problem)?;
+        assert_eq!(rt; report.as_slice(), want);
+    }
     Ok(())
 }
 
