@@ -1,3 +1,4 @@
+use Rattle.std.proofs.Common.{◌∙◌}
 use Rattle.roster_book.specs.Draft.{tables_of_draft}
 use Rattle.roster_book.proofs.BusyTimes.{busy_with}
 use Rattle.roster_book.proofs.draft.Draft.is_busy.Goals as goal
