@@ -128,6 +128,3 @@ fn next_record<R: Read>(reader: &mut Reader<R>, fields: &mut ByteRecord) -> Resu
         Err(_) => Err(AllocError),
     }
 }
-
-#[cfg(test)]
-mod tests;

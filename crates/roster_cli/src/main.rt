@@ -1,27 +1,16 @@
-//! `roster`: the program. `read_line` reads the command line, `run` reads a book, finds the answer
-//! and writes it, and `main` ties both to the process. In reading order:
-//!
-//! - `run`: a book is read, and its one answer written
-//! - `status`: how a run ends
-//! - `line`: the command line
-//! - `law`: records have one answer
+//! `roster`: the program. `main` ties the command line and a run over standard input and output to
+//! the process.
 #![tactic(auto)]
 
 ghost use Rattle.std.specs.Prelude.{◌≡◌, ◌≢◌};
 ghost use Rattle.std.specs.IoError.{error_kind};
 ghost use Rattle.std.specs.declared.io.ErrorKind.TheVariants.{OutOfMemory};
 ghost use Rattle.std.specs.Process.{exit_status};
-ghost use Rattle.roster_cli.specs.Run.{exit_number};
+ghost use Rattle.roster_run.specs.Run.{exit_number};
 
-mod law;
-mod line;
-mod run;
-mod status;
-
-use line::{LineFault, read_line};
-use roster_book::Watched;
-use run::run;
-use status::Status;
+use roster_commandline::{LineFault, read_line};
+use roster_run::{Status, run};
+use roster_watched::Watched;
 use std::process::ExitCode;
 use std::{env, io};
 
@@ -83,6 +72,3 @@ fn ended(rt: &impl Eprint, status: Status) -> ExitCode
     }
     status.exit_code()
 }
-
-#[cfg(test)]
-mod tests;

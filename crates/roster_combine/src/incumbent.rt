@@ -87,24 +87,3 @@ impl Incumbent {
         }
     }
 }
-
-#[cfg(test)]
-mod tests {
-    use super::*;
-    use std::test::Fail;
-
-    #[test]
-    fn keys_go_by_cost_and_then_by_places(rt: HostRuntime) -> Result<(), Fail> {
-        let places = [1u16, 0, 2].to_vec(rt.alloc())?;
-        let best = Incumbent { cost: 20, places };
-        assert!(rt; best.comes_after(19, &[2, 2, 2]), "a lesser cost");
-        assert!(rt; !best.comes_after(21, &[0, 0, 0]), "a greater cost");
-        assert!(rt; best.comes_after(20, &[0, 2, 2]), "an earlier list");
-        assert!(rt; !best.comes_after(20, &[1, 1, 0]), "a later list");
-        assert!(rt; !best.comes_after(20, &[1, 0, 2]), "the same list");
-        let roster = best.into_roster();
-        assert_eq!(rt; roster.cost, 20);
-        assert_eq!(rt; roster.places.as_slice(), [1u16, 0, 2].as_slice());
-        Ok(())
-    }
-}

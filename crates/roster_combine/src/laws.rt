@@ -20,15 +20,3 @@ pub fn all_open_is_legal()
     ensures { (problem : Problem)
         → IsLegalRoster problem (replicate (length problem.pairings) (length problem.persons)) }
 {}
-
-#[cfg(test)]
-mod tests {
-    use super::*;
-
-    #[test]
-    fn can_be_called() {
-        one_best();
-        has_best();
-        all_open_is_legal();
-    }
-}

@@ -20,6 +20,3 @@ mod table;
 
 pub use limits::cumulative_broken;
 pub use sums::{duty_flight, duty_on, flight_on, greatest_duty, greatest_flight, month_flight};
-
-#[cfg(test)]
-mod tests;

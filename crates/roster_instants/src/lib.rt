@@ -24,6 +24,3 @@ pub use days::{BaseDays, ZoneFault};
 pub use laws::{compatible_days, compatible_instants, plain_at_utc};
 pub use minute::{Minute, common, read_minute};
 pub use period::Period;
-
-#[cfg(test)]
-mod tests;

@@ -30,16 +30,3 @@ pub fn part_of_legal_is_legal()
         → ((p : ℕ) → is_among part p ≡ true → is_among set p ≡ true)
         → IsLegal problem k set → IsLegal problem k part }
 {}
-
-#[cfg(test)]
-mod tests {
-    use super::*;
-
-    #[test]
-    fn can_be_called() {
-        one_first_broken();
-        one_list_of_locks();
-        has_locks();
-        part_of_legal_is_legal();
-    }
-}

@@ -43,6 +43,3 @@ pub use roster::{Places, Roster};
 pub use rule::Rule;
 pub use sector::Sector;
 pub use set::Set;
-
-#[cfg(test)]
-mod tests;

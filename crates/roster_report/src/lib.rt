@@ -25,6 +25,3 @@ mod words;
 pub use fault::TextFault;
 pub use fault_line::write_fault;
 pub use report::write_report;
-
-#[cfg(test)]
-mod tests;

@@ -11,6 +11,3 @@ mod rest;
 
 pub use recovery::{is_recurrent, recovery_ok};
 pub use rest::{rest_needed, rest_ok};
-
-#[cfg(test)]
-mod tests;

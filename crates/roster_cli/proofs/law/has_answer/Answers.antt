@@ -1,5 +1,0 @@
-use Rattle.roster_cli.proofs.IsAnswer.{some_answer}
-use Rattle.roster_cli.proofs.law.has_answer.Goals as goal
-
-pub returns : goal.returns
-returns c = some_answer c.has_best.ensures c.has_locks.ensures

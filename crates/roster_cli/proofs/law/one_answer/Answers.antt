@@ -1,5 +1,0 @@
-use Rattle.roster_cli.proofs.IsAnswer.{same_answer}
-use Rattle.roster_cli.proofs.law.one_answer.Goals as goal
-
-pub returns : goal.returns
-returns c = same_answer c.one_best.ensures c.one_list_of_locks.ensures

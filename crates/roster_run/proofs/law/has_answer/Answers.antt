@@ -1,0 +1,5 @@
+use Rattle.roster_run.proofs.IsAnswer.{some_answer}
+use Rattle.roster_run.proofs.law.has_answer.Goals as goal
+
+pub returns : goal.returns
+returns c = some_answer c.has_best.ensures c.has_locks.ensures

@@ -1,0 +1,123 @@
+//! A run: a book is read, and its one answer written.
+
+ghost use Rattle.std.specs.Prelude.{◌≡◌, ◌≢◌, ◌↔◌, List, true, false};
+ghost use Rattle.roster_model.specs.Answer.{IsAnswer, IsBestReport, IsRefusal, IsReport, Reports};
+ghost use Rattle.roster_model.specs.Record.{Record};
+ghost use Rattle.roster_book.specs.View.{command_of};
+ghost use Rattle.roster_watched.specs.Watch.{inner_of, has_failed, is_flushed};
+ghost use Rattle.roster_report.specs.Writing.{Writes, WritesPart};
+ghost use Rattle.roster_run.specs.Run.{OfTold};
+
+use crate::status::Status;
+use roster_book::{BookFault, Command, Problem, Watched, read_book};
+use roster_combine::{SolveFault, solve};
+use roster_report::{TextFault, write_fault, write_report};
+use std::alloc::Global;
+use std::io::{Read, Write};
+
+/// Reads a book to the end, does what the command asks, and writes the one answer.
+pub fn run<R: Read, W: Write>(
+    alloc: Global,
+    command: Command,
+    reader: &mut Watched<R>,
+    writer: &mut Watched<W>,
+) -> Status
+    requires reader_open { has_failed reader.old ≡ false }
+    requires writer_open { has_failed writer.old ≡ false }
+
+    // What the command reports of the book in the bytes that the reader told.
+    ensures answered { result ≡ Status.Answered → OfTold (λ records.
+        Writes (IsReport (command_of command) records)
+        (W.contents (inner_of writer.old)) (W.contents (inner_of writer.new)))
+        (R.remaining (inner_of reader.old)) }
+    // The line of the first fault in those bytes.
+    ensures refused { result ≡ Status.Refused → OfTold (λ records.
+        Writes (IsRefusal (command_of command) records)
+        (W.contents (inner_of writer.old)) (W.contents (inner_of writer.new)))
+        (R.remaining (inner_of reader.old)) }
+    // The first bytes of one of them.
+    ensures part { result ≡ Status.WriteFailed → OfTold (λ records.
+        WritesPart (IsAnswer (command_of command) records)
+        (W.contents (inner_of writer.old)) (W.contents (inner_of writer.new)))
+        (R.remaining (inner_of reader.old)) }
+
+    // Of a reader whose bytes aren't known: the same of some records.
+    ensures some_answer { result ≡ Status.Answered → (records : List Record)
+        × Writes (IsReport (command_of command) records)
+        (W.contents (inner_of writer.old)) (W.contents (inner_of writer.new)) }
+    ensures some_refusal { result ≡ Status.Refused → (records : List Record)
+        × Writes (IsRefusal (command_of command) records)
+        (W.contents (inner_of writer.old)) (W.contents (inner_of writer.new)) }
+    ensures some_part { result ≡ Status.WriteFailed → (records : List Record)
+        × WritesPart (IsAnswer (command_of command) records)
+        (W.contents (inner_of writer.old)) (W.contents (inner_of writer.new)) }
+
+    // Nothing is kept back.
+    ensures flushed { (result ≡ Status.Answered → is_flushed writer.new ≡ true)
+        × (result ≡ Status.Refused → is_flushed writer.new ≡ true) }
+
+    // A device's failure is told where it happened and only there.
+    ensures read_failed { (result ≡ Status.ReadFailed) ↔ (has_failed reader.new ≡ true) }
+    ensures write_failed { (result ≡ Status.WriteFailed) ↔ (has_failed writer.new ≡ true) }
+
+    // Nothing was written.
+    ensures memory { result ≡ Status.Memory → writer.new ≡ writer.old }
+    ensures unread_unwritten { result ≡ Status.ReadFailed → writer.new ≡ writer.old }
+{
+    match read_book(alloc, reader, command) {
+        Ok(book) => report(alloc, command, &book.problem, writer),
+        Err(BookFault::At { row, code }) => match write_fault(alloc, row, code, writer) {
+            Ok(()) => Status::Refused,
+            Err(TextFault::Memory) => Status::Memory,
+            Err(TextFault::Device) => Status::WriteFailed,
+        },
+        Err(BookFault::Device) => Status::ReadFailed,
+        Err(BookFault::Memory) => Status::Memory,
+    }
+}
+
+/// Writes what the command reports of the problem.
+fn report<W: Write>(
+    alloc: Global,
+    command: Command,
+    problem: &Problem,
+    writer: &mut Watched<W>,
+) -> Status
+    requires { has_failed writer.old ≡ false }
+    ensures answered { result ≡ Status.Answered → Writes (Reports (command_of command) problem.now)
+        (W.contents (inner_of writer.old)) (W.contents (inner_of writer.new)) }
+    ensures part { result ≡ Status.WriteFailed
+        → WritesPart (Reports (command_of command) problem.now)
+        (W.contents (inner_of writer.old)) (W.contents (inner_of writer.new)) }
+    ensures write_failed { (result ≡ Status.WriteFailed) ↔ (has_failed writer.new ≡ true) }
+    ensures flushed { result ≡ Status.Answered → is_flushed writer.new ≡ true }
+    ensures memory { result ≡ Status.Memory → writer.new ≡ writer.old }
+    ensures others { (result ≢ Status.Refused) × (result ≢ Status.ReadFailed) }
+{
+    match command {
+        Command::Solve => report_best(alloc, problem, writer),
+    }
+}
+
+/// Writes the report of the problem's best roster.
+fn report_best<W: Write>(alloc: Global, problem: &Problem, writer: &mut Watched<W>) -> Status
+    requires { has_failed writer.old ≡ false }
+    ensures answered { result ≡ Status.Answered → Writes (IsBestReport problem.now)
+        (W.contents (inner_of writer.old)) (W.contents (inner_of writer.new)) }
+    ensures part { result ≡ Status.WriteFailed → WritesPart (IsBestReport problem.now)
+        (W.contents (inner_of writer.old)) (W.contents (inner_of writer.new)) }
+    ensures write_failed { (result ≡ Status.WriteFailed) ↔ (has_failed writer.new ≡ true) }
+    ensures flushed { result ≡ Status.Answered → is_flushed writer.new ≡ true }
+    ensures memory { result ≡ Status.Memory → writer.new ≡ writer.old }
+    ensures others { (result ≢ Status.Refused) × (result ≢ Status.ReadFailed) }
+{
+    let roster = match solve(alloc, problem) {
+        Ok(roster) => roster,
+        Err(SolveFault::Memory) => return Status::Memory,
+    };
+    match write_report(alloc, problem, &roster, writer) {
+        Ok(()) => Status::Answered,
+        Err(TextFault::Memory) => Status::Memory,
+        Err(TextFault::Device) => Status::WriteFailed,
+    }
+}

@@ -1,0 +1,92 @@
+//! The rules of rest.
+
+use crate::given::{duty, list_of, march, minute, name};
+use roster_problem::Base;
+use roster_restrules::{is_recurrent, rest_needed, rest_ok};
+use std::process::Abort;
+
+// A base in March 2024.
+fn ams<R: Abort + AllocGlobal>(rt: &R) -> Base {
+    Base {
+        id: name(rt, "AMS"),
+        days: march(rt),
+    }
+}
+
+#[test]
+fn the_rest_needed_is_the_greater(rt: HostRuntime) {
+    let home = ams(&rt);
+    let short = duty(&rt, "AMS", "2024-03-04T06:00Z", "2024-03-04T14:00Z");
+    let long = duty(&rt, "AMS", "2024-03-04T06:00Z", "2024-03-04T19:00Z");
+    let middle = duty(&rt, "AMS", "2024-03-04T06:00Z", "2024-03-04T17:00Z");
+    let at_home = duty(&rt, "AMS", "2024-03-05T06:00Z", "2024-03-05T14:00Z");
+    let away = duty(&rt, "BER", "2024-03-05T06:00Z", "2024-03-05T14:00Z");
+    for (prev, next, minutes) in [
+        (&short, &at_home, 720),
+        (&short, &away, 600),
+        (&middle, &away, 660),
+        (&middle, &at_home, 720),
+        (&long, &at_home, 780),
+        (&long, &away, 780),
+    ] {
+        assert!(rt; rest_needed(prev, next, &home) == minutes);
+    }
+}
+
+#[test]
+fn neighbours_keep_their_rest(rt: HostRuntime) {
+    let home = ams(&rt);
+    let duties = [
+        duty(&rt, "AMS", "2024-03-04T06:00Z", "2024-03-04T14:00Z"),
+        // Twelve hours after the first, and a minute less.
+        duty(&rt, "AMS", "2024-03-05T02:00Z", "2024-03-05T10:00Z"),
+        duty(&rt, "AMS", "2024-03-05T01:59Z", "2024-03-05T10:00Z"),
+        // Ten hours after the second, away from home, and a minute less.
+        duty(&rt, "BER", "2024-03-05T20:00Z", "2024-03-06T04:00Z"),
+        duty(&rt, "BER", "2024-03-05T19:59Z", "2024-03-06T04:00Z"),
+        // Ten hours after the fourth, at home.
+        duty(&rt, "AMS", "2024-03-06T14:00Z", "2024-03-06T16:00Z"),
+    ];
+    let duties = duties.as_slice();
+    let lists: [(&[u16], bool); 8] = [
+        (&[], true),
+        (&[4], true),
+        (&[0, 1, 1], false),
+        (&[0, 1, 3], true),
+        (&[0, 1, 4], false),
+        (&[0, 2, 3], false),
+        (&[0, 1, 5], true),
+        (&[1, 3, 5], false),
+    ];
+    for (positions, is_kept) in lists {
+        let list = list_of(&rt, duties, positions);
+        assert!(rt; rest_ok(&list, &home) == is_kept);
+    }
+}
+
+#[test]
+fn recurrent_rests_have_their_length_and_nights(rt: HostRuntime) {
+    let days = march(&rt);
+    for (from, to, is_recurrent_rest) in [
+        // 36 hours with two nights, and a minute less.
+        ("2024-03-04T22:00Z", "2024-03-06T10:00Z", true),
+        ("2024-03-04T22:00Z", "2024-03-06T09:59Z", false),
+        // 36 hours with one night, of the first only two hours.
+        ("2024-03-05T06:00Z", "2024-03-06T18:00Z", false),
+        // Of the second night eight hours, and a minute less.
+        ("2024-03-05T06:00Z", "2024-03-07T06:00Z", true),
+        ("2024-03-05T06:00Z", "2024-03-07T05:59Z", false),
+        // Of the first night eight hours, and a minute less.
+        ("2024-03-05T00:00Z", "2024-03-06T12:00Z", true),
+        ("2024-03-05T00:01Z", "2024-03-06T12:01Z", false),
+        // The window's first and last night, with one outside the window, and with one within it.
+        ("2024-01-25T20:00Z", "2024-01-27T09:00Z", false),
+        ("2024-01-25T20:00Z", "2024-01-28T08:00Z", true),
+        ("2024-04-13T20:00Z", "2024-04-15T12:00Z", false),
+        ("2024-04-12T20:00Z", "2024-04-14T09:00Z", true),
+        ("2024-03-06T10:00Z", "2024-03-04T22:00Z", false),
+    ] {
+        let found = is_recurrent(&days, minute(&rt, from), minute(&rt, to));
+        assert!(rt; found == is_recurrent_rest, "{from} {to}");
+    }
+}

@@ -1,0 +1,72 @@
+//! Runs over memory, and how they end.
+
+ghost use Rattle.std.specs.Prelude.{IfOk, IfSome};
+ghost use Rattle.roster_model.specs.Answer.{IsAnswer, records_of};
+ghost use Rattle.roster_model.specs.Record.{Solve};
+
+use roster_book::{Command, Watched, duties_in_order};
+use roster_combine::{all_open_is_legal, has_best, one_best};
+use roster_legal::{has_locks, one_first_broken, one_list_of_locks, part_of_legal_is_legal};
+use roster_run::{Status, has_answer, one_answer, run};
+use std::alloc::{AllocError, Global};
+use std::test::Fail;
+
+pub const BOOK: &[u8] =
+    b"period,2024-03\nbase,BAS,UTC0\ncrew,A,BAS,0,0,0\ncrew,B,BAS,0,0,0\npairing,P1,BAS,100\nduty,Q1,P,P1,BAS,2024-03-04T06:00Z,2024-03-04T14:00Z\n";
+
+pub const REPORT: &[u8] =
+    b"ROSTER 2024-03\nCOST 0\nCREW A 0 480 480 480 0 P1\nCREW B 0 0 0 0 0 -\nOPEN -\n";
+
+/// What a run over memory writes. That its clause is proved shows that a reader and a writer over
+/// memory meet all that `run` supposes of them.
+fn text_of(alloc: Global, book: &[u8]) -> Result<Option<Vec<u8>>, AllocError>
+    ensures { IfOk result (λ text. IfSome text (λ text.
+        IsAnswer Solve (records_of book.now) text.items)) }
+{
+    let mut reader = Watched::new(book);
+    let mut writer = Watched::new(Vec::new(alloc));
+    match run(alloc, Command::Solve, &mut reader, &mut writer) {
+        Status::Answered | Status::Refused => {
+            Ok(Some(Vec::from_slice(alloc, writer.inner().as_slice())?))
+        }
+        _ => Ok(None),
+    }
+}
+
+#[test]
+fn the_report_of_the_best_roster_is_written(rt: HostRuntime) -> Result<(), Fail> {
+    let text = text_of(rt.alloc(), BOOK)?.ok_or("a text")?;
+    assert!(rt; text.as_slice() == REPORT);
+    Ok(())
+}
+
+#[test]
+fn laws_can_be_called() {
+    duties_in_order();
+    one_first_broken();
+    one_list_of_locks();
+    has_locks();
+    part_of_legal_is_legal();
+    one_best();
+    has_best();
+    all_open_is_legal();
+    one_answer();
+    has_answer();
+}
+
+// No other test compares outcomes by `==`, since a wrong one would take any for any.
+#[test]
+fn outcomes_are_told_apart(rt: HostRuntime) {
+    let all = [
+        Status::Answered,
+        Status::Refused,
+        Status::Memory,
+        Status::ReadFailed,
+        Status::WriteFailed,
+    ];
+    for (i, first) in all.iter().enumerate() {
+        for (j, second) in all.iter().enumerate() {
+            assert!(rt; (first == second) == (i == j));
+        }
+    }
+}
