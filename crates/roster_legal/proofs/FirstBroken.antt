@@ -32,13 +32,13 @@ Judged problem k set n =
 judged_more : (problem : Problem) (k : ℕ) (set : List ℕ) (n : ℕ) → HoldBelow (Holds problem k set) n → ¬ ¬ (Judged problem k set (suc n))
 judged_more problem k set n held none =
     let no_rule : (rule : Rule) → rank_of rule ≡ n → ⊥ = λ rule at.
-        let kept : Holds problem k set rule → ⊥ = λ h. none (inl (λ other within. elim (cases_lt (rank_of other) n) [
-          | inl before ↦ held other before
-          | inr on ↦
-              let same : rank_of rule ≡ rank_of other = omega arith in
-              subst (Holds problem k set) (one_of_rank rule other same) h
-        ])) in
-        none (inr (rule, (kept, λ other before. held other (omega arith)))) in
+    let kept : Holds problem k set rule → ⊥ = λ h. none (inl (λ other within. elim (cases_lt (rank_of other) n) [
+      | inl before ↦ held other before
+      | inr on ↦
+          let same : rank_of rule ≡ rank_of other = omega arith in
+          subst (Holds problem k set) (one_of_rank rule other same) h
+    ])) in
+    none (inr (rule, (kept, λ other before. held other (omega arith)))) in
     none (inl (λ rule within. elim (cases_lt (rank_of rule) n) [
       | inl before ↦ held rule before
       | inr on ↦ absurd (no_rule rule (omega arith))

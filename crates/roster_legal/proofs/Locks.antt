@@ -11,7 +11,7 @@ pub AreLocks-one : (problem : Problem) (a b : List (Option Rule)) → AreLocks p
 AreLocks-one problem a b first second =
     let long : length a ≡ length b = first.covers ∙ sym second.covers in
     same_lists a b long (λ k d inside.
-        IsFirstBroken-one problem k [] _ _ (first.each k _ (slice_get-get_or a k d inside)) (second.each k _ (slice_get-get_or b k d (omega arith))))
+    IsFirstBroken-one problem k [] _ _ (first.each k _ (slice_get-get_or a k d inside)) (second.each k _ (slice_get-get_or b k d (omega arith))))
 
 -- what locks the persons from place k on
 abbrev LocksFrom : Problem → ℕ → List (Option Rule) → Type 0
@@ -34,9 +34,12 @@ locks_from problem (suc n) k none =
 
 pub AreLocks-exist : (problem : Problem) → ¬ ¬ ((locks : List (Option Rule)) × AreLocks problem locks)
 AreLocks-exist problem none =
-    locks_from problem (length problem.persons) 0 (λ found. none (found.0, record {
-      covers = found.1;
-      each = λ k lock at.
-          let place : 0 + k ≡ k = omega arith in
-          subst (λ i. IsLock problem i lock) place (found.2 k lock at);
-    }))
+    locks_from problem (length problem.persons) 0 (λ found. none (
+      found.0,
+      record {
+        covers = found.1;
+        each = λ k lock at.
+            let place : 0 + k ≡ k = omega arith in
+            subst (λ i. IsLock problem i lock) place (found.2 k lock at);
+      },
+    ))

@@ -28,8 +28,13 @@ pub const MOST_SECTORS: usize = 16384;
 pub const MOST_LEAVES: usize = 1024;
 
 /// The records of a book without a fault, at most: a period, and of each other kind its limit.
-pub const MOST_RECORDS: usize =
-    1 + MOST_BASES + MOST_PERSONS + MOST_PAIRINGS + MOST_DUTIES + MOST_SECTORS + MOST_LEAVES;
+pub const MOST_RECORDS: usize = 1
+    + MOST_BASES
+    + MOST_PERSONS
+    + MOST_PAIRINGS
+    + MOST_DUTIES
+    + MOST_SECTORS
+    + MOST_LEAVES;
 
 /// The minutes of a target, and of what was flown before the month, at most.
 pub const MOST_MINUTES: u32 = 60_000;

@@ -2,7 +2,8 @@
 
 use crate::given::{duty, list_of, march, name};
 use roster_cumulative::{
-    cumulative_broken, duty_flight, duty_on, flight_on, greatest_duty, greatest_flight, month_flight,
+    cumulative_broken, duty_flight, duty_on, flight_on, greatest_duty, greatest_flight,
+    month_flight,
 };
 use roster_problem::{Duty, Person, Rule, Sector};
 use std::process::Abort;

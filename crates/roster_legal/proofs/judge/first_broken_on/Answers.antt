@@ -19,8 +19,7 @@ returns-then-not-keeps_leave c =
     let duties = duty_list problem k set in
     let holds = Holds problem k set in
     let base = below-more holds BaseRule (below-none holds) (c.keeps_base.ensures.0 c.if-not-keeps_base.false) in
-    let overlap = below-more holds OverlapRule base (subst NoOverlap c.requires.list (c.no_overlap.ensures.0 c.if-not-no_overlap.false)) in
-    (
+    let overlap = below-more holds OverlapRule base (subst NoOverlap c.requires.list (c.no_overlap.ensures.0 c.if-not-no_overlap.false)) in (
       λ keeps. both_ways _ c.if-not-keeps_leave.true (c.keeps_leave.ensures.1 (subst (KeepsLeave (leaves_of problem k)) (sym c.requires.list) keeps)),
       overlap,
     )
@@ -34,8 +33,7 @@ returns-then-not-rest_ok c =
     let holds = Holds problem k set in
     let base = below-more holds BaseRule (below-none holds) (c.keeps_base.ensures.0 c.if-not-keeps_base.false) in
     let overlap = below-more holds OverlapRule base (subst NoOverlap c.requires.list (c.no_overlap.ensures.0 c.if-not-no_overlap.false)) in
-    let leave = below-more holds LeaveRule overlap (subst (KeepsLeave (leaves_of problem k)) c.requires.list (c.keeps_leave.ensures.0 c.if-not-keeps_leave.false)) in
-    (
+    let leave = below-more holds LeaveRule overlap (subst (KeepsLeave (leaves_of problem k)) c.requires.list (c.keeps_leave.ensures.0 c.if-not-keeps_leave.false)) in (
       λ keeps. both_ways _ c.if-not-rest_ok.true (c.rest_ok.ensures.1 (subst (KeepsRest c.home.result.now) (sym c.requires.list) (subst (λ home. KeepsRest home duties) (sym c.home.ensures) keeps))),
       leave,
     )
@@ -50,8 +48,7 @@ returns-then-not-recovery_ok c =
     let base = below-more holds BaseRule (below-none holds) (c.keeps_base.ensures.0 c.if-not-keeps_base.false) in
     let overlap = below-more holds OverlapRule base (subst NoOverlap c.requires.list (c.no_overlap.ensures.0 c.if-not-no_overlap.false)) in
     let leave = below-more holds LeaveRule overlap (subst (KeepsLeave (leaves_of problem k)) c.requires.list (c.keeps_leave.ensures.0 c.if-not-keeps_leave.false)) in
-    let rest = below-more holds RestRule leave (subst (λ home. KeepsRest home duties) c.home.ensures (subst (KeepsRest c.home.result.now) c.requires.list (c.rest_ok.ensures.0 c.if-not-rest_ok.false))) in
-    (
+    let rest = below-more holds RestRule leave (subst (λ home. KeepsRest home duties) c.home.ensures (subst (KeepsRest c.home.result.now) c.requires.list (c.rest_ok.ensures.0 c.if-not-rest_ok.false))) in (
       λ keeps. both_ways _ c.if-not-recovery_ok.true (c.recovery_ok.ensures.1 (subst (KeepsRecovery c.days_of.result.now) (sym c.requires.list) (subst (λ days. KeepsRecovery days duties) (sym c.days_of.ensures) keeps))),
       rest,
     )

@@ -28,7 +28,7 @@ pub loop-i-preserved : goal.loop-i-preserved
 loop-i-preserved g c =
     let told = says_at g.F.Fn c.place_of.ensures refl in
     let given = All-more (λ entry. (place : Option ℕ) × FnReturnsAt g.F.Fn c.args.place_of entry place) c.args.entries.now c.loop-i.i c.index-entries-i.result (omega arith) c.loop-i.invariant.given
-        (subst (λ entry. (place : Option ℕ) × FnReturnsAt g.F.Fn c.args.place_of entry place) c.index-entries-i.is (c.place_of.result, told)) in
+    (subst (λ entry. (place : Option ℕ) × FnReturnsAt g.F.Fn c.args.place_of entry place) c.index-entries-i.is (c.place_of.result, told)) in
     elim c.match-place_of.branch [
       | in-Some+in_ok-push w ↦
           let at : FnReturnsAt g.F.Fn c.args.place_of c.index-entries-i.result (Some w.in-Some.place) = subst (FnReturnsAt g.F.Fn c.args.place_of c.index-entries-i.result) w.in-Some.is told in
