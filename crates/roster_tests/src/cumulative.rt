@@ -142,7 +142,7 @@ fn the_first_limit_that_is_broken(rt: HostRuntime) {
         duty(&rt, "AMS", "2024-03-14T00:00Z", "2024-03-16T02:00Z"),
         duty(&rt, "AMS", "2024-03-14T00:00Z", "2024-03-16T02:01Z"),
         // With 60 hours and 20 more it is 190 in 28 days.
-        duty(&rt, "AMS", "2024-03-20T00:00Z", "2024-03-22T12:00Z"),
+        duty(&rt, "AMS", "2024-03-21T00:00Z", "2024-03-23T12:00Z"),
         duty(&rt, "AMS", "2024-03-28T00:00Z", "2024-03-28T20:00Z"),
         duty(&rt, "AMS", "2024-03-28T00:00Z", "2024-03-28T20:01Z"),
         // Twice 50 hours of flight, and a minute more.
