@@ -6,7 +6,7 @@ pub mod Leave
 pub mod Rest
 pub mod Recovery
 pub mod Limits
-use Rattle.std.specs.Prelude.{◌≡◌, ◌<◌, ◌⊎◌, ℕ, Bool, ◌==◌, List, [], length, Option, Some, None, slice_get, codes}
+use Rattle.std.specs.Prelude.{◌≡◌, ◌<◌, ◌⊎◌, ℕ, Bool, ◌==◌, List, [], ◌∷◌, length, Option, Some, None, slice_get, codes}
 use Rattle.std.specs.List.{filter, list_any}
 use Rattle.roster_model.specs.records.Duty.{Duty, Holder, OfPairing, OfPerson}
 use Rattle.roster_model.specs.Calendar.{Days}
@@ -109,6 +109,12 @@ IsFirstFailing Says (Some broken) =
 -- the first rule that person k breaks with the set, if there is one
 abbrev pub IsFirstBroken : Problem → ℕ → List ℕ → Option Rule → Type 0
 IsFirstBroken problem k set broken = IsFirstFailing (Holds problem k set) broken
+
+-- What is said of person k with the set: nothing where the set is legal, and else the first rule that is
+-- broken.
+abbrev pub IsVerdict : Problem → ℕ → List ℕ → Option Rule → Type 0
+IsVerdict problem k [] verdict = verdict ≡ None
+IsVerdict problem k (p ∷ set) verdict = IsFirstBroken problem k (p ∷ set) verdict
 
 -- What locks person k: the first rule that is broken without any pairing. A locked person can only be
 -- left without pairings.

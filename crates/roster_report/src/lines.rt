@@ -3,7 +3,7 @@
 ghost use Rattle.std.specs.Prelude.{◌≡◌, ◌≤◌, ◌<◌, ◌∷◌, [], ◌++◌, Some, length, slice_get, string_bytes, codes, map, option_map, IfOk, OnOk};
 ghost use Rattle.std.specs.Fmt.{decimal, signed_decimal};
 ghost use Rattle.roster_model.specs.Problem.{home_of};
-ghost use Rattle.roster_model.specs.Rosters.{set_of, open_number};
+ghost use Rattle.roster_model.specs.Places.{set_of, open_number};
 ghost use Rattle.roster_model.specs.Rules.{duty_list};
 ghost use Rattle.roster_model.specs.Texts as texts;
 ghost use Rattle.roster_model.specs.Texts.{line_of, names_of};

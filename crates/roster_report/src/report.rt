@@ -2,7 +2,7 @@
 
 ghost use Rattle.std.specs.Prelude.{◌≡◌, false, true, length, IfOk, OnOk, IsErrOf};
 ghost use Rattle.roster_watched.specs.Watch.{inner_of, has_failed, is_flushed};
-ghost use Rattle.roster_model.specs.Rosters.{cost_of};
+ghost use Rattle.roster_model.specs.Costs.{cost_of};
 ghost use Rattle.roster_model.specs.Texts.{IsReportOf};
 ghost use Rattle.roster_report.specs.Writing.{Writes, WritesPart};
 

@@ -1,7 +1,7 @@
 use Rattle.std.proofs.Common.{◌≡◌, ℕ, ◌++◌, List, length, map, sym, ap, ◌∙◌, append_assoc, arith}
 use Rattle.std.specs.Prelude.{Option, option_map}
 use Rattle.roster_model.specs.records.Crew.{Person}
-use Rattle.roster_model.specs.Rosters.{set_of}
+use Rattle.roster_model.specs.Places.{set_of}
 use Rattle.roster_model.specs.Rules as model
 use Rattle.roster_model.specs.Texts.{crew_line, lock_line, lock_at}
 use Rattle.roster_problem.specs.View.{rule_of}
