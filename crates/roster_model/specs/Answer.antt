@@ -29,7 +29,7 @@ pub record IsCrowdedFault (problem : Problem) (fault : Fault) : Type 0 where
 -- the fault that the command tells of a problem: who solves it makes all lines
 abbrev pub IsProblemFault : Command → Problem → Fault → Type 0
 IsProblemFault Solve problem fault = IsCrowdedFault problem fault
-IsProblemFault Check problem fault = Empty {0}
+IsProblemFault Check problem fault = ⊥
 
 -- a fault of the problem, where no record has one
 pub record IsLaterFault (command : Command) (book : List Record) (fault : Fault) : Type 0 where

@@ -43,7 +43,7 @@ abbrev pub lock_line : Person → Option Rule → List ℕ
 lock_line person None = []
 lock_line person (Some rule) = line_of (codes "LOCKED" ∷ person.id ∷ word_of_rule rule ∷ [])
 
--- what a list says of the person at place k, who is locked by a rule, or breaks one
+-- the rule that a list tells of the person at place k, if it tells one
 abbrev pub rule_at : List (Option Rule) → ℕ → Option Rule
 rule_at rules k = unwrap_or (slice_get rules k) None
 

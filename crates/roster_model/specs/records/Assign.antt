@@ -1,5 +1,5 @@
 -- `assign,PAIRING,CREW`: who flies a pairing of the roster that is to be checked; `-` is nobody.
-use Rattle.std.specs.Prelude.{ℕ, Bool, false, not, ◌&&◌, ◌||◌, ◌==◌, if◌then◌else◌, List, [], ◌∷◌, length, map, Option, Some, None, is_some, codes, unwrap_or}
+use Rattle.std.specs.Prelude.{ℕ, Bool, false, not, ◌&&◌, ◌||◌, ◌==◌, if◌then◌else◌, List, [], ◌∷◌, length, map, Option, None, is_some, codes, unwrap_or}
 use Rattle.std.specs.List.{find, list_any, range_with_len}
 use Rattle.std.specs.Option.{option_and_then, option_map_or}
 use Rattle.std.specs.Str.{bytes_eq}
@@ -63,11 +63,16 @@ is_formed fields =
 abbrev pub is_assigned : List Assign → Option ℕ → Bool
 is_assigned assigns pairing = option_map_or (λ p. list_any (is_assign_of p) assigns) pairing false
 
+-- the pairing was given before, and so was the person, if it names one
+abbrev pub is_known : List Record → Record → Bool
+is_known before fields =
+    is_some (pairing_place before (pairing_in fields))
+    && (is_nobody (crew_in fields) || is_some (person_place before (crew_in fields)))
+
 abbrev pub conditions : List Record → Record → List (Code × Bool)
 conditions before fields =
     (FieldCount, length fields == 3)
     ∷ (FieldForm, is_formed fields)
     ∷ (GivenTwice, not (is_assigned (assigns_in before) (pairing_place before (pairing_in fields))))
-    ∷ (NotGiven, is_some (pairing_place before (pairing_in fields))
-    && (is_nobody (crew_in fields) || is_some (person_place before (crew_in fields))))
+    ∷ (NotGiven, is_known before fields)
     ∷ []
