@@ -3,10 +3,10 @@
 -- once or open: the set partitioning model of Kohl and Karisch, "Airline Crew Rostering: Problem
 -- Types, Modeling, and Optimization", Annals of Operations Research 127, 2004. That a pairing may be
 -- left open at a penalty is this project's own, as are the costs and the order of rosters.
-use Rattle.std.specs.Prelude.{◌≡◌, ℕ, ◌<◌, ◌≤◌, Bool, true, ◌&&◌, ◌||◌, List, length, Option, Some, slice_get, ℤ, int_lt, All}
+use Rattle.std.specs.Prelude.{◌≡◌, ℕ, ◌<◌, ◌≤◌, Bool, true, ◌&&◌, ◌||◌, List, length, Option, ℤ, int_lt, All}
 use Rattle.std.specs.Ordering.{int_eq}
 use Rattle.roster_model.specs.Problem.{Problem}
-use Rattle.roster_model.specs.Rules.{Rule, IsLegal, IsVerdict}
+use Rattle.roster_model.specs.Rules.{Rule, AreOfEach, IsLegal, IsVerdict}
 use Rattle.roster_model.specs.Places.{set_of, places_le}
 use Rattle.roster_model.specs.Costs.{cost_of}
 
@@ -16,10 +16,10 @@ pub record IsLegalRoster (problem : Problem) (places : List ℕ) : Type 0 where
   pub numbers : All (λ x. x ≤ length problem.persons) places
   pub legal : (k : ℕ) → k < length problem.persons → IsLegal problem k (set_of k places)
 
--- what is said of each person with their set, in book order
-pub record AreVerdicts (problem : Problem) (places : List ℕ) (verdicts : List (Option Rule)) : Type 0 where
-  pub covers : length verdicts ≡ length problem.persons
-  pub each : (k : ℕ) (verdict : Option Rule) → slice_get verdicts k ≡ Some verdict → IsVerdict problem k (set_of k places) verdict
+-- what is said of each person with their set of the roster
+abbrev pub AreVerdicts : Problem → List ℕ → List (Option Rule) → Type 0
+AreVerdicts problem places verdicts =
+    AreOfEach (λ k verdict. IsVerdict problem k (set_of k places) verdict) problem verdicts
 
 -- a roster's key: its cost, and then its list
 pub record Key : Type 0 where

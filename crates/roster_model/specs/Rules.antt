@@ -121,7 +121,11 @@ IsVerdict problem k (p ∷ set) verdict = IsFirstBroken problem k (p ∷ set) ve
 abbrev pub IsLock : Problem → ℕ → Option Rule → Type 0
 IsLock problem k lock = IsFirstBroken problem k [] lock
 
--- what locks each person, in book order
-pub record AreLocks (problem : Problem) (locks : List (Option Rule)) : Type 0 where
-  pub covers : length locks ≡ length problem.persons
-  pub each : (k : ℕ) (lock : Option Rule) → slice_get locks k ≡ Some lock → IsLock problem k lock
+-- for each person, in book order, a rule or none, of which this is said
+pub record AreOfEach (Says : ℕ → Option Rule → Type 0) (problem : Problem) (rules : List (Option Rule)) : Type 0 where
+  pub covers : length rules ≡ length problem.persons
+  pub each : (k : ℕ) (rule : Option Rule) → slice_get rules k ≡ Some rule → Says k rule
+
+-- what locks each person
+abbrev pub AreLocks : Problem → List (Option Rule) → Type 0
+AreLocks problem locks = AreOfEach (IsLock problem) problem locks
