@@ -48,15 +48,15 @@ pub record IsBestReport (problem : Problem) (text : List ℕ) : Type 0 where
   pub best : IsBest problem places
   pub written : IsReportOf problem places text
 
--- the text is what the command reports of a book
-abbrev pub Reports : Command → List Record → List ℕ → Type 0
-Reports Solve book text = IsBestReport (problem_of book) text
-Reports Check book text = IsCheckOf (problem_of book) (assigned_in book) text
+-- the text is what the command reports of a problem, and of the roster that the book gives
+abbrev pub Reports : Command → Problem → List ℕ → List ℕ → Type 0
+Reports Solve problem places text = IsBestReport problem text
+Reports Check problem places text = IsCheckOf problem places text
 
 -- the book has no fault, and the text is what the command reports of it
 pub record IsReport (command : Command) (book : List Record) (text : List ℕ) : Type 0 where
   pub faultless : (fault : Fault) → ¬ IsFirstFault command book fault
-  pub reports : Reports command book text
+  pub reports : Reports command (problem_of book) (assigned_in book) text
 
 -- the text tells the first fault of the book
 pub record IsRefusal (command : Command) (book : List Record) (text : List ℕ) : Type 0 where

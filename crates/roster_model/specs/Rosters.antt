@@ -16,10 +16,13 @@ pub record IsLegalRoster (problem : Problem) (places : List ℕ) : Type 0 where
   pub numbers : All (λ x. x ≤ length problem.persons) places
   pub legal : (k : ℕ) → k < length problem.persons → IsLegal problem k (set_of k places)
 
--- what is said of each person with their set of the roster
+-- what is said of person k with their set of the roster
+abbrev pub IsVerdictIn : Problem → List ℕ → ℕ → Option Rule → Type 0
+IsVerdictIn problem places k verdict = IsVerdict problem k (set_of k places) verdict
+
+-- what is said of each person
 abbrev pub AreVerdicts : Problem → List ℕ → List (Option Rule) → Type 0
-AreVerdicts problem places verdicts =
-    AreOfEach (λ k verdict. IsVerdict problem k (set_of k places) verdict) problem verdicts
+AreVerdicts problem places verdicts = AreOfEach (IsVerdictIn problem places) problem verdicts
 
 -- a roster's key: its cost, and then its list
 pub record Key : Type 0 where
