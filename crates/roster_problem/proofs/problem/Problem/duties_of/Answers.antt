@@ -8,7 +8,7 @@ use Rattle.roster_problem.proofs.problem.Problem.duties_of.Goals as goal
 
 positions : (c : goal.After-list) → ArePositionsOf (is_of_pairing c.args.p) c.args.self.now.duties c.list.result.now
 positions c =
-    let tables : Problem = tables_of c.self.inside.period c.self.inside.bases.items c.self.inside.persons.items c.self.inside.pairings.items c.self.inside.duties.items c.self.inside.leaves.items in
+    let tables : Problem = tables_of c.self.inside.period c.self.inside.weight c.self.inside.bases.items c.self.inside.persons.items c.self.inside.pairings.items c.self.inside.duties.items c.self.inside.leaves.items c.self.inside.costs in
     let within = subst (λ (problem : Problem). c.args.p < length problem.pairings) (sym c.self.view_is) c.requires in
     subst (λ (problem : Problem). ArePositionsOf (is_of_pairing c.args.p) problem.duties c.list.result.now) c.self.view_is
     (positions_of_place is_of_pairing (length tables.pairings) c.args.p tables.duties c.self.inside.by_pairing c.list.result.now c.self.invariant.of_pairings within c.list.ensures)

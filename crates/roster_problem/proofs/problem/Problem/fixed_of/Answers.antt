@@ -8,7 +8,7 @@ use Rattle.roster_problem.proofs.problem.Problem.fixed_of.Goals as goal
 
 positions : (c : goal.After-list) → ArePositionsOf (is_of_person c.args.k) c.args.self.now.duties c.list.result.now
 positions c =
-    let tables : Problem = tables_of c.self.inside.period c.self.inside.bases.items c.self.inside.persons.items c.self.inside.pairings.items c.self.inside.duties.items c.self.inside.leaves.items in
+    let tables : Problem = tables_of c.self.inside.period c.self.inside.weight c.self.inside.bases.items c.self.inside.persons.items c.self.inside.pairings.items c.self.inside.duties.items c.self.inside.leaves.items c.self.inside.costs in
     let within = subst (λ (problem : Problem). c.args.k < length problem.persons) (sym c.self.view_is) c.requires in
     subst (λ (problem : Problem). ArePositionsOf (is_of_person c.args.k) problem.duties c.list.result.now) c.self.view_is
     (positions_of_place is_of_person (length tables.persons) c.args.k tables.duties c.self.inside.by_person c.list.result.now c.self.invariant.of_persons within c.list.ensures)
