@@ -3,4 +3,5 @@ pub mod InRun
 pub mod Flown
 pub mod Divided
 pub mod MonthFlight
+pub mod ListedFlight
 pub mod KeptLimits
