@@ -1,0 +1,60 @@
+//! The entries of tables by their names.
+
+ghost use Rattle.std.specs.Prelude.{◌≡◌, ◌<◌, IfSome, length};
+ghost use Rattle.roster_model.specs.Record.{place_named};
+
+use roster_problem::{Base, Duty, Name, Pairing, Person};
+
+/// An entry of a table, whose name no other entry of the table has.
+pub(crate) trait Named {
+    ghost use Rattle.std.specs.Prelude.{List, ℕ};
+
+    ghost id_of: { Self → List ℕ };
+
+    /// Its name.
+    fn name(&self) -> &Name
+        ensures { result.now ≡ id_of self.now };
+}
+
+impl Named for Base {
+    ghost id_of = { λ base. base.id };
+
+    fn name(&self) -> &Name {
+        &self.id
+    }
+}
+
+impl Named for Person {
+    ghost id_of = { λ person. person.id };
+
+    fn name(&self) -> &Name {
+        &self.id
+    }
+}
+
+impl Named for Pairing {
+    ghost id_of = { λ pairing. pairing.id };
+
+    fn name(&self) -> &Name {
+        &self.id
+    }
+}
+
+impl Named for Duty {
+    ghost id_of = { λ duty. duty.id };
+
+    fn name(&self) -> &Name {
+        &self.id
+    }
+}
+
+/// The place of the entry with the name.
+#[tactic(auto, unfolding(roster_model::specs::Record::place_named))]
+pub(crate) fn place_of<T: Named>(entries: &[T], name: &[u8]) -> Option<usize>
+    ensures value { result ≡ place_named T.id_of name.now entries.now }
+    ensures within { IfSome result (λ place. place < length entries.now) }
+{
+    entries
+        .iter()
+        .position(|entry| entry.name().as_bytes() == name)
+}
