@@ -1,7 +1,7 @@
 use Rattle.std.proofs.Common.{length}
 use Rattle.roster_problem.specs.Duties.{is_of_person}
 use Rattle.roster_problem.proofs.Indexes.{AreDutiesOf, duties_of_place}
-use Rattle.roster_problem.proofs.problem.Problem.fixed_of.Goals as goal
+use Rattle.roster_problem.proofs.problem.Problem.fixed.Goals as goal
 
 listed : (c : goal.After-list) → AreDutiesOf is_of_person c.args.k c.args.self.now c.list.result.now
 listed c =

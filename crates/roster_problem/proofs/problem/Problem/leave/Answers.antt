@@ -1,7 +1,7 @@
 use Rattle.std.proofs.Common.{length}
 use Rattle.roster_model.specs.records.Leave.{is_leave_of}
 use Rattle.roster_problem.proofs.Indexes.{positions_of_place}
-use Rattle.roster_problem.proofs.problem.Problem.leaves_of.Goals as goal
+use Rattle.roster_problem.proofs.problem.Problem.leave.Goals as goal
 
 pub returns : goal.returns
 returns c =
