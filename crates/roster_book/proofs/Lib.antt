@@ -15,3 +15,4 @@ pub mod SeenRecords
 pub mod Enumerated
 pub mod FirstFaultLemmas
 pub mod Tests
+pub mod Names

@@ -1,6 +1,7 @@
 //! The entries of tables by their names.
 
 ghost use Rattle.std.specs.Prelude.{◌≡◌, ◌<◌, IfSome, length};
+ghost use Rattle.std.specs.Str.{bytes_eq};
 ghost use Rattle.roster_model.specs.Record.{place_named};
 
 use roster_problem::{Base, Duty, Name, Pairing, Person};
@@ -48,13 +49,21 @@ impl Named for Duty {
     }
 }
 
+// Whether the text is the name. The names of a table mostly begin alike, so the last bytes are
+// compared before the others.
+#[tactic(auto, using(crate::proofs::Names::last_tells))]
+fn is_name(name: &Name, text: &[u8]) -> bool
+    ensures { result ≡ bytes_eq name.now text.now }
+{
+    let bytes = name.as_bytes();
+    bytes.last().copied() == text.last().copied() && bytes == text
+}
+
 /// The place of the entry with the name.
 #[tactic(auto, unfolding(roster_model::specs::Record::place_named))]
 pub(crate) fn place_of<T: Named>(entries: &[T], name: &[u8]) -> Option<usize>
     ensures value { result ≡ place_named T.id_of name.now entries.now }
     ensures within { IfSome result (λ place. place < length entries.now) }
 {
-    entries
-        .iter()
-        .position(|entry| entry.name().as_bytes() == name)
+    entries.iter().position(|entry| is_name(entry.name(), name))
 }
