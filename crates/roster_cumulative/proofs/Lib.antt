@@ -1,4 +1,7 @@
 pub mod OnDay
 pub mod InRun
 pub mod Flown
+pub mod Divided
+pub mod MonthFlight
+pub mod ListedFlight
 pub mod KeptLimits

@@ -11,12 +11,17 @@
 //! - `runs`: the minutes of days in a row
 //! - `sums`: both for duty and for flight
 //! - `limits`: the limits together
+//! - `laws`: what follows from the definitions of the month's flight
 #![tactic(auto)]
 
+mod laws;
 mod limits;
 mod runs;
 mod sums;
 mod table;
 
+pub use laws::{
+    flight_of_all, flight_of_duties, flight_of_one_pairing_more, one_list_of_each_duty,
+};
 pub use limits::cumulative_broken;
 pub use sums::{duty_flight, duty_on, flight_on, greatest_duty, greatest_flight, month_flight};

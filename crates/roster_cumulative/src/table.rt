@@ -60,7 +60,7 @@ fn add_sector(table: &mut [u64; MOST_DAYS], days: &BaseDays, sector: Sector)
 }
 
 /// Adds to each day the flight of the duty.
-pub(crate) fn add_flight(table: &mut [u64; MOST_DAYS], days: &BaseDays, duty: &Duty)
+fn add_flight(table: &mut [u64; MOST_DAYS], days: &BaseDays, duty: &Duty)
     requires light { IsLight (MOST_DUTIES - 1) table.old }
     ensures added { (i : ℕ) → slice_index table.new i ≡ slice_index table.old i
         + sums.flight_between duty.now (slice_index days.now.mid i) (slice_index days.now.mid (i + 1)) }

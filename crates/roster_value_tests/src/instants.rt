@@ -77,6 +77,7 @@ fn the_shortest_and_the_last_window(rt: HostRuntime) {
         assert!(rt; days.month_days() == month_days, "{text}");
         assert!(rt; days.days() == month_days + 49, "{text}");
         assert!(rt; days.month_start() == days.mid(35), "{text}");
+        assert!(rt; days.month_end() == days.mid(35 + month_days), "{text}");
     }
 }
 
