@@ -11,9 +11,12 @@ use Rattle.roster_book.specs.declared.command.Command.TheVariants as commands
 abbrev pub bare_app : App
 bare_app = new_app (codes "roster")
 
+abbrev pub demanding_app : App
+demanding_app = record bare_app { top = record bare_app.top { subcommand_required = true } }
+
 abbrev pub roster_app : App
-roster_app = with_subcommand (record bare_app { top = record bare_app.top { subcommand_required = true } })
-    (new_app (codes "solve")).top
+roster_app =
+    with_subcommand (with_subcommand demanding_app (new_app (codes "solve")).top) (new_app (codes "check")).top
 
 -- the subcommand in the words, by its name
 abbrev pub command_name : List (List ℕ) → Option (List ℕ)
@@ -22,6 +25,7 @@ command_name words = option_map (λ p. p.0) (subcommand_of roster_app words)
 -- how a command is spelled
 abbrev pub spelling : Command → List ℕ
 spelling commands.Solve = codes "solve"
+spelling commands.Check = codes "check"
 
 -- want of memory goes by its own name
 abbrev pub NamesMemory : LineFault → Type 0

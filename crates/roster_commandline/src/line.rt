@@ -1,8 +1,9 @@
 //! The command line.
 
-ghost use Rattle.std.specs.Prelude.{◌≡◌, ◌≢◌, true, false, IfOk, IfErr, Some, map, codes, []};
+ghost use Rattle.std.specs.Prelude.{◌≡◌, ◌≢◌, true, false, IfOk, IfErr, Some, map, []};
 ghost use Rattle.clap.specs.Words.{app_of, takes, fault_of, kind_of, HasKind, Kinds};
 ghost use Rattle.roster_commandline.specs.Line.{roster_app, command_name, spelling, NamesMemory, TellsKind};
+ghost use Rattle.roster_book.specs.declared.command.Command.{Command as Asked};
 ghost use Rattle.clap.specs.declared.builder.command.Command.TheViews.{out-Command as fields_of};
 
 use clap::error::ErrorKind;
@@ -41,10 +42,14 @@ fn roster<'a>(alloc: Global) -> Result<clap::Command<'a>, AllocError>
     let solve = clap::Command::new(alloc, "solve").about(
         "Writes the best roster of the book on standard input",
     );
+    let check = clap::Command::new(alloc, "check").about(
+        "Judges the roster that the book on standard input gives",
+    );
     clap::Command::new(alloc, "roster")
         .about("Rosters airline crew within the flight time limitations of ORO.FTL")
         .subcommand_required(true)
         .subcommand(solve)
+        .subcommand(check)
 }
 
 /// The command that the words ask for, and the number of workers, which is 1. The first word is the
@@ -59,8 +64,8 @@ pub fn read_line<'a, S: AsStr>(alloc: Global, words: &'a [S]) -> Result<(Command
     ensures kind { fault_of roster_app (map S.text words.entry.now) ≢ []
         → IfErr result (TellsKind (fault_of roster_app (map S.text words.entry.now))) }
     // Where clap takes the words and they name a command, only want of memory can come.
-    ensures taken { takes roster_app (map S.text words.entry.now) ≡ true
-        → command_name (map S.text words.entry.now) ≡ Some (codes "solve")
+    ensures taken { (command : Asked) → takes roster_app (map S.text words.entry.now) ≡ true
+        → command_name (map S.text words.entry.now) ≡ Some (spelling command)
         → IfErr result (λ e. e ≡ LineFault.Memory) }
 {
     let mut command = roster(alloc)?;
@@ -70,6 +75,7 @@ pub fn read_line<'a, S: AsStr>(alloc: Global, words: &'a [S]) -> Result<(Command
     };
     match matches.subcommand_name() {
         Some("solve") => Ok((Command::Solve, 1)),
+        Some("check") => Ok((Command::Check, 1)),
         _ => Err(LineFault::Refused(command.error(
             ErrorKind::InvalidSubcommand,
             "unknown command",

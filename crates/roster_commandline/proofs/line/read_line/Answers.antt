@@ -11,7 +11,7 @@ unfolding clap_on_literals
 is_free = refl
 
 pub returns-in-Err-clause-taken : goal.returns-in-Err-clause-taken
-returns-in-Err-clause-taken g c = λ takes_words names. c.refusal.ensures.memory
+returns-in-Err-clause-taken g c = λ command takes_words names. c.refusal.ensures.memory
     (c.in-Err.ensures.passes
     (ap (λ app. takes app (map g.S.AsStr.text c.args.words.now)) c.in_ok-command.ensures.app ∙ takes_words))
 
@@ -20,7 +20,12 @@ returns-in-Some-solve-clause-faultless g c =
     ap (λ app. fault_of app (map g.S.AsStr.text c.args.words.now)) (sym c.in_ok-command.ensures.app)
     ∙ c.in-Ok.ensures.kinds (ap is_simple_and_free c.in_ok-command.ensures.app ∙ is_free)
 
--- the clauses speak of words that there are: `solve` is taken and names its command,
+pub returns-in-Some-check-clause-faultless : goal.returns-in-Some-check-clause-faultless
+returns-in-Some-check-clause-faultless g c =
+    ap (λ app. fault_of app (map g.S.AsStr.text c.args.words.now)) (sym c.in_ok-command.ensures.app)
+    ∙ c.in-Ok.ensures.kinds (ap is_simple_and_free c.in_ok-command.ensures.app ∙ is_free)
+
+-- the clauses speak of words that there are: `solve` and `check` are taken and name their commands,
 takes_solve : takes roster_app (codes "roster" ∷ codes "solve" ∷ []) ≡ true
 unfolding clap_on_literals
 takes_solve = refl
@@ -28,6 +33,14 @@ takes_solve = refl
 named_solve : command_name (codes "roster" ∷ codes "solve" ∷ []) ≡ Some (codes "solve")
 unfolding clap_on_literals
 named_solve = refl
+
+takes_check : takes roster_app (codes "roster" ∷ codes "check" ∷ []) ≡ true
+unfolding clap_on_literals
+takes_check = refl
+
+named_check : command_name (codes "roster" ∷ codes "check" ∷ []) ≡ Some (codes "check")
+unfolding clap_on_literals
+named_check = refl
 
 -- and no command, or a call for help, is refused as such
 told_missing : fault_of roster_app (codes "roster" ∷ []) ≡ MissingSubcommand ∷ []
