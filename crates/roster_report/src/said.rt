@@ -1,6 +1,6 @@
 //! What is said of each person: what locks them, and what they break.
 
-ghost use Rattle.std.specs.Prelude.{◌≡◌, ◌<◌, ◌++◌, length, map, option_map, IfOk, OnOk};
+ghost use Rattle.std.specs.Prelude.{◌≡◌, ◌<◌, ◌≤◌, ◌++◌, length, map, option_map, IfOk, OnOk};
 ghost use Rattle.roster_model.specs.Places.{set_of};
 ghost use Rattle.roster_model.specs.Rosters.{AreVerdicts};
 ghost use Rattle.roster_model.specs.Rules.{AreLocks, IsVerdict};
@@ -9,6 +9,7 @@ ghost use Rattle.roster_problem.specs.View.{rule_of};
 
 use crate::words::{end_line, push_word};
 use roster_legal::{first_broken, locked};
+use roster_model::limits::MOST_PAIRINGS;
 use roster_problem::{Person, Problem, Rule, Set};
 use std::alloc::{AllocError, Global};
 
@@ -34,6 +35,7 @@ fn verdict_of(
 ) -> Result<Option<Rule>, AllocError>
     requires person { k < length problem.now.persons }
     requires covers { length places.now ≡ length problem.now.pairings }
+    requires limit { length places.now ≤ MOST_PAIRINGS }
     ensures { IfOk result (λ verdict.
         IsVerdict problem.now k (set_of k places.now) (option_map rule_of verdict)) }
 {

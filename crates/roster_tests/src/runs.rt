@@ -2,11 +2,14 @@
 
 ghost use Rattle.std.specs.Prelude.{IfOk, IfSome};
 ghost use Rattle.roster_model.specs.Answer.{IsAnswer, records_of};
-ghost use Rattle.roster_model.specs.Record.{Solve};
+ghost use Rattle.roster_book.specs.View.{command_of};
 
 use roster_book::{Command, Watched, duties_in_order};
 use roster_combine::{all_open_is_legal, has_best, one_best};
-use roster_legal::{has_locks, one_first_broken, one_list_of_locks, part_of_legal_is_legal};
+use roster_legal::{
+    has_locks, has_verdicts, one_first_broken, one_list_of_locks, one_list_of_verdicts,
+    part_of_legal_is_legal,
+};
 use roster_run::{Status, has_answer, one_answer, run};
 use std::alloc::{AllocError, Global};
 use std::test::Fail;
@@ -19,13 +22,17 @@ pub const REPORT: &[u8] =
 
 /// What a run over memory writes. That its clause is proved shows that a reader and a writer over
 /// memory meet all that `run` supposes of them.
-fn text_of(alloc: Global, book: &[u8]) -> Result<Option<Vec<u8>>, AllocError>
+fn text_of(
+    alloc: Global,
+    command: Command,
+    book: &[u8],
+) -> Result<Option<Vec<u8>>, AllocError>
     ensures { IfOk result (λ text. IfSome text (λ text.
-        IsAnswer Solve (records_of book.now) text.items)) }
+        IsAnswer (command_of command) (records_of book.now) text.items)) }
 {
     let mut reader = Watched::new(book);
     let mut writer = Watched::new(Vec::new(alloc));
-    match run(alloc, Command::Solve, &mut reader, &mut writer) {
+    match run(alloc, command, &mut reader, &mut writer) {
         Status::Answered | Status::Refused => {
             Ok(Some(Vec::from_slice(alloc, writer.inner().as_slice())?))
         }
@@ -35,8 +42,15 @@ fn text_of(alloc: Global, book: &[u8]) -> Result<Option<Vec<u8>>, AllocError>
 
 #[test]
 fn the_report_of_the_best_roster_is_written(rt: HostRuntime) -> Result<(), Fail> {
-    let text = text_of(rt.alloc(), BOOK)?.ok_or("a text")?;
+    let text = text_of(rt.alloc(), Command::Solve, BOOK)?.ok_or("a text")?;
     assert!(rt; text.as_slice() == REPORT);
+    Ok(())
+}
+
+#[test]
+fn what_a_check_says_is_written(rt: HostRuntime) -> Result<(), Fail> {
+    let text = text_of(rt.alloc(), Command::Check, BOOK)?.ok_or("a text")?;
+    assert!(rt; text.as_slice() == b"CHECK 2024-03\nCOST 100\nCREW A OK\nCREW B OK\n");
     Ok(())
 }
 
@@ -46,6 +60,8 @@ fn laws_can_be_called() {
     one_first_broken();
     one_list_of_locks();
     has_locks();
+    one_list_of_verdicts();
+    has_verdicts();
     part_of_legal_is_legal();
     one_best();
     has_best();

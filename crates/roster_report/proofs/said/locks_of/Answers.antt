@@ -1,7 +1,7 @@
 use Rattle.std.proofs.Common.{◌≡◌, ◌+◌, length, ap, sym, ◌∙◌, subst, arith}
 use Rattle.std.proofs.lemmas.List.{length_push}
 use Rattle.roster_model.specs.Rules.{IsLock}
-use Rattle.roster_report.proofs.Said.{SaidBefore, SaidBefore-more, AreOfEach-before}
+use Rattle.roster_report.proofs.OfPersons.{SaidBefore, SaidBefore-more, AreOfEach-before}
 use Rattle.roster_report.proofs.said.locks_of.Goals as goal
 
 pub loop-k-init : goal.loop-k-init

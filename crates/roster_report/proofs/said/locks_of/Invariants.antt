@@ -1,6 +1,6 @@
 use Rattle.std.proofs.Common.{◌≡◌, length}
 use Rattle.roster_model.specs.Rules.{IsLock}
-use Rattle.roster_report.proofs.Said.{SaidBefore}
+use Rattle.roster_report.proofs.OfPersons.{SaidBefore}
 use Rattle.roster_report.proofs.said.locks_of.Given as goal
 
 -- what locks the persons so far

@@ -1,6 +1,6 @@
 use Rattle.std.proofs.Common.{◌≡◌, length}
 use Rattle.roster_model.specs.Rosters.{IsVerdictIn}
-use Rattle.roster_report.proofs.Said.{SaidBefore}
+use Rattle.roster_report.proofs.OfPersons.{SaidBefore}
 use Rattle.roster_report.proofs.said.verdicts_of.Given as goal
 
 -- what the persons so far break
