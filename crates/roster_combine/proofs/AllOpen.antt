@@ -4,7 +4,8 @@ use Rattle.std.proofs.lemmas.Bool.{ne_eqb, cond-false}
 use Rattle.std.proofs.lemmas.List.{length-replicate}
 use Rattle.std.proofs.lemmas.List.Elements.{All-replicate}
 use Rattle.roster_model.specs.Problem.{Problem}
-use Rattle.roster_model.specs.Rosters.{IsLegalRoster, places_with}
+use Rattle.roster_model.specs.Places.{places_with}
+use Rattle.roster_model.specs.Rosters.{IsLegalRoster}
 
 -- a lesser number has no place among equal ones
 nowhere : (k p m n : ℕ) → k < n → places_with k p (replicate m n) ≡ []

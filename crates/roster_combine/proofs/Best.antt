@@ -4,7 +4,8 @@ use Rattle.std.proofs.Common.{◌≡◌, ℕ, zero, suc, ◌+◌, ◌<◌, ◌�
 use Rattle.std.proofs.lemmas.Bool.{cases_Bool, cases_lt}
 use Rattle.std.proofs.lemmas.List.{take_more, take_all, length-append}
 use Rattle.roster_model.specs.Problem.{Problem}
-use Rattle.roster_model.specs.Rosters.{IsLegalRoster, IsBest, Key, key_of, key_le, cost_of}
+use Rattle.roster_model.specs.Costs.{cost_of}
+use Rattle.roster_model.specs.Rosters.{IsLegalRoster, IsBest, Key, key_of, key_le}
 use Rattle.roster_combine.specs.Settled.{IsHeld, Settles}
 use Rattle.roster_combine.proofs.Settles.{Settles-nothing, Settles-then, Settles-taken, Settles-left, Settles-illegal}
 use Rattle.roster_combine.proofs.AllOpen.{all_open_legal}

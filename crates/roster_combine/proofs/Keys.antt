@@ -7,7 +7,8 @@ use Rattle.std.proofs.lemmas.Cmp.{same_from_slice_cmp_tested, int_ranked}
 use Rattle.std.specs.Ordering.{is_some_and, MatchOrdering}
 use Rattle.std.specs.Cmp.Lexicographic.{slice_partial_cmp}
 use Rattle.std.proofs.lemmas.Int.{ints}
-use Rattle.roster_model.specs.Rosters.{Key, places_le, key_le}
+use Rattle.roster_model.specs.Places.{places_le}
+use Rattle.roster_model.specs.Rosters.{Key, key_le}
 
 -- ---- the lists
 

@@ -2,7 +2,8 @@
 use Rattle.std.proofs.Common.{◌≡◌, ℕ, ◌+◌, ◌<◌, ◌⊎◌, true, false, List, [], ◌∷◌, ◌++◌, length, get_or, take, set, ℤ, inl, inr, sym, ap, ap₂, ◌∙◌, subst, arith}
 use Rattle.std.proofs.lemmas.List.{take_more, take_more_set, take-take}
 use Rattle.roster_model.specs.Problem.{Problem}
-use Rattle.roster_model.specs.Rosters.{IsLegalRoster, cost_of, Key, key_of, key_le}
+use Rattle.roster_model.specs.Costs.{cost_of}
+use Rattle.roster_model.specs.Rosters.{IsLegalRoster, Key, key_of, key_le}
 use Rattle.roster_combine.specs.Settled.{IsHeld, Settles}
 use Rattle.roster_combine.proofs.Keys.{key_le-refl, key_le-trans, key_le-other}
 

@@ -1,7 +1,8 @@
 -- What a search has settled.
 use Rattle.std.specs.Prelude.{◌≡◌, ℕ, true, List}
 use Rattle.roster_model.specs.Problem.{Problem}
-use Rattle.roster_model.specs.Rosters.{IsLegalRoster, cost_of, Key, key_of, key_le}
+use Rattle.roster_model.specs.Costs.{cost_of}
+use Rattle.roster_model.specs.Rosters.{IsLegalRoster, Key, key_of, key_le}
 
 -- the key is that of a legal roster
 pub record IsHeld (problem : Problem) (key : Key) : Type 0 where

@@ -1,7 +1,9 @@
 //! Whether a list of places is a legal roster, and what it costs.
 
 ghost use Rattle.std.specs.Prelude.{◌≡◌, ◌^◌, ◌≤◌, ◌<◌, ◌==◌, ◌↔◌, All, IfOk, IsTrue, if◌then◌else◌, length};
-ghost use Rattle.roster_model.specs.Rosters as model;
+ghost use Rattle.roster_model.specs.Costs as costs;
+ghost use Rattle.roster_model.specs.Places as model;
+ghost use Rattle.roster_model.specs.Rosters.{IsLegalRoster};
 
 use roster_legal::is_legal;
 use roster_model::limits::MOST_PERSONS;
@@ -25,7 +27,7 @@ pub(crate) fn is_legal_roster(
     requires covers { length places.now ≡ length problem.now.pairings }
     requires numbers { All (λ x. x ≤ length problem.now.persons) places.now }
     ensures { IfOk result (λ legal. IsTrue legal
-        ↔ model.IsLegalRoster problem.now places.now) }
+        ↔ IsLegalRoster problem.now places.now) }
 {
     for k in 0..problem.persons().len() {
         let set = Set::of_places(places, k);
@@ -51,7 +53,7 @@ fn penalty_if_open(nobody: u16, pairing: &Pairing, place: u16) -> u64
 /// What the roster costs: the sum of the penalties of the pairings that are left open.
 pub(crate) fn cost_of(problem: &Problem, places: &[u16]) -> i64
     requires { length places.now ≡ length problem.now.pairings }
-    ensures { result ≡ model.cost_of problem.now places.now }
+    ensures { result ≡ costs.cost_of problem.now places.now }
 {
     let nobody = open_number(problem);
     let pairings = problem.pairings();

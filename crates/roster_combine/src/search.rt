@@ -1,7 +1,8 @@
 //! The search through all lists of places.
 
 ghost use Rattle.std.specs.Prelude.{◌≡◌, ◌≤◌, All, IfOk, OnOk, length, take};
-ghost use Rattle.roster_model.specs.Rosters.{IsBest, cost_of};
+ghost use Rattle.roster_model.specs.Costs.{cost_of};
+ghost use Rattle.roster_model.specs.Rosters.{IsBest};
 ghost use Rattle.roster_combine.specs.Settled.{IsHeld, Settles};
 
 use crate::incumbent::Incumbent;

@@ -3,4 +3,4 @@ pub mod Apart
 pub mod OffLeave
 pub mod Parts
 pub mod FirstBroken
-pub mod Locks
+pub mod EachPerson

@@ -2,6 +2,7 @@
 
 ghost use Rattle.std.specs.Prelude.{◌≡◌, ℕ, true, List, Option};
 ghost use Rattle.roster_model.specs.Problem.{Problem as Tables};
+ghost use Rattle.roster_model.specs.Rosters.{AreVerdicts};
 ghost use Rattle.roster_model.specs.Rules.{is_among, AreLocks, IsFirstBroken, IsLegal, Rule};
 ghost use Rattle.roster_problem.specs.Duties.{AreTimed, IsInOrder};
 
@@ -21,6 +22,18 @@ pub fn one_list_of_locks()
 /// decide, so nothing more than that is said.
 pub fn has_locks()
     ensures { (problem : Tables) → ¬ ¬ ((locks : List (Option Rule)) × AreLocks problem locks) }
+{}
+
+/// What each person breaks with their set of a list of places is one list at most.
+pub fn one_list_of_verdicts()
+    ensures { (problem : Tables) (places : List ℕ) (a b : List (Option Rule))
+        → AreVerdicts problem places a → AreVerdicts problem places b → a ≡ b }
+{}
+
+/// There is a list of what each person breaks: there can't be none.
+pub fn has_verdicts()
+    ensures { (problem : Tables) (places : List ℕ)
+        → ¬ ¬ ((verdicts : List (Option Rule)) × AreVerdicts problem places verdicts) }
 {}
 
 /// What is part of a legal set is legal, where the duties are in their order in time.

@@ -19,5 +19,8 @@ mod listing;
 mod overlap;
 
 pub use judge::{first_broken, is_legal, locked};
-pub use laws::{has_locks, one_first_broken, one_list_of_locks, part_of_legal_is_legal};
+pub use laws::{
+    has_locks, has_verdicts, one_first_broken, one_list_of_locks, one_list_of_verdicts,
+    part_of_legal_is_legal,
+};
 pub use listing::merge;

@@ -8,7 +8,7 @@ use Rattle.std.proofs.lemmas.List.{take_more, length-take-le}
 use Rattle.std.proofs.lemmas.Bool.{ne_eqb}
 use Rattle.std.proofs.lemmas.Bool.Decides.{nat_tests}
 use Rattle.roster_model.specs.Rules.{is_among}
-use Rattle.roster_model.specs.Rosters.{places_with, set_of}
+use Rattle.roster_model.specs.Places.{places_with, set_of}
 
 -- one element that is in the list or not
 list_any-cond : (b : Bool) (test : ℕ → Bool) (p : ℕ) (rest : List ℕ) → list_any test (cond b (p ∷ rest) rest) ≡ ((b && test p) || list_any test rest)

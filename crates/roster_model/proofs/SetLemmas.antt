@@ -7,7 +7,7 @@ use Rattle.std.proofs.lemmas.List.Elements.{All-nil, All-cons, All-head, All-tai
 use Rattle.std.proofs.lemmas.List.Folds.{list_any_at, list_any-append, Any-from_list_any}
 use Rattle.std.proofs.lemmas.Map.Views.{any-filter_same}
 use Rattle.roster_model.specs.Rules.{is_among}
-use Rattle.roster_model.specs.Rosters.{places_with, set_of}
+use Rattle.roster_model.specs.Places.{places_with, set_of}
 use Rattle.roster_model.proofs.PlacesLemmas.{is_among-set_of_past}
 
 -- ---- ascending lists

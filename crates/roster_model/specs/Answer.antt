@@ -1,20 +1,46 @@
 -- What the program answers to the records of a book. What `csv` makes of bytes enters the definitions
 -- here and nowhere else.
-use Rattle.std.specs.Prelude.{◌≡◌, ◌⊎◌, ℕ, List, Some, None}
+use Rattle.std.specs.Prelude.{◌≡◌, ◌⊎◌, ℕ, List, Some, None, slice_get}
 use Rattle.csv.specs.Reading.{records, default_config, strip_bom}
-use Rattle.roster_model.specs.Record.{Record, Command, Solve}
+use Rattle.roster_model.specs.Record.{Record, Command, Solve, Check}
+use Rattle.roster_model.specs.Code.{TooManyLines}
+use Rattle.roster_model.specs.records.Assign.{assigned_in}
+use Rattle.roster_model.specs.records.Crew.{Person}
 use Rattle.roster_model.specs.Problem.{Problem, problem_of}
-use Rattle.roster_model.specs.Faults.{Fault, first_fault}
+use Rattle.roster_model.specs.Faults.{Fault, fault_at, first_fault}
 use Rattle.roster_model.specs.Rosters.{IsBest}
-use Rattle.roster_model.specs.Texts.{IsReportOf, fault_text}
+use Rattle.roster_model.specs.Lines.{IsFirstCrowded}
+use Rattle.roster_model.specs.Texts.{IsReportOf, IsCheckOf, fault_text}
 
 -- the records that `csv` gives for the bytes: no header row, and any number of fields
 abbrev pub records_of : List ℕ → List Record
 records_of bytes = records default_config (strip_bom bytes)
 
+-- ---- faults
+
+-- the fault tells the first person who has more lines than there may be
+pub record IsCrowdedFault (problem : Problem) (fault : Fault) : Type 0 where
+  pub k : ℕ
+  pub person : Person
+  pub there : slice_get problem.persons k ≡ Some person
+  pub crowded : IsFirstCrowded problem k
+  pub told : fault ≡ fault_at person.row TooManyLines
+
+-- the fault that the command tells of a problem: who solves it makes all lines
+abbrev pub IsProblemFault : Command → Problem → Fault → Type 0
+IsProblemFault Solve problem fault = IsCrowdedFault problem fault
+IsProblemFault Check problem fault = ⊥
+
+-- a fault of the problem, where no record has one
+pub record IsLaterFault (command : Command) (book : List Record) (fault : Fault) : Type 0 where
+  pub faultless : first_fault command book ≡ None
+  pub later : IsProblemFault command (problem_of book) fault
+
 -- the fault that is told of a book
 abbrev pub IsFirstFault : Command → List Record → Fault → Type 0
-IsFirstFault command records fault = first_fault command records ≡ Some fault
+IsFirstFault command book fault = (first_fault command book ≡ Some fault) ⊎ IsLaterFault command book fault
+
+-- ---- answers
 
 -- the text is the report of a best roster of the problem
 pub record IsBestReport (problem : Problem) (text : List ℕ) : Type 0 where
@@ -22,14 +48,15 @@ pub record IsBestReport (problem : Problem) (text : List ℕ) : Type 0 where
   pub best : IsBest problem places
   pub written : IsReportOf problem places text
 
--- the text is what the command reports of the problem
-abbrev pub Reports : Command → Problem → List ℕ → Type 0
-Reports Solve problem text = IsBestReport problem text
+-- the text is what the command reports of a problem, and of the roster that the book gives
+abbrev pub Reports : Command → Problem → List ℕ → List ℕ → Type 0
+Reports Solve problem places text = IsBestReport problem text
+Reports Check problem places text = IsCheckOf problem places text
 
 -- the book has no fault, and the text is what the command reports of it
 pub record IsReport (command : Command) (book : List Record) (text : List ℕ) : Type 0 where
-  pub faultless : first_fault command book ≡ None
-  pub reports : Reports command (problem_of book) text
+  pub faultless : (fault : Fault) → ¬ IsFirstFault command book fault
+  pub reports : Reports command (problem_of book) (assigned_in book) text
 
 -- the text tells the first fault of the book
 pub record IsRefusal (command : Command) (book : List Record) (text : List ℕ) : Type 0 where

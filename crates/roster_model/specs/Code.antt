@@ -30,6 +30,8 @@ pub data Code : Type 0 where
   Busy : Code
   -- a pairing has no duty
   NoDuty : Code
+  -- a person has more legal sets than there may be
+  TooManyLines : Code
 
 -- how a code is told
 abbrev pub number_of_code : Code → ℕ
@@ -47,6 +49,7 @@ number_of_code NoRoom = 11
 number_of_code WrongStart = 12
 number_of_code Busy = 13
 number_of_code NoDuty = 14
+number_of_code TooManyLines = 15
 
 -- the code of the first condition that isn't met
 abbrev pub first_unmet : List (Code × Bool) → Option Code

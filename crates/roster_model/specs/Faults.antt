@@ -1,9 +1,10 @@
 -- The code of a record, by its kind and the records before it, and the first fault of a book.
 use Rattle.std.specs.Prelude.{◌≡◌, ℕ, Bool, not, ◌&&◌, ◌==◌, if◌then◌else◌, List, [], ◌∷◌, ◌++◌, length, Option, Some, None, option_map}
 use Rattle.std.specs.List.{list_any, find, enumerate_from}
-use Rattle.roster_model.specs.Record.{Record, Kind, PeriodRecord, BaseRecord, CrewRecord, PairingRecord, DutyRecord, SectorRecord, LeaveRecord, Command, kinds_of, is_of, next_row}
+use Rattle.roster_model.specs.Record.{Record, Kind, PeriodRecord, WeightRecord, BaseRecord, CrewRecord, PairingRecord, DutyRecord, SectorRecord, LeaveRecord, CostRecord, AssignRecord, Command, kinds_of, is_of, next_row}
 use Rattle.roster_model.specs.Code.{Code, NoPeriod, UnknownKind, NoDuty, number_of_code, first_unmet}
 use Rattle.roster_model.specs.records.Period as period
+use Rattle.roster_model.specs.records.Weight as weight
 use Rattle.roster_model.specs.records.Base as base
 use Rattle.roster_model.specs.records.Crew as crew
 use Rattle.roster_model.specs.records.Pairing as pairing
@@ -11,6 +12,8 @@ use Rattle.roster_model.specs.records.Pairing.{Pairing}
 use Rattle.roster_model.specs.records.Duty as duty
 use Rattle.roster_model.specs.records.Sector as sector
 use Rattle.roster_model.specs.records.Leave as leave
+use Rattle.roster_model.specs.records.Cost as cost
+use Rattle.roster_model.specs.records.Assign as assign
 use Rattle.roster_model.specs.Problem.{Problem, tables_in, problem_of}
 use Rattle.roster_model.specs.Busy.{is_busy}
 
@@ -19,12 +22,15 @@ use Rattle.roster_model.specs.Busy.{is_busy}
 -- what a record of the kind has to meet, by code
 abbrev pub conditions_of : Kind → List Record → Record → List (Code × Bool)
 conditions_of PeriodRecord before fields = period.conditions before fields
+conditions_of WeightRecord before fields = weight.conditions before fields
 conditions_of BaseRecord before fields = base.conditions before fields
 conditions_of CrewRecord before fields = crew.conditions before fields
 conditions_of PairingRecord before fields = pairing.conditions before fields
 conditions_of DutyRecord before fields = duty.conditions (is_busy (tables_in before)) before fields
 conditions_of SectorRecord before fields = sector.conditions before fields
 conditions_of LeaveRecord before fields = leave.conditions (is_busy (tables_in before)) before fields
+conditions_of CostRecord before fields = cost.conditions before fields
+conditions_of AssignRecord before fields = assign.conditions before fields
 
 unfoldable pub code_of_kind : Kind → List Record → Record → Option Code
 code_of_kind kind before fields = first_unmet (conditions_of kind before fields)

@@ -9,8 +9,11 @@ pub mod records
 pub mod Problem
 pub mod Busy
 pub mod Faults
-pub mod Rules
-pub mod Rosters
 pub mod Sums
+pub mod Rules
+pub mod Places
+pub mod Costs
+pub mod Rosters
+pub mod Lines
 pub mod Texts
 pub mod Answer

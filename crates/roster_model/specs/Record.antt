@@ -26,33 +26,49 @@ minute_of text = unwrap_or (instant_of text) 0
 -- what a record is about
 pub data Kind : Type 0 where
   PeriodRecord : Kind
+  WeightRecord : Kind
   BaseRecord : Kind
   CrewRecord : Kind
   PairingRecord : Kind
   DutyRecord : Kind
   SectorRecord : Kind
   LeaveRecord : Kind
+  CostRecord : Kind
+  AssignRecord : Kind
 
 -- the word in the first field
 abbrev pub word_of : Kind → List ℕ
 word_of PeriodRecord = codes "period"
+word_of WeightRecord = codes "weight"
 word_of BaseRecord = codes "base"
 word_of CrewRecord = codes "crew"
 word_of PairingRecord = codes "pairing"
 word_of DutyRecord = codes "duty"
 word_of SectorRecord = codes "sector"
 word_of LeaveRecord = codes "leave"
+word_of CostRecord = codes "cost"
+word_of AssignRecord = codes "assign"
 
 abbrev pub is_of : Kind → Record → Bool
 is_of kind fields = bytes_eq (field fields 0) (word_of kind)
 
 -- what the program is asked to do
 pub data Command : Type 0 where
+  -- to find the best roster
   Solve : Command
+  -- to judge the roster that the book gives
+  Check : Command
+
+-- the kinds that a book for every command may have
+abbrev pub common_kinds : List Kind
+common_kinds =
+    PeriodRecord ∷ WeightRecord ∷ BaseRecord ∷ CrewRecord ∷ PairingRecord ∷ DutyRecord ∷ SectorRecord
+    ∷ LeaveRecord ∷ CostRecord ∷ []
 
 -- the kinds that a book for the command may have
 abbrev pub kinds_of : Command → List Kind
-kinds_of Solve = PeriodRecord ∷ BaseRecord ∷ CrewRecord ∷ PairingRecord ∷ DutyRecord ∷ SectorRecord ∷ LeaveRecord ∷ []
+kinds_of Solve = common_kinds
+kinds_of Check = common_kinds ++ AssignRecord ∷ []
 
 -- ---- tables
 

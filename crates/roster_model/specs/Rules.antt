@@ -6,7 +6,7 @@ pub mod Leave
 pub mod Rest
 pub mod Recovery
 pub mod Limits
-use Rattle.std.specs.Prelude.{◌≡◌, ◌<◌, ◌⊎◌, ℕ, Bool, ◌==◌, List, [], length, Option, Some, None, slice_get, codes}
+use Rattle.std.specs.Prelude.{◌≡◌, ◌<◌, ◌⊎◌, ℕ, Bool, ◌==◌, List, [], ◌∷◌, length, Option, Some, None, slice_get, codes}
 use Rattle.std.specs.List.{filter, list_any}
 use Rattle.roster_model.specs.records.Duty.{Duty, Holder, OfPairing, OfPerson}
 use Rattle.roster_model.specs.Calendar.{Days}
@@ -110,12 +110,22 @@ IsFirstFailing Says (Some broken) =
 abbrev pub IsFirstBroken : Problem → ℕ → List ℕ → Option Rule → Type 0
 IsFirstBroken problem k set broken = IsFirstFailing (Holds problem k set) broken
 
+-- What is said of person k with the set: nothing where the set is legal, and else the first rule that is
+-- broken.
+abbrev pub IsVerdict : Problem → ℕ → List ℕ → Option Rule → Type 0
+IsVerdict problem k [] verdict = verdict ≡ None
+IsVerdict problem k (p ∷ set) verdict = IsFirstBroken problem k (p ∷ set) verdict
+
 -- What locks person k: the first rule that is broken without any pairing. A locked person can only be
 -- left without pairings.
 abbrev pub IsLock : Problem → ℕ → Option Rule → Type 0
 IsLock problem k lock = IsFirstBroken problem k [] lock
 
--- what locks each person, in book order
-pub record AreLocks (problem : Problem) (locks : List (Option Rule)) : Type 0 where
-  pub covers : length locks ≡ length problem.persons
-  pub each : (k : ℕ) (lock : Option Rule) → slice_get locks k ≡ Some lock → IsLock problem k lock
+-- for each person, in book order, a rule or none, of which this is said
+pub record AreOfEach (Says : ℕ → Option Rule → Type 0) (problem : Problem) (rules : List (Option Rule)) : Type 0 where
+  pub covers : length rules ≡ length problem.persons
+  pub each : (k : ℕ) (rule : Option Rule) → slice_get rules k ≡ Some rule → Says k rule
+
+-- what locks each person
+abbrev pub AreLocks : Problem → List (Option Rule) → Type 0
+AreLocks problem locks = AreOfEach (IsLock problem) problem locks

@@ -8,7 +8,9 @@ use Rattle.roster_model.specs.records.Duty.{Duty}
 use Rattle.roster_model.specs.Problem.{Problem, home_of, pairing_name}
 use Rattle.roster_model.specs.Faults.{Fault}
 use Rattle.roster_model.specs.Rules.{Rule, AreLocks, duty_list, word_of_rule}
-use Rattle.roster_model.specs.Rosters.{set_of, open_number, cost_of}
+use Rattle.roster_model.specs.Places.{set_of, open_number}
+use Rattle.roster_model.specs.Costs.{cost_of}
+use Rattle.roster_model.specs.Rosters.{AreVerdicts}
 use Rattle.roster_model.specs.Sums.{greatest_duty, greatest_flight, month_flight}
 
 abbrev pub line_of : List (List ℕ) → List ℕ
@@ -41,21 +43,33 @@ abbrev pub lock_line : Person → Option Rule → List ℕ
 lock_line person None = []
 lock_line person (Some rule) = line_of (codes "LOCKED" ∷ person.id ∷ word_of_rule rule ∷ [])
 
--- what locks the person at place k, of what locks each person
-abbrev pub lock_at : List (Option Rule) → ℕ → Option Rule
-lock_at locks k = unwrap_or (slice_get locks k) None
+-- the rule that a list tells of the person at place k, if it tells one
+abbrev pub rule_at : List (Option Rule) → ℕ → Option Rule
+rule_at rules k = unwrap_or (slice_get rules k) None
+
+-- a line for each person, and where one is locked the line of that behind it
+abbrev pub person_lines : (ℕ → Person → List ℕ) → Problem → List (Option Rule) → List ℕ
+person_lines line problem locks =
+    flat_map (λ (entry : ℕ × Person). line entry.0 entry.1 ++ lock_line entry.1 (rule_at locks entry.0))
+    (enumerate_from 0 problem.persons)
+
+-- the line of the month, behind the word that tells the report, and the line of a roster's cost
+abbrev pub heading : List ℕ → Problem → List ℕ → List ℕ
+heading word problem places =
+    line_of (word ∷ period_text problem.period ∷ [])
+    ++ line_of (codes "COST" ∷ signed_decimal (cost_of problem places) ∷ [])
+
+-- ---- the report of a roster
 
 -- the lines of all persons, each with what locks them and with their set of a roster
 unfoldable pub crew_lines : Problem → List (Option Rule) → List ℕ → List ℕ
 crew_lines problem locks places =
-    flat_map (λ (entry : ℕ × Person). crew_line problem (set_of entry.0 places) entry.0 entry.1 ++ lock_line entry.1 (lock_at locks entry.0))
-    (enumerate_from 0 problem.persons)
+    person_lines (λ k person. crew_line problem (set_of k places) k person) problem locks
 
 -- the report of a roster, where this locks each person
 unfoldable pub report_text : Problem → List (Option Rule) → List ℕ → List ℕ
 report_text problem locks places =
-    line_of (codes "ROSTER" ∷ period_text problem.period ∷ [])
-    ++ line_of (codes "COST" ∷ signed_decimal (cost_of problem places) ∷ [])
+    heading (codes "ROSTER") problem places
     ++ crew_lines problem locks places
     ++ line_of (codes "OPEN" ∷ names_of problem (set_of (open_number problem) places))
 
@@ -65,6 +79,36 @@ pub record IsReportOf (problem : Problem) (places : List ℕ) (text : List ℕ) 
   pub locked : AreLocks problem locks
   pub written : text ≡ report_text problem locks places
 
--- the line of a fault
+-- ---- what a check says of a roster
+
+-- the word of the rule that a person breaks, and of one who breaks none
+abbrev pub verdict_word : Option Rule → List ℕ
+verdict_word None = codes "OK"
+verdict_word (Some rule) = word_of_rule rule
+
+-- the line of a person
+abbrev pub verdict_line : Person → Option Rule → List ℕ
+verdict_line person verdict = line_of (codes "CREW" ∷ person.id ∷ verdict_word verdict ∷ [])
+
+-- the lines of all persons, each with what locks them and with what they break
+unfoldable pub verdict_lines : Problem → List (Option Rule) → List (Option Rule) → List ℕ
+verdict_lines problem locks verdicts =
+    person_lines (λ k person. verdict_line person (rule_at verdicts k)) problem locks
+
+-- what is said of a roster, where this locks each person, and that is what they break
+unfoldable pub check_text : Problem → List (Option Rule) → List (Option Rule) → List ℕ → List ℕ
+check_text problem locks verdicts places =
+    heading (codes "CHECK") problem places ++ verdict_lines problem locks verdicts
+
+-- the text says of the roster what locks each person and what they break
+pub record IsCheckOf (problem : Problem) (places : List ℕ) (text : List ℕ) : Type 0 where
+  pub locks : List (Option Rule)
+  pub locked : AreLocks problem locks
+  pub verdicts : List (Option Rule)
+  pub judged : AreVerdicts problem places verdicts
+  pub written : text ≡ check_text problem locks verdicts places
+
+-- ---- the line of a fault
+
 unfoldable pub fault_text : Fault → List ℕ
 fault_text fault = line_of (codes "FAULT" ∷ decimal fault.row ∷ decimal fault.code ∷ [])

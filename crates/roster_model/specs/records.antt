@@ -1,7 +1,10 @@
 pub mod Period
+pub mod Weight
 pub mod Base
 pub mod Crew
 pub mod Pairing
 pub mod Duty
 pub mod Sector
 pub mod Leave
+pub mod Cost
+pub mod Assign

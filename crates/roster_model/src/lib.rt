@@ -20,7 +20,10 @@
 //! - `Faults`: the code of a record, and the first fault of all
 //! - `Sums`: duty and flight by local day, in runs of days, and in the month
 //! - `Rules`: which sets of pairings are legal for a person
-//! - `Rosters`: legal rosters, their cost and order, and the best one
+//! - `Places`: who flies what
+//! - `Costs`: what sets and rosters cost
+//! - `Rosters`: legal rosters, their order, and the best one
+//! - `Lines`: the legal sets of a person, in order
 //! - `Texts`: the lines that are written
 //! - `Answer`: the records of the bytes, and the text that answers them
 #![tactic(auto)]

@@ -27,20 +27,36 @@ pub const MOST_SECTORS: usize = 16384;
 /// The leaves of a book, at most.
 pub const MOST_LEAVES: usize = 1024;
 
-/// The records of a book without a fault, at most: a period, and of each other kind its limit.
+/// The costs of a book, at most.
+pub const MOST_COSTS: usize = 16384;
+
+/// The records of a book without a fault, at most: a period, a weight, of each pairing an assignment,
+/// and of each other kind its limit.
 pub const MOST_RECORDS: usize = 1
+    + 1
     + MOST_BASES
     + MOST_PERSONS
     + MOST_PAIRINGS
     + MOST_DUTIES
     + MOST_SECTORS
-    + MOST_LEAVES;
+    + MOST_LEAVES
+    + MOST_COSTS
+    + MOST_PAIRINGS;
+
+/// The legal sets of a person, at most.
+pub const MOST_LINES: usize = 60_000;
 
 /// The minutes of a target, and of what was flown before the month, at most.
 pub const MOST_MINUTES: u32 = 60_000;
 
 /// What it costs to leave a pairing open, at most.
 pub const MOST_PENALTY: u32 = 1_000_000_000;
+
+/// What it costs that a person flies a pairing, at most, and what it saves, at most.
+pub const MOST_UNITS: u32 = 1_000_000_000;
+
+/// What it costs that a person's flight misses the target by a minute, at most.
+pub const MOST_WEIGHT: u32 = 1_000_000_000;
 
 /// The days of the window before the month's first day.
 pub const DAYS_BEFORE: usize = 35;

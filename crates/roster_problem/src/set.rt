@@ -3,7 +3,7 @@
 ghost use Rattle.std.specs.Prelude.{◌≡◌, ◌+◌, ◌^◌, ◌<◌, ◌≤◌, ◌↔◌, ◌||◌, ◌==◌, ◌++◌, ◌∷◌, ℕ, true, false, [], IsTrue, IsOkAnd, IfSome, MatchOption, All, length};
 ghost use Rattle.std.specs.List.Sorted.{IsStrictlyIncreasing};
 ghost use Rattle.roster_model.specs.Rules.{is_among};
-ghost use Rattle.roster_model.specs.Rosters.{set_of};
+ghost use Rattle.roster_model.specs.Places.{set_of};
 ghost use Rattle.roster_problem.specs.Set.{has_bit, places_from, with_place, IsFirstInWord};
 
 use roster_model::limits::MOST_PAIRINGS;

@@ -2,4 +2,4 @@ pub mod Appends
 pub mod PeriodText
 pub mod LineOf
 pub mod NamesOf
-pub mod AreLocks
+pub mod Said

@@ -6,7 +6,7 @@ use Rattle.std.proofs.lemmas.Bool.{ne_eqb}
 use Rattle.std.proofs.lemmas.List.Concat.{flat_map-append}
 use Rattle.roster_model.specs.Problem.{Problem, pairing_name}
 use Rattle.roster_model.specs.records.Pairing.{Pairing}
-use Rattle.roster_model.specs.Rosters.{set_of}
+use Rattle.roster_model.specs.Places.{set_of}
 use Rattle.roster_model.proofs.PlacesLemmas.{set_of-take_more}
 use Rattle.roster_report.specs.Words.{spaced, further}
 

@@ -1,11 +1,13 @@
-//! The two texts that the program writes: the report of a roster, and the line of a fault.
+//! The three texts that the program writes: the report of a roster, what a check says of one, and the
+//! line of a fault.
 //!
 //! Each is whole in memory before its first byte is written. So where memory runs out, nothing is
 //! written, and where the writer fails, a prefix of the text. In reading order:
 //!
 //! - `report`: the report of a roster, written whole
-//! - `lines`: its lines
-//! - `locks`: what locks persons
+//! - `check`: what a check says of a roster, written whole
+//! - `lines`: their lines
+//! - `said`: what locks persons, and what they break
 //! - `names`: the names of the pairings of one number
 //! - `words`: words and numbers behind one another
 //! - `fault_line`: the line of a fault, written whole
@@ -13,15 +15,17 @@
 //! - `fault`: why a text was not written
 #![tactic(auto)]
 
+mod check;
 mod device;
 mod fault;
 mod fault_line;
 mod lines;
-mod locks;
 mod names;
 mod report;
+mod said;
 mod words;
 
+pub use check::write_check;
 pub use fault::TextFault;
 pub use fault_line::write_fault;
 pub use report::write_report;

@@ -3,15 +3,15 @@
 ghost use Rattle.std.specs.Prelude.{◌≡◌, ◌≤◌, ◌<◌, ◌∷◌, [], ◌++◌, Some, length, slice_get, string_bytes, codes, map, option_map, IfOk, OnOk};
 ghost use Rattle.std.specs.Fmt.{decimal, signed_decimal};
 ghost use Rattle.roster_model.specs.Problem.{home_of};
-ghost use Rattle.roster_model.specs.Rosters.{set_of, open_number};
+ghost use Rattle.roster_model.specs.Places.{set_of, open_number};
 ghost use Rattle.roster_model.specs.Rules.{duty_list};
 ghost use Rattle.roster_model.specs.Texts as texts;
 ghost use Rattle.roster_model.specs.Texts.{line_of, names_of};
 ghost use Rattle.roster_problem.specs.View.{rule_of};
 ghost use Rattle.roster_report.specs.Words.{further};
 
-use crate::locks::push_lock;
 use crate::names::push_names;
+use crate::said::{push_lock, push_verdict};
 use crate::words::{end_line, push_number, push_signed, push_word};
 use roster_cumulative::{greatest_duty, greatest_flight, month_flight};
 use roster_instants::{BaseDays, Period};
@@ -30,17 +30,18 @@ fn period_text(alloc: Global, period: Period) -> Result<String, AllocError>
     format!(in alloc; "{year}-{tens}{ones}")
 }
 
-/// Appends the line of the month.
+/// Appends the line of the month, behind the word that tells what follows.
 pub(crate) fn push_heading(
     alloc: Global,
     out: &mut Vec<u8>,
+    word: &[u8],
     period: Period,
 ) -> Result<(), AllocError>
     ensures { OnOk result (out.new.items
-        ≡ out.old.items ++ line_of (codes "ROSTER" ∷ texts.period_text period ∷ [])) }
+        ≡ out.old.items ++ line_of (word.now ∷ texts.period_text period ∷ [])) }
 {
     let month = period_text(alloc, period)?;
-    out.extend_from_slice(b"ROSTER")?;
+    out.extend_from_slice(word)?;
     push_word(out, month.as_bytes())?;
     end_line(out)
 }
@@ -139,6 +140,26 @@ pub(crate) fn push_crews(
 {
     for (k, person) in problem.persons().iter().enumerate() {
         push_crew(alloc, out, problem, places, k, person)?;
+        push_lock(out, person, locks[k])?;
+    }
+    Ok(())
+}
+
+/// Appends the lines of what all persons break, in book order, each with what locks them.
+#[tactic(auto, unfolding(roster_model::specs::Texts::verdict_lines))]
+pub(crate) fn push_verdicts(
+    out: &mut Vec<u8>,
+    problem: &Problem,
+    locks: &[Option<Rule>],
+    verdicts: &[Option<Rule>],
+) -> Result<(), AllocError>
+    requires locks { length locks.now ≡ length problem.now.persons }
+    requires verdicts { length verdicts.now ≡ length problem.now.persons }
+    ensures { OnOk result (out.new.items ≡ out.old.items ++ texts.verdict_lines problem.now
+        (map (option_map rule_of) locks.now) (map (option_map rule_of) verdicts.now)) }
+{
+    for (k, person) in problem.persons().iter().enumerate() {
+        push_verdict(out, person, verdicts[k])?;
         push_lock(out, person, locks[k])?;
     }
     Ok(())

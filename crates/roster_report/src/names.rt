@@ -1,7 +1,7 @@
 //! The names of the pairings of one number.
 
 ghost use Rattle.std.specs.Prelude.{◌≡◌, ◌++◌, length, OnOk};
-ghost use Rattle.roster_model.specs.Rosters.{set_of};
+ghost use Rattle.roster_model.specs.Places.{set_of};
 ghost use Rattle.roster_model.specs.Texts.{names_of};
 ghost use Rattle.roster_report.specs.Words.{further};
 

@@ -2,14 +2,14 @@
 
 ghost use Rattle.std.specs.Prelude.{◌≡◌, false, true, length, IfOk, OnOk, IsErrOf};
 ghost use Rattle.roster_watched.specs.Watch.{inner_of, has_failed, is_flushed};
-ghost use Rattle.roster_model.specs.Rosters.{cost_of};
+ghost use Rattle.roster_model.specs.Costs.{cost_of};
 ghost use Rattle.roster_model.specs.Texts.{IsReportOf};
 ghost use Rattle.roster_report.specs.Writing.{Writes, WritesPart};
 
 use crate::device::write_whole;
 use crate::fault::TextFault;
 use crate::lines::{push_cost, push_crews, push_heading, push_open};
-use crate::locks::locks_of;
+use crate::said::locks_of;
 use roster_problem::{Problem, Roster};
 use roster_watched::Watched;
 use std::alloc::{AllocError, Global};
@@ -48,7 +48,7 @@ fn report(alloc: Global, problem: &Problem, roster: &Roster) -> Result<Vec<u8>, 
     let places = roster.places.as_slice();
     let locks = locks_of(alloc, problem)?;
     let mut text = Vec::new(alloc);
-    push_heading(alloc, &mut text, problem.period())?;
+    push_heading(alloc, &mut text, b"ROSTER", problem.period())?;
     push_cost(alloc, &mut text, roster.cost)?;
     push_crews(alloc, &mut text, problem, &locks, places)?;
     push_open(&mut text, problem, places)?;

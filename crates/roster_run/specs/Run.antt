@@ -1,13 +1,46 @@
 -- Of which records a run speaks, and how it ends.
-use Rattle.std.specs.Prelude.{ℕ, List, Option, None, Some, IfSome, codes}
-use Rattle.roster_model.specs.Answer.{records_of}
-use Rattle.roster_model.specs.Record.{Record}
+use Rattle.std.specs.Prelude.{◌≡◌, ◌⊎◌, ℕ, List, Option, None, Some, Result, Ok, Err, IfSome, codes}
+use Rattle.roster_model.specs.Answer.{IsProblemFault, Reports, records_of}
+use Rattle.roster_model.specs.Faults.{Fault}
+use Rattle.roster_model.specs.Problem.{Problem}
+use Rattle.roster_model.specs.Record.{Command, Record}
+use Rattle.roster_model.specs.Texts.{fault_text}
+use Rattle.roster_report.specs.declared.fault.TextFault.{TextFault}
+use Rattle.roster_report.specs.declared.fault.TextFault.TheVariants as faults
 use Rattle.roster_run.specs.declared.status.Status.{Status}
 use Rattle.roster_run.specs.declared.status.Status.TheVariants as statuses
 
 -- The reader told some bytes, and this holds of their records.
 abbrev pub OfTold : (List Record → Type 0) → Option (List ℕ) → Type 0
 OfTold Says told = IfSome told (λ bytes. Says (records_of bytes))
+
+-- ---- what is answered to a problem, and to the roster that the book gives
+
+abbrev pub IsFaultLine : ℕ → ℕ → List ℕ → Type 0
+IsFaultLine row code text = text ≡ fault_text (record { row = row; code = code })
+
+-- the problem has no fault, and the text is what the command reports of it
+pub record IsProblemReport (command : Command) (problem : Problem) (assigned : List ℕ) (text : List ℕ) : Type 0 where
+  pub faultless : (fault : Fault) → ¬ IsProblemFault command problem fault
+  pub reports : Reports command problem assigned text
+
+-- the text tells the fault of the problem
+pub record IsProblemRefusal (command : Command) (problem : Problem) (text : List ℕ) : Type 0 where
+  pub fault : Fault
+  pub told : IsProblemFault command problem fault
+  pub written : text ≡ fault_text fault
+
+abbrev pub IsProblemAnswer : Command → Problem → List ℕ → List ℕ → Type 0
+IsProblemAnswer command problem assigned text =
+    IsProblemRefusal command problem text ⊎ IsProblemReport command problem assigned text
+
+-- ---- how a run ends
+
+-- how a run ends that wrote a report
+abbrev pub status_of : Result Unit TextFault → Status
+status_of (Ok written) = statuses.Answered
+status_of (Err faults.Memory) = statuses.Memory
+status_of (Err faults.Device) = statuses.WriteFailed
 
 -- the exit status of each outcome
 abbrev pub exit_number : Status → ℕ

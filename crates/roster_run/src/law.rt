@@ -5,7 +5,7 @@ ghost use Rattle.roster_model.specs.Answer.{IsAnswer};
 ghost use Rattle.roster_model.specs.Record.{Command, Record};
 
 use roster_combine::{has_best, one_best};
-use roster_legal::{has_locks, one_list_of_locks};
+use roster_legal::{has_locks, has_verdicts, one_list_of_locks, one_list_of_verdicts};
 
 /// Records have at most one answer: what the program writes is determined by what it read.
 pub fn one_answer()
@@ -14,6 +14,7 @@ pub fn one_answer()
 {
     one_best();
     one_list_of_locks();
+    one_list_of_verdicts();
 }
 
 /// Records have an answer, whatever they are: there can't be none.
@@ -23,4 +24,5 @@ pub fn has_answer()
 {
     has_best();
     has_locks();
+    has_verdicts();
 }

@@ -1,17 +1,17 @@
 //! A run: a book is read, and its one answer written.
 
-ghost use Rattle.std.specs.Prelude.{◌≡◌, ◌≢◌, ◌↔◌, List, true, false};
-ghost use Rattle.roster_model.specs.Answer.{IsAnswer, IsBestReport, IsRefusal, IsReport, Reports};
-ghost use Rattle.roster_model.specs.Record.{Record};
+ghost use Rattle.std.specs.Prelude.{◌≡◌, ◌≢◌, ◌↔◌, ◌≤◌, All, List, [], length, true, false};
+ghost use Rattle.roster_model.specs.Answer.{IsAnswer, IsRefusal, IsReport};
+ghost use Rattle.roster_model.specs.Record.{Record, Solve};
 ghost use Rattle.roster_book.specs.View.{command_of};
 ghost use Rattle.roster_watched.specs.Watch.{inner_of, has_failed, is_flushed};
 ghost use Rattle.roster_report.specs.Writing.{Writes, WritesPart};
-ghost use Rattle.roster_run.specs.Run.{OfTold};
+ghost use Rattle.roster_run.specs.Run.{IsFaultLine, IsProblemAnswer, IsProblemRefusal, IsProblemReport, OfTold, status_of};
 
 use crate::status::Status;
-use roster_book::{BookFault, Command, Problem, Watched, read_book};
+use roster_book::{Book, BookFault, Code, Command, Problem, Watched, read_book};
 use roster_combine::{SolveFault, solve};
-use roster_report::{TextFault, write_fault, write_report};
+use roster_report::{TextFault, write_check, write_fault, write_report};
 use std::alloc::Global;
 use std::io::{Read, Write};
 
@@ -65,57 +65,93 @@ pub fn run<R: Read, W: Write>(
     ensures unread_unwritten { result ≡ Status.ReadFailed → writer.new ≡ writer.old }
 {
     match read_book(alloc, reader, command) {
-        Ok(book) => report(alloc, command, &book.problem, writer),
-        Err(BookFault::At { row, code }) => match write_fault(alloc, row, code, writer) {
-            Ok(()) => Status::Refused,
-            Err(TextFault::Memory) => Status::Memory,
-            Err(TextFault::Device) => Status::WriteFailed,
-        },
+        Ok(book) => answer(alloc, command, &book, writer),
+        Err(BookFault::At { row, code }) => refuse(alloc, row, code, writer),
         Err(BookFault::Device) => Status::ReadFailed,
         Err(BookFault::Memory) => Status::Memory,
     }
 }
 
-/// Writes what the command reports of the problem.
-fn report<W: Write>(
-    alloc: Global,
-    command: Command,
-    problem: &Problem,
-    writer: &mut Watched<W>,
-) -> Status
+/// Writes the line of a fault.
+fn refuse<W: Write>(alloc: Global, row: usize, code: u8, writer: &mut Watched<W>) -> Status
     requires { has_failed writer.old ≡ false }
-    ensures answered { result ≡ Status.Answered → Writes (Reports (command_of command) problem.now)
+    ensures refused { result ≡ Status.Refused → Writes (IsFaultLine row code)
         (W.contents (inner_of writer.old)) (W.contents (inner_of writer.new)) }
-    ensures part { result ≡ Status.WriteFailed
-        → WritesPart (Reports (command_of command) problem.now)
+    ensures part { result ≡ Status.WriteFailed → WritesPart (IsFaultLine row code)
         (W.contents (inner_of writer.old)) (W.contents (inner_of writer.new)) }
     ensures write_failed { (result ≡ Status.WriteFailed) ↔ (has_failed writer.new ≡ true) }
-    ensures flushed { result ≡ Status.Answered → is_flushed writer.new ≡ true }
+    ensures flushed { result ≡ Status.Refused → is_flushed writer.new ≡ true }
     ensures memory { result ≡ Status.Memory → writer.new ≡ writer.old }
-    ensures others { (result ≢ Status.Refused) × (result ≢ Status.ReadFailed) }
+    ensures others { (result ≢ Status.Answered) × (result ≢ Status.ReadFailed) }
 {
-    match command {
-        Command::Solve => report_best(alloc, problem, writer),
+    match write_fault(alloc, row, code, writer) {
+        Ok(()) => Status::Refused,
+        Err(TextFault::Memory) => Status::Memory,
+        Err(TextFault::Device) => Status::WriteFailed,
     }
 }
 
-/// Writes the report of the problem's best roster.
-fn report_best<W: Write>(alloc: Global, problem: &Problem, writer: &mut Watched<W>) -> Status
-    requires { has_failed writer.old ≡ false }
-    ensures answered { result ≡ Status.Answered → Writes (IsBestReport problem.now)
+/// Writes what the command answers to a book in which no record has a fault.
+fn answer<W: Write>(
+    alloc: Global,
+    command: Command,
+    book: &Book,
+    writer: &mut Watched<W>,
+) -> Status
+    requires open { has_failed writer.old ≡ false }
+    requires covers { length book.now.assigned ≡ length book.now.problem.pairings }
+    requires numbers { All (λ x. x ≤ length book.now.problem.persons) book.now.assigned }
+    ensures answered { result ≡ Status.Answered
+        → Writes (IsProblemReport (command_of command) book.now.problem book.now.assigned)
         (W.contents (inner_of writer.old)) (W.contents (inner_of writer.new)) }
-    ensures part { result ≡ Status.WriteFailed → WritesPart (IsBestReport problem.now)
+    ensures refused { result ≡ Status.Refused
+        → Writes (IsProblemRefusal (command_of command) book.now.problem)
+        (W.contents (inner_of writer.old)) (W.contents (inner_of writer.new)) }
+    ensures part { result ≡ Status.WriteFailed
+        → WritesPart (IsProblemAnswer (command_of command) book.now.problem book.now.assigned)
         (W.contents (inner_of writer.old)) (W.contents (inner_of writer.new)) }
     ensures write_failed { (result ≡ Status.WriteFailed) ↔ (has_failed writer.new ≡ true) }
-    ensures flushed { result ≡ Status.Answered → is_flushed writer.new ≡ true }
+    ensures flushed { (result ≡ Status.Answered → is_flushed writer.new ≡ true)
+        × (result ≡ Status.Refused → is_flushed writer.new ≡ true) }
     ensures memory { result ≡ Status.Memory → writer.new ≡ writer.old }
-    ensures others { (result ≢ Status.Refused) × (result ≢ Status.ReadFailed) }
+    ensures others { result ≢ Status.ReadFailed }
 {
-    let roster = match solve(alloc, problem) {
-        Ok(roster) => roster,
-        Err(SolveFault::Memory) => return Status::Memory,
-    };
-    match write_report(alloc, problem, &roster, writer) {
+    match command {
+        Command::Solve => answer_best(alloc, &book.problem, writer),
+        Command::Check => told(write_check(alloc, &book.problem, book.assigned.as_slice(), writer)),
+    }
+}
+
+/// Writes the report of the problem's best roster, or the fault of the first person who has more lines
+/// than there may be.
+fn answer_best<W: Write>(alloc: Global, problem: &Problem, writer: &mut Watched<W>) -> Status
+    requires { has_failed writer.old ≡ false }
+    ensures answered { result ≡ Status.Answered → Writes (IsProblemReport Solve problem.now [])
+        (W.contents (inner_of writer.old)) (W.contents (inner_of writer.new)) }
+    ensures refused { result ≡ Status.Refused → Writes (IsProblemRefusal Solve problem.now)
+        (W.contents (inner_of writer.old)) (W.contents (inner_of writer.new)) }
+    ensures part { result ≡ Status.WriteFailed → WritesPart (IsProblemAnswer Solve problem.now [])
+        (W.contents (inner_of writer.old)) (W.contents (inner_of writer.new)) }
+    ensures write_failed { (result ≡ Status.WriteFailed) ↔ (has_failed writer.new ≡ true) }
+    ensures flushed { (result ≡ Status.Answered → is_flushed writer.new ≡ true)
+        × (result ≡ Status.Refused → is_flushed writer.new ≡ true) }
+    ensures memory { result ≡ Status.Memory → writer.new ≡ writer.old }
+    ensures others { result ≢ Status.ReadFailed }
+{
+    match solve(alloc, problem) {
+        Ok(roster) => told(write_report(alloc, problem, &roster, writer)),
+        Err(SolveFault::TooMany(k)) => {
+            refuse(alloc, problem.person(k).row, Code::TooManyLines.number(), writer)
+        }
+        Err(SolveFault::Memory) => Status::Memory,
+    }
+}
+
+/// How a run ends that wrote a report.
+fn told(written: Result<(), TextFault>) -> Status
+    ensures { result ≡ status_of written }
+{
+    match written {
         Ok(()) => Status::Answered,
         Err(TextFault::Memory) => Status::Memory,
         Err(TextFault::Device) => Status::WriteFailed,

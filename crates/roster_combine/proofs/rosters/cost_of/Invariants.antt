@@ -1,5 +1,5 @@
 use Rattle.std.proofs.Common.{◌≡◌, ◌≤◌, ◌+◌, ◌*◌, ◌^◌, drop}
-use Rattle.roster_model.specs.Rosters.{open_penalties}
+use Rattle.roster_model.specs.Costs.{open_penalties}
 use Rattle.roster_combine.proofs.rosters.cost_of.Given as goal
 
 abbrev pub invariant-loop-p : goal.invariant-loop-p

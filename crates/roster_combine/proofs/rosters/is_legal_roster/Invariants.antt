@@ -1,6 +1,6 @@
 use Rattle.std.proofs.Common.{ℕ, ◌<◌}
 use Rattle.roster_model.specs.Rules.{IsLegal}
-use Rattle.roster_model.specs.Rosters.{set_of}
+use Rattle.roster_model.specs.Places.{set_of}
 use Rattle.roster_combine.proofs.rosters.is_legal_roster.Given as goal
 
 abbrev pub invariant-loop-k : goal.invariant-loop-k

@@ -4,7 +4,7 @@ use Rattle.std.proofs.lemmas.Result.{on_ok_weaker}
 use Rattle.std.proofs.lemmas.Option.{slice_get_within}
 use Rattle.roster_model.specs.records.Crew.{Person}
 use Rattle.roster_model.specs.Problem.{home_of}
-use Rattle.roster_model.specs.Rosters.{set_of}
+use Rattle.roster_model.specs.Places.{set_of}
 use Rattle.roster_model.specs.Rules.{duty_list}
 use Rattle.roster_model.specs.Texts.{crew_line, numbers_of, names_of}
 use Rattle.roster_report.specs.Words.{spaced, further}

@@ -1,11 +1,11 @@
 use Rattle.std.proofs.Common.{◌≡◌, ℕ, ◌++◌, take, map, option_map}
 use Rattle.std.specs.List.{enumerate_from, flat_map}
 use Rattle.roster_model.specs.records.Crew.{Person}
-use Rattle.roster_model.specs.Rosters.{set_of}
-use Rattle.roster_model.specs.Texts.{crew_line, lock_line, lock_at}
+use Rattle.roster_model.specs.Places.{set_of}
+use Rattle.roster_model.specs.Texts.{crew_line, lock_line, rule_at}
 use Rattle.roster_problem.specs.View.{rule_of}
 use Rattle.roster_report.proofs.lines.push_crews.Given as goal
 
 abbrev pub invariant-loop-k : goal.invariant-loop-k
 invariant-loop-k l =
-    l.out.items ≡ l.fn.out.items ++ flat_map (λ (entry : ℕ × Person). crew_line l.problem (set_of entry.0 l.places) entry.0 entry.1 ++ lock_line entry.1 (lock_at (map (option_map rule_of) l.locks) entry.0)) (enumerate_from 0 (take l.k l.problem.persons))
+    l.out.items ≡ l.fn.out.items ++ flat_map (λ (entry : ℕ × Person). crew_line l.problem (set_of entry.0 l.places) entry.0 entry.1 ++ lock_line entry.1 (rule_at (map (option_map rule_of) l.locks) entry.0)) (enumerate_from 0 (take l.k l.problem.persons))

@@ -1,6 +1,6 @@
 use Rattle.std.proofs.Common.{ap, ◌∙◌, codes, ◌∷◌, ◌++◌, length, ℕ}
 use Rattle.std.proofs.lemmas.Result.{on_ok_weaker}
-use Rattle.roster_model.specs.Rosters.{set_of}
+use Rattle.roster_model.specs.Places.{set_of}
 use Rattle.roster_model.specs.Texts.{line_of, names_of}
 use Rattle.roster_report.proofs.LineOf.{plain-line}
 use Rattle.roster_report.proofs.lines.push_open.Goals as goal

@@ -1,6 +1,6 @@
 use Rattle.std.proofs.Common.{◌≡◌, ◌++◌, ◌==◌, length, map, take}
 use Rattle.roster_model.specs.Problem.{pairing_name}
-use Rattle.roster_model.specs.Rosters.{set_of}
+use Rattle.roster_model.specs.Places.{set_of}
 use Rattle.roster_report.specs.Words.{further}
 use Rattle.roster_report.proofs.names.push_names.Given as goal
 

@@ -5,7 +5,7 @@ use Rattle.std.proofs.lemmas.Int.{to_z-of_z}
 use Rattle.std.specs.Int.RustNames.{FitsSigned}
 use Rattle.std.specs.Fmt.{signed_decimal}
 use Rattle.roster_model.specs.Calendar.{Period}
-use Rattle.roster_model.specs.Rosters.{set_of, open_number}
+use Rattle.roster_model.specs.Places.{set_of, open_number}
 use Rattle.roster_model.specs.Rules.{Rule}
 use Rattle.roster_model.specs.Texts.{report_text, line_of, period_text, crew_lines, names_of}
 use Rattle.roster_problem.specs.View.{rule_of}

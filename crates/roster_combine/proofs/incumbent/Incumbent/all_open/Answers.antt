@@ -1,6 +1,7 @@
 use Rattle.std.proofs.Common.{◌≡◌, length, replicate, sym, ap, ◌∙◌, subst, SFits, w64, rules}
 use Rattle.std.proofs.lemmas.Int.{to_z-of_z}
-use Rattle.roster_model.specs.Rosters.{IsLegalRoster, cost_of}
+use Rattle.roster_model.specs.Costs.{cost_of}
+use Rattle.roster_model.specs.Rosters.{IsLegalRoster}
 use Rattle.roster_combine.proofs.AllOpen.{all_open_legal}
 use Rattle.roster_combine.proofs.incumbent.Incumbent.all_open.Goals as goal
 

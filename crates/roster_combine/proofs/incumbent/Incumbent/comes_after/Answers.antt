@@ -1,6 +1,7 @@
 use Rattle.std.proofs.Common.{◌≡◌, not, SFits, w64, to_z, sym, ap, ◌∙◌, subst, rules}
 use Rattle.std.proofs.lemmas.Int.{to_z-of_z}
-use Rattle.roster_model.specs.Rosters.{Key, places_le, key_le}
+use Rattle.roster_model.specs.Places.{places_le}
+use Rattle.roster_model.specs.Rosters.{Key, key_le}
 use Rattle.roster_combine.proofs.Keys.{places_lt, key_le-at_one_cost}
 use Rattle.roster_combine.proofs.incumbent.Incumbent.comes_after.Goals as goal
 

@@ -2,7 +2,7 @@ use Rattle.std.proofs.Common.{◌≡◌, ℕ, ◌+◌, ◌<◌, ◌++◌, eq-eqb
 use Rattle.std.specs.Prelude.{All}
 use Rattle.std.proofs.lemmas.Bool.{cond-true, cond-false, ne_eqb}
 use Rattle.std.proofs.lemmas.List.{length-take-le}
-use Rattle.roster_model.specs.Rosters.{set_of}
+use Rattle.roster_model.specs.Places.{set_of}
 use Rattle.roster_model.proofs.PlacesLemmas.{set_of-take_more}
 use Rattle.roster_model.proofs.SetLemmas.{Ascends-set_of, places_of_number}
 use Rattle.roster_problem.specs.Set.{with_place}

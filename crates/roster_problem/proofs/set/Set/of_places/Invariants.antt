@@ -1,5 +1,5 @@
 use Rattle.std.proofs.Common.{◌≡◌, take}
-use Rattle.roster_model.specs.Rosters.{set_of}
+use Rattle.roster_model.specs.Places.{set_of}
 use Rattle.roster_problem.proofs.set.Set.of_places.Given as goal
 
 -- the set of the places so far

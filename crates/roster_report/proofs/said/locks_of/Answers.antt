@@ -1,7 +1,8 @@
 use Rattle.std.proofs.Common.{◌≡◌, ◌+◌, length, ap, sym, ◌∙◌, subst, arith}
 use Rattle.std.proofs.lemmas.List.{length_push}
-use Rattle.roster_report.proofs.AreLocks.{LockBefore, LockBefore-more, AreLocks-before}
-use Rattle.roster_report.proofs.locks.locks_of.Goals as goal
+use Rattle.roster_model.specs.Rules.{IsLock}
+use Rattle.roster_report.proofs.Said.{SaidBefore, SaidBefore-more, AreOfEach-before}
+use Rattle.roster_report.proofs.said.locks_of.Goals as goal
 
 pub loop-k-init : goal.loop-k-init
 loop-k-init c = record { long = ap length c.in_ok-locks.ensures.items; each = λ j default within. absurd (omega arith) }
@@ -12,11 +13,11 @@ loop-k-preserved c =
     let more = ap length c.in_ok-push.ensures.items ∙ length_push c.loop-k.locks.items c.in_ok-locked.field-0 in
     record {
       long = omega arith;
-      each = subst (LockBefore c.args.problem.now (c.loop-k.k + 1)) (sym c.in_ok-push.ensures.items)
-          (LockBefore-more c.args.problem.now c.loop-k.k c.loop-k.locks.items c.in_ok-locked.field-0 long c.loop-k.invariant.each c.in_ok-locked.ensures);
+      each = subst (SaidBefore (IsLock c.args.problem.now) (c.loop-k.k + 1)) (sym c.in_ok-push.ensures.items)
+          (SaidBefore-more (IsLock c.args.problem.now) c.loop-k.k c.loop-k.locks.items c.in_ok-locked.field-0 long c.loop-k.invariant.each c.in_ok-locked.ensures);
     }
 
 pub returns : goal.returns
 returns c =
     let all = ap length c.persons-count.ensures.value in
-    AreLocks-before c.args.problem.now c.loop-k.k c.loop-k.locks.items c.loop-k.invariant.long (omega arith) c.loop-k.invariant.each
+    AreOfEach-before (IsLock c.args.problem.now) c.args.problem.now c.loop-k.k c.loop-k.locks.items c.loop-k.invariant.long (omega arith) c.loop-k.invariant.each
