@@ -7,3 +7,4 @@ pub mod SetParts
 pub mod Words
 pub mod PositionLists
 pub mod Indexes
+pub mod CostTables

@@ -4,3 +4,4 @@ pub mod Sectors
 pub mod Set
 pub mod Bits
 pub mod Duties
+pub mod Costs

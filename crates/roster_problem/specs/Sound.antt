@@ -1,7 +1,7 @@
 -- What the tables of records without a fault keep, as far as code counts on it.
-use Rattle.std.specs.Prelude.{ℕ, ◌<◌, ◌≤◌, length, All}
-use Rattle.roster_model.specs.declared.limits.TheConstants.{MOST_BASES, MOST_PERSONS, MOST_PAIRINGS, MOST_DUTIES, MOST_LEAVES, MOST_PENALTY}
-use Rattle.roster_model.specs.Problem.{Problem}
+use Rattle.std.specs.Prelude.{ℕ, ◌<◌, ◌≤◌, length, unsigned_abs, All}
+use Rattle.roster_model.specs.declared.limits.TheConstants.{MOST_BASES, MOST_PERSONS, MOST_PAIRINGS, MOST_DUTIES, MOST_LEAVES, MOST_COSTS, MOST_PENALTY, MOST_UNITS, MOST_WEIGHT}
+use Rattle.roster_model.specs.Problem.{Problem, weight_of}
 use Rattle.roster_model.specs.records.Duty.{Holder, OfPairing, OfPerson}
 
 -- the holder is among so many pairings or persons
@@ -16,9 +16,15 @@ pub record IsSound (problem : Problem) : Type 0 where
   pub pairings : length problem.pairings ≤ MOST_PAIRINGS
   pub duties : length problem.duties ≤ MOST_DUTIES
   pub leaves : length problem.leaves ≤ MOST_LEAVES
+  pub costs : length problem.costs ≤ MOST_COSTS
+  -- no amount is beyond its limit
+  pub weight : weight_of problem ≤ MOST_WEIGHT
   pub penalties : All (λ pairing. pairing.penalty ≤ MOST_PENALTY) problem.pairings
+  pub units : All (λ cost. unsigned_abs cost.units ≤ MOST_UNITS) problem.costs
   -- what is referred to is there
   pub homes : All (λ person. person.base < length problem.bases) problem.persons
   pub starts : All (λ pairing. pairing.base < length problem.bases) problem.pairings
   pub holders : All (λ duty. IsHolder (length problem.pairings) (length problem.persons) duty.holder) problem.duties
   pub absences : All (λ leave. leave.person < length problem.persons) problem.leaves
+  pub cost_persons : All (λ cost. cost.person < length problem.persons) problem.costs
+  pub cost_pairings : All (λ cost. cost.pairing < length problem.pairings) problem.costs

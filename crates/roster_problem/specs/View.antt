@@ -1,5 +1,5 @@
 -- How the definitions see this crate's values.
-use Rattle.std.specs.Prelude.{List}
+use Rattle.std.specs.Prelude.{ℕ, List, Option}
 use Rattle.roster_problem.specs.declared.duty.Holder.{Holder}
 use Rattle.roster_problem.specs.declared.duty.Holder.TheVariants as holders
 use Rattle.roster_problem.specs.declared.rule.Rule.{Rule}
@@ -12,6 +12,7 @@ use Rattle.roster_model.specs.records.Crew.{Person}
 use Rattle.roster_model.specs.records.Pairing.{Pairing}
 use Rattle.roster_model.specs.records.Duty as model
 use Rattle.roster_model.specs.records.Leave.{Leave}
+use Rattle.roster_model.specs.records.Cost.{Cost}
 
 abbrev pub holder_of : Holder → model.Holder
 holder_of (holders.Pairing p) = model.OfPairing p
@@ -31,12 +32,14 @@ rule_of rules.FlightYear = judged.FlightYearRule
 rule_of rules.Flight12 = judged.Flight12Rule
 
 -- the tables as one problem
-abbrev pub tables_of : Period → List Base → List Person → List Pairing → List model.Duty → List Leave → Problem
-tables_of period bases persons pairings duties leaves = record {
+abbrev pub tables_of : Period → Option ℕ → List Base → List Person → List Pairing → List model.Duty → List Leave → List Cost → Problem
+tables_of period weight bases persons pairings duties leaves costs = record {
   period = period;
+  weight = weight;
   bases = bases;
   persons = persons;
   pairings = pairings;
   duties = duties;
   leaves = leaves;
+  costs = costs;
 }

@@ -5,9 +5,11 @@
 //! order:
 //!
 //! - `name`: identifiers
-//! - `base`, `person`, `pairing`, `duty`, `leave`: the entries of the tables; `sector`: what a duty has
+//! - `base`, `person`, `pairing`, `duty`, `leave`, `cost`: the entries of the tables; `sector`: what a
+//!   duty has
 //! - `order`: the order of duties in time
 //! - `index`: from a pairing to its duties, and from a person to their leaves
+//! - `costs`: costs by person and pairing
 //! - `problem`: the tables together
 //! - `set`: sets of pairings
 //! - `duty_list`: the duties of one person
@@ -16,6 +18,8 @@
 #![tactic(auto)]
 
 mod base;
+mod cost;
+mod costs;
 mod duty;
 mod duty_list;
 mod index;
@@ -31,6 +35,8 @@ mod sector;
 mod set;
 
 pub use base::Base;
+pub use cost::Cost;
+pub use costs::Costs;
 pub use duty::{Duty, Holder};
 pub use duty_list::DutyList;
 pub use leave::Leave;

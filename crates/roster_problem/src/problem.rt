@@ -1,13 +1,15 @@
 //! What is to be rostered.
 
-ghost use Rattle.std.specs.Prelude.{◌≡◌, ◌<◌, ◌≤◌, IfOk, Some, length, slice_get};
+ghost use Rattle.std.specs.Prelude.{◌≡◌, ◌<◌, ◌≤◌, IfOk, Some, length, slice_get, unsigned_abs};
+ghost use Rattle.roster_model.specs.declared.limits.TheConstants.{MOST_UNITS, MOST_WEIGHT};
 ghost use Rattle.roster_model.specs.Faults.{IsFaultless};
-ghost use Rattle.roster_model.specs.Problem.{home_of, in_order};
+ghost use Rattle.roster_model.specs.Problem.{home_of, in_order, units_of, weight_of};
 ghost use Rattle.roster_model.specs.records.Leave.{is_leave_of};
 ghost use Rattle.roster_problem.specs.Duties.{ArePositionsOf, AreTimed, IsInOrder, is_of_pairing, is_of_person};
 ghost use Rattle.roster_problem.specs.Sound.{IsSound};
 
 use crate::base::Base;
+use crate::costs::Costs;
 use crate::duty::Duty;
 use crate::index::{Lists, by_place};
 use crate::leave::Leave;
@@ -25,11 +27,13 @@ use std::marker::Model;
 #[derive(Debug, Drop)]
 pub struct Problem {
     period: Period,
+    weight: Option<u32>,
     bases: Vec<Base>,
     persons: Vec<Person>,
     pairings: Vec<Pairing>,
     duties: Vec<Duty>,
     leaves: Vec<Leave>,
+    costs: Costs,
     by_pairing: Lists,
     by_person: Lists,
     on_leave: Lists,
@@ -43,11 +47,12 @@ impl Model for Problem {
     ghost use Rattle.roster_problem.specs.Duties.{IsKept};
     ghost use Rattle.roster_problem.specs.View.{tables_of};
 
-    ghost view = { λ p. tables_of p.period p.bases.items p.persons.items p.pairings.items
-        p.duties.items p.leaves.items };
+    ghost view = { λ p. tables_of p.period p.weight p.bases.items p.persons.items
+        p.pairings.items p.duties.items p.leaves.items p.costs };
 
-    ghost invariant = { λ p. IsKept (tables_of p.period p.bases.items p.persons.items
-        p.pairings.items p.duties.items p.leaves.items) p.by_pairing p.by_person p.on_leave };
+    ghost invariant = { λ p. IsKept (tables_of p.period p.weight p.bases.items p.persons.items
+        p.pairings.items p.duties.items p.leaves.items p.costs)
+        p.by_pairing p.by_person p.on_leave };
 }
 
 impl Problem {
@@ -57,18 +62,20 @@ impl Problem {
     pub fn new(
         alloc: Global,
         period: Period,
+        weight: Option<u32>,
         bases: Vec<Base>,
         persons: Vec<Person>,
         pairings: Vec<Pairing>,
         duties: Vec<Duty>,
         leaves: Vec<Leave>,
+        costs: Costs,
     ) -> Result<Problem, AllocError>
-        requires sound { IsSound (tables_of period bases.items persons.items pairings.items
-            (in_order duties.items) leaves.items) }
-        requires faultless { IsFaultless (tables_of period bases.items persons.items pairings.items
-            (in_order duties.items) leaves.items) }
-        ensures { IfOk result (λ problem. problem ≡ tables_of period bases.items persons.items
-            pairings.items (in_order duties.items) leaves.items) }
+        requires sound { IsSound (tables_of period weight bases.items persons.items pairings.items
+            (in_order duties.items) leaves.items costs) }
+        requires faultless { IsFaultless (tables_of period weight bases.items persons.items
+            pairings.items (in_order duties.items) leaves.items costs) }
+        ensures { IfOk result (λ problem. problem ≡ tables_of period weight bases.items
+            persons.items pairings.items (in_order duties.items) leaves.items costs) }
     {
         let duties = in_order(alloc, duties)?;
         let by_pairing = by_place(alloc, pairings.len(), &duties, Duty::pairing)?;
@@ -76,11 +83,13 @@ impl Problem {
         let on_leave = by_place(alloc, persons.len(), &leaves, Leave::place)?;
         Ok(Problem {
             period,
+            weight,
             bases,
             persons,
             pairings,
             duties,
             leaves,
+            costs,
             by_pairing,
             by_person,
             on_leave,
@@ -92,6 +101,24 @@ impl Problem {
         ensures { result ≡ self.now.period }
     {
         self.period
+    }
+
+    /// The cost of a minute by which a person's flight in the month misses the target; 0 where the book
+    /// gives none.
+    pub fn weight(&self) -> u32
+        ensures value { result ≡ weight_of self.now }
+        ensures bound { result ≤ MOST_WEIGHT }
+    {
+        self.weight.unwrap_or(0)
+    }
+
+    /// The cost units of the person at place `k` with the pairing at place `p`; 0 where the book gives
+    /// none. It looks at no other cost.
+    pub fn units(&self, k: usize, p: usize) -> i64
+        ensures value { result ≡ units_of self.now k p }
+        ensures bound { unsigned_abs result ≤ MOST_UNITS }
+    {
+        i64::from(self.costs.given(k, p).unwrap_or(0))
     }
 
     /// The persons, in book order.

@@ -78,7 +78,7 @@ on_leave c =
 pub invariant_of-result : goal.invariant_of-result
 invariant_of-result c =
     let sorted : c.in_ok-duties.duties.items ≡ in_order c.args.duties.items = c.in_ok-duties.ensures in
-    let tables : List Duty → Problem = λ duties. tables_of c.args.period c.args.bases.items c.args.persons.items c.args.pairings.items duties c.args.leaves.items in
+    let tables : List Duty → Problem = λ duties. tables_of c.args.period c.args.weight c.args.bases.items c.args.persons.items c.args.pairings.items duties c.args.leaves.items c.args.costs in
     record {
       sound = subst (λ ds. IsSound (tables ds)) (sym sorted) c.requires.sound;
       faultless = subst (λ ds. IsFaultless (tables ds)) (sym sorted) c.requires.faultless;
