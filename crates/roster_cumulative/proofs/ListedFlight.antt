@@ -2,21 +2,25 @@
 use Rattle.std.proofs.Common.{◌≡◌, ℕ, zero, suc, ◌+◌, ◌*◌, ◌≤◌, Bool, true, false, ◌||◌, cond, eqb, List, [], ◌∷◌, ◌++◌, length, get_or, Option, Some, None, refl, sym, ap, ◌∙◌, subst, inl, inr, arith}
 use Rattle.std.specs.Prelude.{All, filter, slice_get}
 use Rattle.std.specs.List.{range_with_len, sum_by}
+use Rattle.std.specs.List.Sorted.{IsStrictlyIncreasing}
 use Rattle.std.specs.Option.{option_map_or}
+use Rattle.std.proofs.Math.Bool.{or-true}
+use Rattle.std.proofs.lemmas.List.Elements.{filter_agree}
 use Rattle.std.proofs.lemmas.Bool.{both_ways, cases_Bool, cases_lt, eqb-true, false_from_ne_true}
 use Rattle.std.proofs.lemmas.Bool.Decides.{nat_tests}
 use Rattle.std.proofs.lemmas.Option.{slice_get-get_or, slice_get_past}
 use Rattle.std.proofs.lemmas.List.Sums.{sum_by-cons, sum_by-le, sum_by-le-sum_by}
 use Rattle.roster_model.proofs.PlacesLemmas.{is_among-set_of}
-use Rattle.roster_model.proofs.SetLemmas.{is_among-append}
+use Rattle.roster_model.proofs.SetLemmas.{Ascends, Ascends-from_rising, is_among-append, is_among-before}
 use Rattle.roster_model.specs.declared.limits.TheConstants.{MOST_MONTH_MINUTES}
 use Rattle.roster_model.specs.Calendar.{Days, IsTable}
 use Rattle.roster_model.specs.Problem.{Problem, home_of}
 use Rattle.roster_model.specs.Places.{set_of}
 use Rattle.roster_model.specs.Rules.{duty_list, is_among, is_listed}
 use Rattle.roster_model.specs.Sums.{duty_flight, month_flight}
-use Rattle.roster_model.specs.records.Duty.{Duty, Holder, OfPairing, OfPerson, is_held_by_pairing}
+use Rattle.roster_model.specs.records.Duty.{Duty, Holder, OfPairing, OfPerson, is_held_by_pairing, is_held_by_person}
 use Rattle.roster_model.specs.records.Base.{Base, base_at, no_base}
+use Rattle.roster_problem.specs.Duties.{AreFlown, is_of_pairing, is_of_person}
 use Rattle.roster_problem.specs.Sectors.{AreSectors}
 use Rattle.roster_cumulative.proofs.Divided.{duty_flight-short}
 use Rattle.roster_cumulative.proofs.MonthFlight.{month_flight-sum, sum_of_sums}
@@ -36,6 +40,11 @@ pub month_flight-listed : (problem : Problem) (days : Days) (k : ℕ) (set : Lis
     → month_flight days (duty_list problem k set) ≡ sum_by (λ duty. cond (is_listed k set duty.holder) (duty_flight days duty) 0) problem.duties
 month_flight-listed problem days k set =
     month_flight-sum days (duty_list problem k set) ∙ sum_by-filter (duty_flight days) (λ duty. is_listed k set duty.holder) problem.duties
+
+pub month_flight-short : (days : Days) (list : List Duty) → IsTable days → AreFlown list → month_flight days list ≤ length list * MOST_MONTH_MINUTES
+month_flight-short days list table are =
+    let each : All (λ duty. duty_flight days duty ≤ MOST_MONTH_MINUTES) list = λ i d inside. duty_flight-short days (get_or list i d) table (are i d inside) in
+    omega (arith, month_flight-sum days list, sum_by-le (duty_flight days) MOST_MONTH_MINUTES list each)
 
 -- ---- of one pairing more
 
@@ -57,30 +66,58 @@ or_false false = refl
 same_either_way : (p q : ℕ) → (eqb p q || false) ≡ eqb q p
 same_either_way p q = grind (arith, nat_tests)
 
-is_listed-more : (k p : ℕ) (set : List ℕ) (holder : Holder) → is_listed k (set ++ p ∷ []) holder ≡ (is_listed k set holder || is_held_by_pairing p holder)
-is_listed-more k p set (OfPairing q) = is_among-append set (p ∷ []) q ∙ ap (λ b. is_among set q || b) (same_either_way p q)
-is_listed-more k p set (OfPerson j) = or_false (eqb j k)
+-- with one pairing more, its duties are listed too
+is_listed-more : (k p : ℕ) (set more : List ℕ) (holder : Holder) → ((q : ℕ) → is_among more q ≡ (is_among set q || eqb q p)) → is_listed k more holder ≡ (is_listed k set holder || is_held_by_pairing p holder)
+is_listed-more k p set more (OfPairing q) with_p = with_p q
+is_listed-more k p set more (OfPerson j) with_p = or_false (eqb j k)
 
 not_both : (k p : ℕ) (set : List ℕ) (holder : Holder) → is_among set p ≡ false → is_listed k set holder ≡ true → is_held_by_pairing p holder ≡ true → ⊥
 not_both k p set (OfPairing q) new listed held =
     both_ways (is_among set p) new (subst (λ r. is_among set r ≡ true) (eqb-true q p held) listed)
 not_both k p set (OfPerson j) new listed held = absurd (cc)
 
-pub month_flight-one_more : (problem : Problem) (days : Days) (k p : ℕ) (set : List ℕ) → is_among set p ≡ false
-    → month_flight days (duty_list problem k (set ++ p ∷ [])) ≡ month_flight days (duty_list problem k set) + month_flight days (filter (λ duty. is_held_by_pairing p duty.holder) problem.duties)
-month_flight-one_more problem days k p set new =
+month_flight-more : (problem : Problem) (days : Days) (k p : ℕ) (set more : List ℕ) → ((q : ℕ) → is_among more q ≡ (is_among set q || eqb q p)) → is_among set p ≡ false
+    → month_flight days (duty_list problem k more) ≡ month_flight days (duty_list problem k set) + month_flight days (filter (is_of_pairing p) problem.duties)
+month_flight-more problem days k p set more with_p new =
     let minutes = duty_flight days in
-    let held = λ (duty : Duty). is_held_by_pairing p duty.holder in
-    let each = λ (duty : Duty). one_of_two (minutes duty) (is_listed k (set ++ p ∷ []) duty.holder) (is_listed k set duty.holder) (held duty)
-    (is_listed-more k p set duty.holder) (not_both k p set duty.holder new) in
+    let each = λ (duty : Duty). one_of_two (minutes duty) (is_listed k more duty.holder) (is_listed k set duty.holder) (is_of_pairing p duty)
+    (is_listed-more k p set more duty.holder with_p) (not_both k p set duty.holder new) in
     omega (
       arith,
-      month_flight-listed problem days k (set ++ p ∷ []),
+      month_flight-listed problem days k more,
       month_flight-listed problem days k set,
-      month_flight-sum days (filter held problem.duties),
-      sum_by-filter minutes held problem.duties,
-      sum_by-both (λ duty. cond (is_listed k (set ++ p ∷ []) duty.holder) (minutes duty) 0) (λ duty. cond (is_listed k set duty.holder) (minutes duty) 0) (λ duty. cond (held duty) (minutes duty) 0) each problem.duties,
+      month_flight-sum days (filter (is_of_pairing p) problem.duties),
+      sum_by-filter minutes (is_of_pairing p) problem.duties,
+      sum_by-both (λ duty. cond (is_listed k more duty.holder) (minutes duty) 0) (λ duty. cond (is_listed k set duty.holder) (minutes duty) 0) (λ duty. cond (is_of_pairing p duty) (minutes duty) 0) each problem.duties,
     )
+
+pub month_flight-one_more : (problem : Problem) (days : Days) (k p : ℕ) (set : List ℕ) → is_among set p ≡ false
+    → month_flight days (duty_list problem k (set ++ p ∷ [])) ≡ month_flight days (duty_list problem k set) + month_flight days (filter (is_of_pairing p) problem.duties)
+month_flight-one_more problem days k p set new =
+    month_flight-more problem days k p set (set ++ p ∷ []) (λ q. is_among-append set (p ∷ []) q ∙ ap (λ b. is_among set q || b) (same_either_way p q)) new
+
+-- ---- of a set
+
+before_or_behind : (p q : ℕ) (b : Bool) → (eqb p q || b) ≡ (b || eqb q p)
+before_or_behind p q true = or-true (eqb p q)
+before_or_behind p q false = same_either_way p q
+
+listed_without : (k : ℕ) (holder : Holder) → is_listed k [] holder ≡ is_held_by_person k holder
+listed_without k (OfPairing p) = refl
+listed_without k (OfPerson j) = refl
+
+month_flight-ascending : (problem : Problem) (days : Days) (k : ℕ) (set : List ℕ) → Ascends set
+    → month_flight days (duty_list problem k set) ≡ month_flight days (filter (is_of_person k) problem.duties) + sum_by (λ p. month_flight days (filter (is_of_pairing p) problem.duties)) set
+month_flight-ascending problem days k [] up =
+    let fixed = ap (month_flight days) (filter_agree (λ duty. is_listed k [] duty.holder) (is_of_person k) (λ duty. listed_without k duty.holder) problem.duties) in
+    omega (arith, fixed)
+month_flight-ascending problem days k (p ∷ set) up =
+    let more = month_flight-more problem days k p set (p ∷ set) (λ q. before_or_behind p q (is_among set q)) (is_among-before p p set up.0 (omega arith)) in
+    omega (arith, more, month_flight-ascending problem days k set up.1, sum_by-cons (λ q. month_flight days (filter (is_of_pairing q) problem.duties)) p set)
+
+pub month_flight-set : (problem : Problem) (days : Days) (k : ℕ) (set : List ℕ) → IsStrictlyIncreasing set
+    → month_flight days (duty_list problem k set) ≡ month_flight days (filter (is_of_person k) problem.duties) + sum_by (λ p. month_flight days (filter (is_of_pairing p) problem.duties)) set
+month_flight-set problem days k set rises = month_flight-ascending problem days k set (Ascends-from_rising set rises)
 
 -- ---- of all persons
 
@@ -156,7 +193,7 @@ duty_flight-at_home bases place duty tables are =
     ]
 
 -- and no more flight than each duty has at most
-pub month_flight-lists : (problem : Problem) (places : List ℕ) (n : ℕ) → All (λ base. IsTable base.days) problem.bases → All (λ duty. AreSectors duty.report duty.release duty.sectors) problem.duties
+pub month_flight-lists : (problem : Problem) (places : List ℕ) (n : ℕ) → All (λ base. IsTable base.days) problem.bases → AreFlown problem.duties
     → sum_by (λ k. month_flight (home_of problem k).days (duty_list problem k (set_of k places))) (range_with_len 0 n) ≤ length problem.duties * MOST_MONTH_MINUTES
 month_flight-lists problem places n tables are =
     let minutes = λ (k : ℕ). duty_flight (home_of problem k).days in

@@ -2,19 +2,20 @@
 
 ghost use Rattle.std.specs.Prelude.{◌≡◌, ◌≤◌, ◌+◌, ◌*◌, ◌∷◌, ◌++◌, [], ℕ, false, if◌then◌else◌, List, All, filter, length};
 ghost use Rattle.std.specs.List.{range_with_len, sum_by};
+ghost use Rattle.std.specs.List.Sorted.{IsStrictlyIncreasing};
 ghost use Rattle.roster_model.specs.Calendar.{Days, IsTable};
 ghost use Rattle.roster_model.specs.Problem.{Problem as Tables, home_of};
 ghost use Rattle.roster_model.specs.Places.{set_of};
 ghost use Rattle.roster_model.specs.Rules.{duty_list, is_among, is_listed};
 ghost use Rattle.roster_model.specs.Sums.{duty_flight, month_flight};
 ghost use Rattle.roster_model.specs.records.Duty.{Duty};
-ghost use Rattle.roster_problem.specs.Duties.{is_of_pairing};
-ghost use Rattle.roster_problem.specs.Sectors.{AreSectors};
+ghost use Rattle.roster_problem.specs.Duties.{AreFlown, is_of_pairing, is_of_person};
 
 use roster_model::limits::MOST_MONTH_MINUTES;
 
 /// The month's flight of a list is that of its duties, and so that of the duties of a problem that a
-/// person is listed for with a set.
+/// person is listed for with a set. Where the sectors of a duty don't overlap, none has more than a
+/// month.
 pub fn flight_of_duties()
     ensures listed { (days : Days) (list : List Duty)
         → month_flight days list ≡ sum_by (duty_flight days) list }
@@ -22,6 +23,8 @@ pub fn flight_of_duties()
         → month_flight days (duty_list problem k set)
         ≡ sum_by (λ duty. if is_listed k set duty.holder then duty_flight days duty else 0)
         problem.duties }
+    ensures bound { (days : Days) (list : List Duty) → IsTable days → AreFlown list
+        → month_flight days list ≤ length list * MOST_MONTH_MINUTES }
 {}
 
 /// A pairing that comes to a set brings the flight of its duties.
@@ -31,6 +34,15 @@ pub fn flight_of_one_pairing_more()
         → month_flight days (duty_list problem k (set ++ p ∷ []))
         ≡ month_flight days (duty_list problem k set)
         + month_flight days (filter (is_of_pairing p) problem.duties) }
+{}
+
+/// So the flight of a set is that of the person's fixed duties, and of the duties of each pairing.
+pub fn flight_of_set()
+    ensures { (problem : Tables) (days : Days) (k : ℕ) (set : List ℕ)
+        → IsStrictlyIncreasing set
+        → month_flight days (duty_list problem k set)
+        ≡ month_flight days (filter (is_of_person k) problem.duties)
+        + sum_by (λ p. month_flight days (filter (is_of_pairing p) problem.duties)) set }
 {}
 
 /// Each duty is on the list of one person at most, whatever the places, legal or not: the lists of
@@ -46,7 +58,7 @@ pub fn one_list_of_each_duty()
 pub fn flight_of_all()
     ensures { (problem : Tables) (places : List ℕ) (persons : ℕ)
         → All (λ base. IsTable base.days) problem.bases
-        → All (λ duty. AreSectors duty.report duty.release duty.sectors) problem.duties
+        → AreFlown problem.duties
         → sum_by (λ k. month_flight (home_of problem k).days
         (duty_list problem k (set_of k places))) (range_with_len 0 persons)
         ≤ length problem.duties * MOST_MONTH_MINUTES }

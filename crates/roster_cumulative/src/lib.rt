@@ -21,7 +21,8 @@ mod sums;
 mod table;
 
 pub use laws::{
-    flight_of_all, flight_of_duties, flight_of_one_pairing_more, one_list_of_each_duty,
+    flight_of_all, flight_of_duties, flight_of_one_pairing_more, flight_of_set,
+    one_list_of_each_duty,
 };
 pub use limits::{ListLimits, cumulative_broken};
 pub use sums::{duty_flight, duty_on, flight_on, greatest_duty, greatest_flight, month_flight};

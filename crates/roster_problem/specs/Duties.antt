@@ -5,6 +5,7 @@ use Rattle.std.specs.Option.{option_map_or, option_to_list}
 use Rattle.roster_model.specs.declared.limits.TheConstants.{MOST_DUTIES}
 use Rattle.roster_model.specs.Problem.{Problem, precedes}
 use Rattle.roster_model.specs.Faults.{IsFaultless}
+use Rattle.roster_problem.specs.Sectors.{AreSectors}
 use Rattle.roster_problem.specs.Sound.{IsSound}
 use Rattle.roster_model.specs.Rules.{is_among}
 use Rattle.roster_model.specs.records.Duty.{Duty, is_held_by_pairing, is_held_by_person}
@@ -17,6 +18,10 @@ IsInOrder duties = AllPairs (λ a b. precedes b a ≡ false) duties
 -- each duty ends after it begins
 abbrev pub AreTimed : List Duty → Type 0
 AreTimed duties = All (λ duty. duty.report < duty.release) duties
+
+-- each duty's sectors lie in it, one after another
+abbrev pub AreFlown : List Duty → Type 0
+AreFlown duties = All (λ duty. AreSectors duty.report duty.release duty.sectors) duties
 
 -- the elements at the positions, one after another
 abbrev pub picked : {X : Type 0} → List X → List ℕ → List X
@@ -71,6 +76,7 @@ pub record IsKept (problem : Problem) (by_pairing by_person on_leave : List (Lis
   pub faultless : IsFaultless problem
   pub ordered : IsInOrder problem.duties
   pub timed : AreTimed problem.duties
+  pub flown : AreFlown problem.duties
   pub of_pairings : IsIndex is_of_pairing (length problem.pairings) problem.duties by_pairing
   pub of_persons : IsIndex is_of_person (length problem.persons) problem.duties by_person
   pub leaves : IsIndex is_leave_of (length problem.persons) problem.leaves on_leave

@@ -1,6 +1,6 @@
 -- What the tables of records without a fault keep, as far as code counts on it.
 use Rattle.std.specs.Prelude.{ℕ, ◌<◌, ◌≤◌, length, unsigned_abs, All}
-use Rattle.roster_model.specs.declared.limits.TheConstants.{MOST_BASES, MOST_PERSONS, MOST_PAIRINGS, MOST_DUTIES, MOST_LEAVES, MOST_COSTS, MOST_PENALTY, MOST_UNITS, MOST_WEIGHT}
+use Rattle.roster_model.specs.declared.limits.TheConstants.{MOST_BASES, MOST_PERSONS, MOST_PAIRINGS, MOST_DUTIES, MOST_LEAVES, MOST_COSTS, MOST_MINUTES, MOST_PENALTY, MOST_UNITS, MOST_WEIGHT}
 use Rattle.roster_model.specs.Problem.{Problem, weight_of}
 use Rattle.roster_model.specs.records.Duty.{Holder, OfPairing, OfPerson}
 
@@ -19,6 +19,7 @@ pub record IsSound (problem : Problem) : Type 0 where
   pub costs : length problem.costs ≤ MOST_COSTS
   -- no amount is beyond its limit
   pub weight : weight_of problem ≤ MOST_WEIGHT
+  pub targets : All (λ person. person.target ≤ MOST_MINUTES) problem.persons
   pub penalties : All (λ pairing. pairing.penalty ≤ MOST_PENALTY) problem.pairings
   pub units : All (λ cost. unsigned_abs cost.units ≤ MOST_UNITS) problem.costs
   -- what is referred to is there

@@ -3,6 +3,7 @@
 ghost use Rattle.std.specs.Prelude.{◌≡◌, ◌<◌, ◌++◌, ◌∷◌, [], ℕ, true, is_ok, if◌then◌else◌};
 ghost use Rattle.roster_model.specs.records.Sector.{is_in_sequence};
 ghost use Rattle.roster_problem.specs.Duties.{is_at, is_of_pairing, is_of_person};
+ghost use Rattle.roster_problem.specs.Sectors.{AreSectors};
 
 use crate::name::Name;
 use crate::sector::Sector;
@@ -89,6 +90,7 @@ impl Duty {
     pub(crate) fn pairing(&self) -> Option<usize>
         ensures place { (p : ℕ) → is_of_pairing p self.now ≡ is_at p result }
         ensures timed { self.now.report < self.now.release }
+        ensures flown { AreSectors self.now.report self.now.release self.now.sectors }
     {
         match self.holder {
             Holder::Pairing(p) => Some(p),

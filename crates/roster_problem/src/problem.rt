@@ -5,7 +5,7 @@ ghost use Rattle.roster_model.specs.declared.limits.TheConstants.{MOST_UNITS, MO
 ghost use Rattle.roster_model.specs.Faults.{IsFaultless};
 ghost use Rattle.roster_model.specs.Problem.{home_of, in_order, units_of, weight_of};
 ghost use Rattle.roster_model.specs.records.Leave.{is_leave_of};
-ghost use Rattle.roster_problem.specs.Duties.{ArePositionsOf, AreTimed, IsInOrder, is_of_pairing, is_of_person};
+ghost use Rattle.roster_problem.specs.Duties.{AreFlown, ArePositionsOf, AreTimed, IsInOrder, is_of_pairing, is_of_person};
 ghost use Rattle.roster_problem.specs.Sound.{IsSound};
 
 use crate::base::Base;
@@ -146,6 +146,7 @@ impl Problem {
         ensures faultless { IsFaultless self.now }
         ensures ordered { IsInOrder self.now.duties }
         ensures timed { AreTimed self.now.duties }
+        ensures flown { AreFlown self.now.duties }
     {
         self.duties.as_slice()
     }

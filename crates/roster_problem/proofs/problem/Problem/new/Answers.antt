@@ -5,7 +5,7 @@ use Rattle.roster_model.specs.Faults.{IsFaultless}
 use Rattle.roster_model.specs.Problem.{Problem, in_order}
 use Rattle.roster_model.specs.records.Duty.{Duty}
 use Rattle.roster_model.specs.records.Leave.{Leave, is_leave_of}
-use Rattle.roster_problem.specs.Duties.{AreTimed, IsInOrder, IsIndex, is_at, is_of_pairing, is_of_person}
+use Rattle.roster_problem.specs.Duties.{AreFlown, AreTimed, IsInOrder, IsIndex, is_at, is_of_pairing, is_of_person}
 use Rattle.roster_problem.specs.Sound.{IsHolder, IsSound}
 use Rattle.roster_problem.specs.View.{tables_of}
 use Rattle.roster_problem.proofs.Indexes.{pairing_there, person_there, leave_there}
@@ -40,6 +40,12 @@ by_place-requires-2-clause-there c k d inside p h =
 
 timed : (c : goal.In_ok-on_leave) → AreTimed c.deref.result.now
 timed c k d inside =
+    let given = c.in_ok-by_pairing.ensures.given k d inside in
+    let h = given.1 in
+    search rules
+
+flown : (c : goal.In_ok-on_leave) → AreFlown c.deref.result.now
+flown c k d inside =
     let given = c.in_ok-by_pairing.ensures.given k d inside in
     let h = given.1 in
     search rules
@@ -84,6 +90,7 @@ invariant_of-result c =
       faultless = subst (λ ds. IsFaultless (tables ds)) (sym sorted) c.requires.faultless;
       ordered = subst IsInOrder (sym sorted) (AllPairs-in_order c.args.duties.items);
       timed = subst AreTimed c.deref.ensures.value (timed c);
+      flown = subst AreFlown c.deref.ensures.value (flown c);
       of_pairings = subst (λ duties. IsIndex is_of_pairing (length c.args.pairings.items) duties c.in_ok-by_pairing.by_pairing) c.deref.ensures.value (of_pairings c);
       of_persons = subst (λ duties. IsIndex is_of_person (length c.args.persons.items) duties c.in_ok-by_person.by_person) c.deref-2.ensures.value (of_persons c);
       leaves = subst (λ leaves. IsIndex is_leave_of (length c.args.persons.items) leaves c.in_ok-on_leave.on_leave) c.deref-3.ensures.value (on_leave c);
