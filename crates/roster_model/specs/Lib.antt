@@ -11,6 +11,7 @@ pub mod Busy
 pub mod Faults
 pub mod Rules
 pub mod Rosters
+pub mod Lines
 pub mod Sums
 pub mod Texts
 pub mod Answer
