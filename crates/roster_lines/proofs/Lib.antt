@@ -1,6 +1,8 @@
 pub mod TreeLemmas
 pub mod Listed
 pub mod Marks
+pub mod Nodes
+pub mod Walk
 pub mod Judged
 pub mod Cuts
 pub mod Lists

@@ -23,7 +23,7 @@ among_cases : (front more : List ℕ) (p : ℕ) → is_among (front ++ more) p �
 among_cases front more p h = or_cases _ _ (sym (is_among-append front more p) ∙ h)
 
 pub among_single : (p q : ℕ) → is_among (p ∷ []) q ≡ true → p ≡ q
-pub among_single p q h =
+among_single p q h =
     elim (or_cases _ _ h) [ inl same ↦ eqb-true p q same | inr none ↦ absurd (false≢true none) ]
 
 pub Ascends-parts : (front : List ℕ) (p : ℕ) (rest : List ℕ) → Ascends (front ++ p ∷ rest) → Ascends front × All (λ q. q < p) front × Ascends (p ∷ rest)
@@ -40,6 +40,14 @@ IsLine-empty problem k = record {
   ascending = rising_from_Ascends [] tt;
   places = All-nil (λ p. p < length problem.pairings);
   legal = inl refl;
+}
+
+-- a candidate behind its node, where the two are legal
+pub IsLine-with : (problem : Problem) (k : ℕ) (node : Node) (p : ℕ) → IsNode problem k node → is_among node.candidates p ≡ true → IsLegal problem k (node.set ++ p ∷ []) → IsLine problem k (node.set ++ p ∷ [])
+IsLine-with problem k node p is here legal = record {
+  ascending = rising_from_Ascends _ (Ascends-push node.set p (Ascends-from_rising node.set is.line.ascending) (is.behind p here));
+  places = All-push (λ q. q < length problem.pairings) node.set p is.line.places (is.places p here);
+  legal = legal;
 }
 
 module _ (problem : Problem) (k : ℕ) (legal : ArePartsLegal problem k) where

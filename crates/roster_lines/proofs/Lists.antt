@@ -82,3 +82,18 @@ nobody_crowded problem table k is person =
     let there = slice_get-get_or table k none inside in
     let lines = is.sets.each k (sets_of (get_or table k none)) (slice_get-map sets_of table k ∙ rw there refl) in
     not_crowded problem k _ lines (omega (arith, length-sets_of (get_or table k none), is.few k none inside))
+
+pub IsTableOf-each : (problem : Problem) (table : List (List Entry)) → length table ≡ length problem.persons → ((j : ℕ) (lines : List Entry) → slice_get table j ≡ Some lines → AreLines problem j (sets_of lines) × (length lines ≤ MOST_LINES)) → IsTableOf problem table
+IsTableOf-each problem table covers each =
+    let none : List Entry = [] in
+    record {
+      sets = record {
+        covers = length-map table sets_of ∙ covers;
+        each = λ k sets at.
+            let inside = slice_get_within (map sets_of table) k sets at in
+            let there = slice_get-get_or table k none (omega (arith, length-map table sets_of)) in
+            let same = same_Some _ _ (sym (slice_get-map sets_of table k ∙ rw there refl) ∙ at) in
+            subst (AreLines problem k) same (each k (get_or table k none) there).0;
+      };
+      few = λ k d inside. (each k (get_or table k d) (slice_get-get_or table k d inside)).1;
+    }

@@ -29,12 +29,12 @@ get_push_new sets set =
     slice_get-get_or (sets ++ set ∷ []) (length sets) [] (omega (arith, length_push sets set))
     ∙ ap Some (get_or_push sets set [] (length sets) refl)
 
-All-behind : (P : ℕ → Type 0) (front rest : List ℕ) → All P (front ++ rest) → All P rest
+pub All-behind : (P : ℕ → Type 0) (front rest : List ℕ) → All P (front ++ rest) → All P rest
 All-behind P [] rest all = all
 All-behind P (x ∷ front) rest all = All-behind P front rest (All-tail P x (front ++ rest) all)
 
 -- places below a number stand before it
-before_count : (count : ℕ) (set : List ℕ) → All (λ p. p < count) set → places_le (count ∷ []) set ≡ false
+pub before_count : (count : ℕ) (set : List ℕ) → All (λ p. p < count) set → places_le (count ∷ []) set ≡ false
 before_count count [] below = refl
 before_count count (p ∷ set) below =
     let first : p < count = All-head (λ q. q < count) p set below in
@@ -48,7 +48,7 @@ module _ (problem : Problem) (k : ℕ) where
   }
 
   -- with one line more than there may be
-  pub IsCrowded-push : (sets : List (List ℕ)) (set : List ℕ) → IsUpTo problem k set sets → IsLine problem k set → length sets ≡ MOST_LINES → IsCrowded problem k
+  pub IsCrowded-push : (sets : List (List ℕ)) (set : List ℕ) → IsUpTo problem k set sets → IsLine problem k set → MOST_LINES ≤ length sets → IsCrowded problem k
   IsCrowded-push sets set up line full = record {
     sets = sets ++ set ∷ [];
     some = some-push sets set up line;

@@ -130,17 +130,17 @@ IsTree-first line =
 pub AreOrdered-push : (sets : List (List ℕ)) (set : List ℕ) → AreOrdered sets → All (λ s. places_le set s ≡ false) sets → AreOrdered (sets ++ set ∷ [])
 AreOrdered-push sets set ordered before = all_pairs_push (λ a b. places_le b a ≡ false) sets set ordered before
 
-parents-push : (lines : List Line) (line : Line) → ((i : ℕ) (l : Line) → slice_get lines i ≡ Some l → 0 < i → l.parent < i) → line.parent < length lines → (i : ℕ) (l : Line) → slice_get (lines ++ line ∷ []) i ≡ Some l → 0 < i → l.parent < i
-parents-push lines line parents before i l at later =
-    let inside = slice_get_within (lines ++ line ∷ []) i l at in
-    let long : length (lines ++ line ∷ []) ≡ length lines + 1 = length_push lines line in
-    let here : get_or (lines ++ line ∷ []) i l ≡ l = get_or_from_slice_get (lines ++ line ∷ []) i l l at in
-    elim (cases_lt i (length lines)) [
-      | inl old ↦ parents i l (slice_get-get_or lines i l old ∙ ap Some (sym (get_or_append_left lines (line ∷ []) l i old) ∙ here)) later
+-- what is so of each of some elements at its place, and of one more
+pub each-push : {X : Type 0} (P : ℕ → X → Type 0) (xs : List X) (x : X) → ((i : ℕ) (y : X) → slice_get xs i ≡ Some y → P i y) → P (length xs) x → (i : ℕ) (y : X) → slice_get (xs ++ x ∷ []) i ≡ Some y → P i y
+each-push P xs x each here i y at =
+    let inside = slice_get_within (xs ++ x ∷ []) i y at in
+    let is : get_or (xs ++ x ∷ []) i y ≡ y = get_or_from_slice_get (xs ++ x ∷ []) i y y at in
+    elim (cases_lt i (length xs)) [
+      | inl old ↦ each i y (slice_get-get_or xs i y old ∙ ap Some (sym (get_or_append_left xs (x ∷ []) y i old) ∙ is))
       | inr new ↦
-          let last : length lines ≡ i = omega arith in
-          let same : line ≡ l = sym (get_or_push lines line l i last) ∙ here in
-          subst (λ (x : Line). x.parent < i) same (subst (λ n. line.parent < n) last before)
+          let last : length xs ≡ i = omega (arith, inside, length_push xs x) in
+          let same : x ≡ y = sym (get_or_push xs x y i last) ∙ is in
+          subst (P i) same (subst (λ n. P n x) last here)
     ]
 
 pub IsTree-push : (lines : List Line) (line : Line) → IsTree lines → length lines < MOST_LINES → line.parent < length lines → line.last < MOST_PAIRINGS → All (λ p. p < line.last) (set_at (entries_in lines) line.parent) → All (λ set. places_le (longer (entries_in lines) line.parent line.last) set ≡ false) (sets_of (entries_in lines)) → IsTree (lines ++ line ∷ [])
@@ -152,7 +152,7 @@ IsTree-push lines line tree room parent last later before =
     ap sets_of (entries_in-push lines line (omega arith)) ∙ sets_of-push entries (entry_of set) in
     let up = Ascends-from_rising (set_at entries line.parent) (tree.ascending line.parent [] (omega arith)) in
     record {
-      parents = parents-push lines line tree.parents parent;
+      parents = each-push (λ i (l : Line). 0 < i → l.parent < i) lines line tree.parents (λ later. parent);
       ascending = subst (All IsStrictlyIncreasing) (sym sets) (All-push IsStrictlyIncreasing (sets_of entries) set tree.ascending (rising_from_Ascends set (Ascends-push (set_at entries line.parent) line.last up later)));
       places = subst (All (All (λ p. p < MOST_PAIRINGS))) (sym sets) (All-push (All (λ p. p < MOST_PAIRINGS)) (sets_of entries) set tree.places (All-push (λ p. p < MOST_PAIRINGS) (set_at entries line.parent) line.last (tree.places line.parent [] (omega arith)) last));
       ordered = subst AreOrdered (sym sets) (AreOrdered-push (sets_of entries) set tree.ordered before);

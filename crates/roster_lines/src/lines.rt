@@ -99,7 +99,7 @@ impl Lines {
         ensures { IsCut (sets_of self.now) (p ∷ []) result }
     {
         if p == MOST_PAIRINGS {
-            return self.width();
+            return self.lines.len();
         }
         self.count_before(&Set::empty().with(p).unwrap())
     }
@@ -123,7 +123,7 @@ impl Lines {
 
     /// Whether there are as many as there may be.
     pub(crate) fn is_full(&self) -> bool
-        ensures { IsTrue result ↔ (length self.now ≡ MOST_LINES) }
+        ensures { IsTrue result ↔ (MOST_LINES ≤ length self.now) }
     {
         self.lines.len() == MOST_LINES
     }

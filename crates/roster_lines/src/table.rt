@@ -9,7 +9,7 @@ use crate::extend::{LinesFault, lines_of};
 use crate::lines::Lines;
 use roster_model::limits::MOST_PAIRINGS;
 use roster_problem::{Problem, Set};
-use std::alloc::{AllocError, Global};
+use std::alloc::{AllocError, AllocFailed, Global};
 use std::marker::Model;
 use thiserror::Error;
 
@@ -31,6 +31,17 @@ impl From<AllocError> for TableFault {
     ghost from_gives = { λ _ e. e ≡ Memory };
 
     fn from(_: AllocError) -> TableFault {
+        TableFault::Memory
+    }
+}
+
+impl<T: Drop> From<AllocFailed<T>> for TableFault {
+    ghost use Rattle.std.specs.Prelude.{◌≡◌};
+    ghost use Rattle.roster_lines.specs.declared.table.TableFault.TheVariants.{Memory};
+
+    ghost from_gives = { λ _ e. e ≡ Memory };
+
+    fn from(_: AllocFailed<T>) -> TableFault {
         TableFault::Memory
     }
 }
@@ -62,7 +73,7 @@ pub fn table_of(alloc: Global, problem: &Problem) -> Result<Table, TableFault>
             Err(LinesFault::TooMany) => return Err(TableFault::TooMany(k)),
             Err(LinesFault::Memory) => return Err(TableFault::Memory),
         };
-        persons.push(lines).map_err(AllocError::from)?;
+        persons.push(lines)?;
     }
     Ok(Table { persons })
 }

@@ -15,6 +15,8 @@ mod instants;
 #[cfg(test)]
 mod legal;
 #[cfg(test)]
+mod lines;
+#[cfg(test)]
 mod rest;
 #[cfg(test)]
 mod runs;
