@@ -1,11 +1,11 @@
 -- Where a list of sets in order is cut by a mark.
-use Rattle.std.proofs.Common.{◌≡◌, ℕ, ◌+◌, ◌<◌, ◌≤◌, true, false, ◌⊎◌, List, [], ◌∷◌, length, get_or, Some, refl, sym, ap, ◌∙◌, subst, inl, inr, arith}
+use Rattle.std.proofs.Common.{◌≡◌, ℕ, ◌+◌, ◌<◌, ◌≤◌, true, false, List, [], ◌∷◌, length, get_or, Some, sym, ap, ◌∙◌, subst, inl, inr, arith}
 use Rattle.std.specs.Prelude.{◌↔◌, slice_get}
 use Rattle.std.proofs.lemmas.Bool.{both_ways, cases_lt, cases_order, false_from_ne_true}
 use Rattle.std.proofs.lemmas.Option.{none-some, same_Some, slice_get_within, slice_get-get_or, get_or_from_slice_get}
 use Rattle.roster_model.specs.Lines.{AreOrdered}
 use Rattle.roster_model.specs.Rosters.{places_le}
-use Rattle.roster_model.proofs.PlacesOrder.{places_le-refl, places_le-trans, at_most_from_before, before-trans_left, before-trans_right, between_marks, first_at_most, marks_at_most}
+use Rattle.roster_model.proofs.PlacesOrder.{places_le-refl, places_le-trans, at_most_from_before, before-trans_left, between_marks, first_at_most, marks_at_most}
 use Rattle.roster_lines.specs.Entries.{IsCut}
 
 -- of two of the sets the earlier one stands before the other

@@ -1,9 +1,9 @@
 -- Which pairings have been judged to be legal, alone or with another.
-use Rattle.std.proofs.Common.{◌≡◌, ℕ, ◌+◌, ◌<◌, ◌≤◌, true, false, ◌||◌, eqb, eq-eqb, List, [], ◌∷◌, length, refl, sym, ap, ◌∙◌, subst, inl, inr, arith}
+use Rattle.std.proofs.Common.{◌≡◌, ℕ, ◌+◌, ◌<◌, ◌≤◌, true, false, ◌||◌, eqb, eq-eqb, List, [], ◌∷◌, sym, ◌∙◌, subst, inl, inr, arith}
 use Rattle.std.specs.Prelude.{◌↔◌}
-use Rattle.std.proofs.lemmas.Bool.{eqb-true, cases_eq, cases_lt, false≢true, both_ways, or_cases, or_left, or_right}
+use Rattle.std.proofs.lemmas.Bool.{eqb-true, cases_lt, false≢true, both_ways, or_cases, or_left, or_right}
 use Rattle.roster_model.specs.Problem.{Problem}
-use Rattle.roster_model.specs.Rules.{is_among, IsLegal}
+use Rattle.roster_model.specs.Rules.{is_among}
 use Rattle.roster_model.proofs.SetLemmas.{is_among-here}
 use Rattle.roster_lines.specs.Listing.{AreAlone, ArePartsLegal, AreTogether, IsRow}
 use Rattle.roster_lines.proofs.Listed.{among_single}

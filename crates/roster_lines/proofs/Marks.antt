@@ -1,5 +1,5 @@
 -- The lines before a mark, as the mark moves on.
-use Rattle.std.proofs.Common.{◌≡◌, ℕ, ◌+◌, ◌<◌, ◌≤◌, true, false, List, [], ◌∷◌, ◌++◌, length, get_or, Some, refl, sym, ap, ◌∙◌, subst, inl, inr, arith}
+use Rattle.std.proofs.Common.{◌≡◌, ℕ, ◌+◌, ◌<◌, ◌≤◌, true, false, List, [], ◌∷◌, ◌++◌, length, Some, refl, sym, ap, ◌∙◌, subst, inl, inr, arith}
 use Rattle.std.specs.Prelude.{All, slice_get}
 use Rattle.std.proofs.lemmas.Bool.{both_ways, cases_Bool, false_from_ne_true}
 use Rattle.std.proofs.lemmas.List.{append_assoc, length_push, get_or_append_left, get_or_push}
@@ -11,7 +11,6 @@ use Rattle.roster_model.specs.Lines.{AreLines, AreSomeLines, IsCrowded, IsLine}
 use Rattle.roster_model.specs.Problem.{Problem}
 use Rattle.roster_model.specs.Rosters.{places_le}
 use Rattle.roster_model.proofs.PlacesOrder.{before-trans_right, between_marks, front_at_most, front_before, marks_at_most, nothing_between, places_le-append, places_le-trans, first_at_most, by_less}
-use Rattle.roster_model.proofs.SetLemmas.{rising_from_Ascends}
 use Rattle.roster_lines.specs.Listing.{IsUpTo}
 use Rattle.roster_lines.proofs.Listed.{IsLine-empty}
 use Rattle.roster_lines.proofs.TreeLemmas.{AreOrdered-push}

@@ -1,13 +1,13 @@
 -- The lines up to a candidate of a node, and past it.
-use Rattle.std.proofs.Common.{◌≡◌, ℕ, ◌+◌, ◌<◌, ◌≤◌, true, false, List, [], ◌∷◌, ◌++◌, length, Option, Some, None, refl, sym, ap, ◌∙◌, subst, arith}
-use Rattle.std.specs.Prelude.{All, MatchOption, slice_get}
+use Rattle.std.proofs.Common.{◌≡◌, ℕ, ◌+◌, ◌<◌, ◌≤◌, false, List, [], ◌∷◌, ◌++◌, Option, Some, None, sym, ap, ◌∙◌, subst, arith}
+use Rattle.std.specs.Prelude.{MatchOption, slice_get}
 use Rattle.std.proofs.lemmas.Bool.{both_ways}
 use Rattle.std.proofs.lemmas.Option.{get_or_from_slice_get}
 use Rattle.roster_model.specs.Lines.{IsLine}
 use Rattle.roster_model.specs.Problem.{Problem}
 use Rattle.roster_model.specs.Rules.{is_among}
 use Rattle.roster_lines.specs.declared.extend.Node.{Node}
-use Rattle.roster_lines.specs.Entries.{Entry, entry_of, longer, set_at, sets_of}
+use Rattle.roster_lines.specs.Entries.{Entry, entry_of, longer, sets_of}
 use Rattle.roster_lines.specs.Listing.{ArePartsLegal, IsNode, IsUpTo}
 use Rattle.roster_lines.proofs.Listed.{no_line_behind}
 use Rattle.roster_lines.proofs.Marks.{IsUpTo-skip}

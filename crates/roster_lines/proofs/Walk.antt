@@ -1,5 +1,5 @@
 -- From a line to its parents.
-use Rattle.std.proofs.Common.{◌≡◌, ℕ, ◌+◌, ◌<◌, ◌≤◌, List, [], ◌∷◌, ◌++◌, length, Some, sym, ap, ◌∙◌, subst, arith}
+use Rattle.std.proofs.Common.{◌≡◌, ℕ, ◌<◌, List, [], ◌∷◌, ◌++◌, length, Some, sym, ap, ◌∙◌, subst, arith}
 use Rattle.std.specs.Prelude.{All, slice_get}
 use Rattle.std.proofs.lemmas.List.{append_assoc}
 use Rattle.std.proofs.lemmas.List.Elements.{All-head}
@@ -9,7 +9,7 @@ use Rattle.roster_model.proofs.SetLemmas.{Ascends, Ascends-from_rising}
 use Rattle.roster_problem.specs.Set.{with_place}
 use Rattle.roster_problem.proofs.SetParts.{with_place-first}
 use Rattle.roster_lines.specs.declared.lines.Line.{Line}
-use Rattle.roster_lines.specs.Entries.{Entry, longer, set_at, sets_of}
+use Rattle.roster_lines.specs.Entries.{longer, set_at, sets_of}
 use Rattle.roster_lines.specs.Tree.{entries_in, IsTree}
 use Rattle.roster_lines.proofs.Listed.{Ascends-parts}
 use Rattle.roster_lines.proofs.Marks.{All-behind}

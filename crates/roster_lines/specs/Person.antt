@@ -1,7 +1,7 @@
 -- The lines of all persons.
 use Rattle.std.specs.Prelude.{ℕ, ◌≤◌, List, [], length, map, slice_index_or, All}
 use Rattle.roster_model.specs.declared.limits.TheConstants.{MOST_LINES}
-use Rattle.roster_model.specs.Lines.{AreTables, IsFirstCrowded}
+use Rattle.roster_model.specs.Lines.{AreTables}
 use Rattle.roster_model.specs.Problem.{Problem}
 use Rattle.roster_lines.specs.Entries.{Entry, sets_of}
 

@@ -18,6 +18,9 @@ struct Line {
     last: u16,
 }
 
+// There may be millions of lines.
+const _: () = prove!(size_of::<Line>() <= 24);
+
 /// The lines of a person in their order, each once, from the empty one on. Contracts see the list of
 /// their sets.
 #[derive(Debug, Drop)]

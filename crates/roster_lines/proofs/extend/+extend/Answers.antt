@@ -1,15 +1,14 @@
-use Rattle.std.proofs.Common.{◌≡◌, ℕ, ◌+◌, ◌<◌, ◌≤◌, false, List, [], ◌∷◌, ◌++◌, length, Some, refl, sym, ap, subst, ◌∙◌, arith}
+use Rattle.std.proofs.Common.{◌≡◌, ℕ, ◌+◌, ◌<◌, false, [], ◌∷◌, ◌++◌, length, refl, sym, ap, subst, ◌∙◌, arith}
 use Rattle.std.specs.Prelude.{All, slice_get}
-use Rattle.std.proofs.lemmas.Bool.{both_ways}
 use Rattle.std.proofs.lemmas.Option.{slice_get_read, slice_get_within, get_or_from_slice_get}
 use Rattle.roster_model.specs.Lines.{IsLine}
 use Rattle.roster_model.specs.Rosters.{places_le}
 use Rattle.roster_legal.proofs.Gathered.{length_within}
 use Rattle.roster_lines.specs.declared.extend.Node.{Node}
-use Rattle.roster_lines.specs.Entries.{longer, set_at, sets_of}
-use Rattle.roster_lines.specs.Listing.{IsNode, IsUpTo}
+use Rattle.roster_lines.specs.Entries.{sets_of}
+use Rattle.roster_lines.specs.Listing.{IsUpTo}
 use Rattle.roster_lines.proofs.Listed.{IsNode-below}
-use Rattle.roster_lines.proofs.Marks.{get_push_new, get_push_old, IsCrowded-push, IsUpTo-push, IsUpTo-return, IsUpTo-skip}
+use Rattle.roster_lines.proofs.Marks.{get_push_new, get_push_old, IsCrowded-push, IsUpTo-push, IsUpTo-return}
 use Rattle.roster_lines.proofs.Nodes.{line_there, no_line_there, longer_set, past_candidate, sets_pushed, up_to_candidate}
 use Rattle.roster_lines.proofs.TreeLemmas.{length-sets_of}
 use Rattle.roster_lines.proofs.extend.+extend.Goals.{in-Some-2+else-is_full+in_ok-push+in_ok-extend, in_default-2}

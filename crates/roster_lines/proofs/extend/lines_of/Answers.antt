@@ -1,9 +1,9 @@
-use Rattle.std.proofs.Common.{◌≡◌, ℕ, ◌≤◌, List, [], ◌∷◌, ◌++◌, length, sym, ap, subst, ◌∙◌, arith}
+use Rattle.std.proofs.Common.{◌≡◌, ℕ, List, [], ◌∷◌, ◌++◌, length, sym, ap, subst, ◌∙◌, arith}
 use Rattle.roster_lines.specs.declared.extend.Node.{Node}
 use Rattle.roster_lines.specs.Entries.{sets_of}
 use Rattle.roster_lines.specs.Listing.{IsNode, IsUpTo}
 use Rattle.roster_lines.proofs.Listed.{IsNode-root}
-use Rattle.roster_lines.proofs.Marks.{AreLines-up_to, IsUpTo-empty}
+use Rattle.roster_lines.proofs.Marks.{AreLines-up_to}
 use Rattle.roster_lines.proofs.TreeLemmas.{length-entries_in}
 use Rattle.roster_lines.proofs.extend.lines_of.Goals as goal
 

@@ -1,4 +1,4 @@
-use Rattle.std.proofs.Common.{ℕ, [], ◌∷◌}
+use Rattle.std.proofs.Common.{[], ◌∷◌}
 use Rattle.roster_model.specs.Rules.{IsLegal}
 use Rattle.roster_lines.proofs.Judged.{HasBelow}
 use Rattle.roster_lines.proofs.pairs.alone_of.Given as goal

@@ -1,6 +1,5 @@
 use Rattle.std.proofs.Common.{◌≡◌, ℕ, ◌-◌, ◌<◌, ◌≤◌, true, false, List, length, Some}
 use Rattle.std.specs.Prelude.{slice_get}
-use Rattle.roster_model.specs.Lines.{AreOrdered}
 use Rattle.roster_model.specs.Rosters.{places_le}
 use Rattle.roster_lines.specs.Entries.{sets_of}
 use Rattle.roster_lines.proofs.lines.Lines.count_before.Given as goal

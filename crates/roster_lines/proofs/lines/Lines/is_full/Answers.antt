@@ -1,4 +1,4 @@
-use Rattle.std.proofs.Common.{◌≡◌, length, eqb, eq-eqb, sym, ap, ◌∙◌, arith}
+use Rattle.std.proofs.Common.{◌≡◌, length, eq-eqb, sym, ap, ◌∙◌, arith}
 use Rattle.std.proofs.lemmas.Bool.{eqb-true}
 use Rattle.roster_lines.proofs.TreeLemmas.{length-entries_in}
 use Rattle.roster_lines.proofs.lines.Lines.is_full.Goals as goal

@@ -1,9 +1,8 @@
-use Rattle.std.proofs.Common.{◌≡◌, ℕ, ◌<◌, [], ◌++◌, length, Some, refl, sym, ap, subst, ◌∙◌, arith, append-nil}
-use Rattle.std.specs.Prelude.{slice_get}
+use Rattle.std.proofs.Common.{◌≡◌, [], ◌++◌, length, Some, refl, sym, ap, subst, ◌∙◌, arith, append-nil}
 use Rattle.std.specs.Prelude.{IsOkAnd}
-use Rattle.std.proofs.lemmas.Option.{slice_get_read, slice_get_within}
+use Rattle.std.proofs.lemmas.Option.{slice_get_read}
 use Rattle.roster_problem.specs.Set.{with_place}
-use Rattle.roster_lines.specs.Entries.{set_at, sets_of}
+use Rattle.roster_lines.specs.Entries.{set_at}
 use Rattle.roster_lines.specs.Tree.{entries_in}
 use Rattle.roster_lines.proofs.TreeLemmas.{length-entries_in, set_at_first, set_at_get}
 use Rattle.roster_lines.proofs.Walk.{last_below, walked}
