@@ -1,4 +1,3 @@
 pub mod OnDay
 pub mod InRun
 pub mod Flown
-pub mod KeptLimits

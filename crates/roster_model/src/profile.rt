@@ -19,6 +19,15 @@ pub const NIGHT_REST: u32 = 480;
 /// The time from the end of a recurrent rest to the start of the next, in minutes, at most: 168 hours.
 pub const BETWEEN_RECURRENT_RESTS: u32 = 10_080;
 
+/// The days of a short run. (ORO.FTL.210(a)(1).)
+pub const SHORT_RUN: usize = 7;
+
+/// The days of a middle run. (ORO.FTL.210(a)(2).)
+pub const MIDDLE_RUN: usize = 14;
+
+/// The days of a long run. (ORO.FTL.210(a)(3), (b)(1).)
+pub const LONG_RUN: usize = 28;
+
 /// The duty of 7 days in a row, at most: 60 hours. (ORO.FTL.210(a)(1).)
 pub const MOST_DUTY_IN_7_DAYS: u64 = 3_600;
 

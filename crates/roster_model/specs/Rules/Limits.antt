@@ -1,6 +1,6 @@
 -- Limits of duty and of flight: ORO.FTL.210 of Regulation (EU) No 83/2014.
 use Rattle.std.specs.Prelude.{ℕ, ◌+◌, ◌≤◌, List, All}
-use Rattle.roster_model.specs.declared.profile.TheConstants.{MOST_DUTY_IN_7_DAYS, MOST_DUTY_IN_14_DAYS, MOST_DUTY_IN_28_DAYS, MOST_FLIGHT_IN_28_DAYS, MOST_FLIGHT_IN_A_YEAR, MOST_FLIGHT_IN_12_MONTHS}
+use Rattle.roster_model.specs.declared.profile.TheConstants.{SHORT_RUN, MIDDLE_RUN, LONG_RUN, MOST_DUTY_IN_7_DAYS, MOST_DUTY_IN_14_DAYS, MOST_DUTY_IN_28_DAYS, MOST_FLIGHT_IN_28_DAYS, MOST_FLIGHT_IN_A_YEAR, MOST_FLIGHT_IN_12_MONTHS}
 use Rattle.roster_model.specs.Calendar.{Days}
 use Rattle.roster_model.specs.records.Duty.{Duty}
 use Rattle.roster_model.specs.Sums.{in_run, judged_days, duty_on, flight_on, month_flight}
@@ -11,19 +11,19 @@ KeepsLimit minutes days n most = All (λ last. in_run minutes n last ≤ most) (
 
 -- (ORO.FTL.210(a)(1))
 abbrev pub KeepsDuty7 : Days → List Duty → Type 0
-KeepsDuty7 days list = KeepsLimit (duty_on days list) days 7 MOST_DUTY_IN_7_DAYS
+KeepsDuty7 days list = KeepsLimit (duty_on days list) days SHORT_RUN MOST_DUTY_IN_7_DAYS
 
 -- (ORO.FTL.210(a)(2))
 abbrev pub KeepsDuty14 : Days → List Duty → Type 0
-KeepsDuty14 days list = KeepsLimit (duty_on days list) days 14 MOST_DUTY_IN_14_DAYS
+KeepsDuty14 days list = KeepsLimit (duty_on days list) days MIDDLE_RUN MOST_DUTY_IN_14_DAYS
 
 -- (ORO.FTL.210(a)(3))
 abbrev pub KeepsDuty28 : Days → List Duty → Type 0
-KeepsDuty28 days list = KeepsLimit (duty_on days list) days 28 MOST_DUTY_IN_28_DAYS
+KeepsDuty28 days list = KeepsLimit (duty_on days list) days LONG_RUN MOST_DUTY_IN_28_DAYS
 
 -- (ORO.FTL.210(b)(1))
 abbrev pub KeepsFlight28 : Days → List Duty → Type 0
-KeepsFlight28 days list = KeepsLimit (flight_on days list) days 28 MOST_FLIGHT_IN_28_DAYS
+KeepsFlight28 days list = KeepsLimit (flight_on days list) days LONG_RUN MOST_FLIGHT_IN_28_DAYS
 
 -- with what was flown in the calendar year before the month (ORO.FTL.210(b)(2))
 abbrev pub KeepsFlightYear : Days → List Duty → ℕ → Type 0

@@ -5,7 +5,7 @@ use Rattle.std.specs.Option.{option_map_or}
 use Rattle.roster_model.specs.declared.limits.TheConstants.{MOST_PAIRINGS}
 use Rattle.roster_model.specs.Rules.{is_among, is_listed}
 use Rattle.roster_legal.proofs.Gathered.{places_before}
-use Rattle.roster_legal.proofs.listing.positions_of.Given as goal
+use Rattle.roster_legal.proofs.listing.positions_in.Given as goal
 
 -- the positions of the fixed duties and of the duties of the pairings so far, each once
 abbrev pub invariant-loop-p : goal.invariant-loop-p
