@@ -7,68 +7,9 @@ use Rattle.std.proofs.lemmas.Cmp.{same_from_slice_cmp_tested, int_ranked}
 use Rattle.std.specs.Ordering.{is_some_and, MatchOrdering}
 use Rattle.std.specs.Cmp.Lexicographic.{slice_partial_cmp}
 use Rattle.std.proofs.lemmas.Int.{ints}
+use Rattle.roster_model.proofs.PlacesOrder.{places_le-refl, places_le-trans, places_le-antisym, places_le-total}
 use Rattle.roster_model.specs.Places.{places_le}
 use Rattle.roster_model.specs.Rosters.{Key, key_le}
-
--- ---- the lists
-
-heads : (x y : ℕ) (xs ys : List ℕ) → places_le (x ∷ xs) (y ∷ ys) ≡ true → (x < y) ⊎ ((x ≡ y) × (places_le xs ys ≡ true))
-heads x y xs ys h =
-    elim (or_cases (ltb x y) _ h) [
-      | inl less ↦ inl (ltb-true x y less)
-      | inr same ↦ let parts = and_parts (eqb x y) _ same in inr (eqb-true x y parts.0, parts.1)
-    ]
-
-by_less : (x y : ℕ) (xs ys : List ℕ) → x < y → places_le (x ∷ xs) (y ∷ ys) ≡ true
-by_less x y xs ys h = or_left (ltb x y) _ (lt-ltb x y h)
-
-by_rest : (x y : ℕ) (xs ys : List ℕ) → x ≡ y → places_le xs ys ≡ true → places_le (x ∷ xs) (y ∷ ys) ≡ true
-by_rest x y xs ys e h = or_right (ltb x y) _ (and_from _ _ (eq-eqb x y e) h)
-
-pub places_le-refl : (xs : List ℕ) → places_le xs xs ≡ true
-places_le-refl [] = refl
-places_le-refl (x ∷ xs) = by_rest x x xs xs refl (places_le-refl xs)
-
-pub places_le-trans : (xs ys zs : List ℕ) → places_le xs ys ≡ true → places_le ys zs ≡ true → places_le xs zs ≡ true
-places_le-trans [] ys zs h g = refl
-places_le-trans (x ∷ xs) [] zs h g = absurd (false≢true h)
-places_le-trans (x ∷ xs) (y ∷ ys) [] h g = absurd (false≢true g)
-places_le-trans (x ∷ xs) (y ∷ ys) (z ∷ zs) h g =
-    elim (heads x y xs ys h) [
-      | inl less ↦ by_less x z xs zs (elim (heads y z ys zs g) [ inl more ↦ omega arith | inr same ↦ omega (arith, same.0) ])
-      | inr same ↦ elim (heads y z ys zs g) [
-        | inl more ↦ by_less x z xs zs (omega (arith, same.0))
-        | inr also ↦ by_rest x z xs zs (same.0 ∙ also.0) (places_le-trans xs ys zs same.1 also.1)
-      ]
-    ]
-
-pub places_le-antisym : (xs ys : List ℕ) → places_le xs ys ≡ true → places_le ys xs ≡ true → xs ≡ ys
-places_le-antisym [] [] h g = refl
-places_le-antisym [] (y ∷ ys) h g = absurd (false≢true g)
-places_le-antisym (x ∷ xs) [] h g = absurd (false≢true h)
-places_le-antisym (x ∷ xs) (y ∷ ys) h g =
-    elim (heads x y xs ys h) [
-      | inl less ↦ absurd (elim (heads y x ys xs g) [ inl more ↦ omega arith | inr same ↦ omega (arith, same.0) ])
-      | inr same ↦ elim (heads y x ys xs g) [
-        | inl more ↦ absurd (omega (arith, same.0))
-        | inr also ↦ ap₂ (λ a rest. a ∷ rest) same.0 (places_le-antisym xs ys same.1 also.1)
-      ]
-    ]
-
-pub places_le-total : (xs ys : List ℕ) → (places_le xs ys ≡ true) ⊎ (places_le ys xs ≡ true)
-places_le-total [] ys = inl refl
-places_le-total (x ∷ xs) [] = inr refl
-places_le-total (x ∷ xs) (y ∷ ys) =
-    elim (cases_order x y) [
-      | inl same ↦ elim (places_le-total xs ys) [
-        | inl h ↦ inl (by_rest x y xs ys same h)
-        | inr h ↦ inr (by_rest y x ys xs (sym same) h)
-      ]
-      | inr apart ↦ elim apart [
-        | inl less ↦ inl (by_less x y xs ys less)
-        | inr more ↦ inr (by_less y x ys xs more)
-      ]
-    ]
 
 -- ---- the keys
 

@@ -1,5 +1,6 @@
 pub mod OrderLemmas
 pub mod PlacesLemmas
+pub mod PlacesOrder
 pub mod SetLemmas
 pub mod OffsetLemmas
 pub mod WindowLemmas

@@ -1,7 +1,7 @@
 -- A set with one place more, and its places from one on.
 use Rattle.std.proofs.Common.{◌≡◌, ℕ, ◌+◌, ◌<◌, ◌≤◌, Bool, true, false, ◌&&◌, ◌||◌, eqb, eq-eqb, List, [], ◌∷◌, ◌++◌, refl, sym, ap, ◌∙◌, subst, inl, inr, arith}
 use Rattle.std.specs.Prelude.{nat_lt, nat_le, All, filter}
-use Rattle.std.proofs.Math.Bool.{or-false, or-true}
+use Rattle.std.proofs.Math.Bool.{or-false, or-true, or_comm}
 use Rattle.std.proofs.lemmas.Bool.{cases_order, cases_lt, eqb-true, lt-ltb, le-ltb, le-leb, lt-leb, ltb-true, leb-true, ne_eqb}
 use Rattle.std.proofs.lemmas.List.Elements.{All-cons, All-weaker, filter_passes}
 use Rattle.roster_model.specs.Rules.{is_among}
@@ -46,6 +46,11 @@ pub with_place-last : (p : ℕ) (set : List ℕ) → Ascends set → All (λ q. 
 with_place-last p set up last =
     same_set _ _ (Ascends-with_place p set up) (Ascends-push set p up last) (λ q.
     is_among-with_place p set q ∙ sym (is_among-append set (p ∷ []) q ∙ ap (λ b. is_among set q || b) (or-false (eqb p q))))
+
+-- a place before all others stands at the front
+pub with_place-first : (p : ℕ) (set : List ℕ) → Ascends set → All (λ q. p < q) set → with_place p set ≡ p ∷ set
+with_place-first p set up first =
+    same_set _ _ (Ascends-with_place p set up) (first, up) (λ q. is_among-with_place p set q ∙ or_comm (is_among set q) (eqb p q))
 
 -- ---- the places from one on
 

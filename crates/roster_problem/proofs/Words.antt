@@ -136,3 +136,18 @@ meet_in_word words others i fits some =
     let bit : ℕ = trailing_zeros w64 both in
     let ones = both_one _ _ (bit_at-lt (get_or words i 0) bit) (bit_at-lt (get_or others i 0) bit) (sym (bit_at_and (get_or words i 0) (get_or others i 0) bit) ∙ lowest.1) in
     (i * 64 + bit, has_bit_at words i bit lowest.0 ∙ ap (λ n. eqb n 1) ones.0, has_bit_at others i bit lowest.0 ∙ ap (λ n. eqb n 1) ones.1)
+
+one_of_both : (a b : ℕ) → a < 2 → b < 2 → eqb (min a b) 1 ≡ (eqb a 1 && eqb b 1)
+one_of_both zero b l m = let none : min 0 b ≡ 0 = omega arith in ap (λ n. eqb n 1) none
+one_of_both (suc zero) zero l m = refl
+one_of_both (suc zero) (suc zero) l m = refl
+one_of_both (suc zero) (suc (suc b)) l m = absurd (omega arith)
+one_of_both (suc (suc a)) b l m = absurd (omega arith)
+
+-- a bit of words that have the bits of both
+pub bit_of_both : (words others both : List ℕ) (p : ℕ) → get_or both (p / 64) 0 ≡ bit_and (get_or words (p / 64) 0) (get_or others (p / 64) 0) → has_bit both p ≡ (has_bit words p && has_bit others p)
+bit_of_both words others both p word =
+    let bit : ℕ = p % 64 in
+    ap (λ w. eqb (bit_at w bit) 1) word
+    ∙ ap (λ n. eqb n 1) (bit_at_and (get_or words (p / 64) 0) (get_or others (p / 64) 0) bit)
+    ∙ one_of_both _ _ (bit_at-lt (get_or words (p / 64) 0) bit) (bit_at-lt (get_or others (p / 64) 0) bit)

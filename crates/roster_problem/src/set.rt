@@ -1,6 +1,6 @@
 //! Sets of pairings.
 
-ghost use Rattle.std.specs.Prelude.{◌≡◌, ◌+◌, ◌^◌, ◌<◌, ◌≤◌, ◌↔◌, ◌||◌, ◌==◌, ◌++◌, ◌∷◌, ℕ, true, false, [], IsTrue, IsOkAnd, IfSome, MatchOption, All, length};
+ghost use Rattle.std.specs.Prelude.{◌≡◌, ◌+◌, ◌^◌, ◌<◌, ◌≤◌, ◌↔◌, ◌&&◌, ◌||◌, ◌==◌, ◌++◌, ◌∷◌, ℕ, true, false, [], IsTrue, IsOkAnd, IfSome, MatchOption, All, length};
 ghost use Rattle.std.specs.List.Sorted.{IsStrictlyIncreasing};
 ghost use Rattle.roster_model.specs.Rules.{is_among};
 ghost use Rattle.roster_model.specs.Places.{set_of};
@@ -119,6 +119,15 @@ impl Set {
         false
     }
 
+    /// The pairings that are in both.
+    pub fn and(&self, other: &Set) -> Set
+        ensures { (p : ℕ) → is_among result p ≡ (is_among self.now p && is_among other.now p) }
+    {
+        let mut words = self.words;
+        keep_bits(&mut words, &other.words);
+        Set { words }
+    }
+
     /// The least place at or after `from` whose pairing is in it. To go over all places in ascending
     /// order, begin from 0, and go on from one after each place.
     pub fn first_from(&self, from: usize) -> Option<usize>
@@ -170,6 +179,16 @@ fn set_bit(words: &mut [u64; SET_WORDS], p: usize)
     ensures fits { All (λ word. word < 2 ^ 64) words.old → All (λ word. word < 2 ^ 64) words.new }
 {
     words[p / 64] |= 1 << (p % 64);
+}
+
+/// Keeps the bits that are set in the others too.
+fn keep_bits(words: &mut [u64; SET_WORDS], others: &[u64; SET_WORDS])
+    ensures bits { (p : ℕ) → has_bit words.new p ≡ (has_bit words.old p && has_bit others.now p) }
+    ensures fits { All (λ word. word < 2 ^ 64) words.old → All (λ word. word < 2 ^ 64) words.new }
+{
+    for i in 0..SET_WORDS {
+        words[i] &= others[i];
+    }
 }
 
 /// The first bit of the word at or after bit `from`, if one is set.

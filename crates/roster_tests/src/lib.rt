@@ -10,4 +10,6 @@ mod faults;
 #[cfg(test)]
 mod legal;
 #[cfg(test)]
+mod lines;
+#[cfg(test)]
 mod runs;

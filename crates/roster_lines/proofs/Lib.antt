@@ -1,0 +1,9 @@
+pub mod TreeLemmas
+pub mod Listed
+pub mod Marks
+pub mod Nodes
+pub mod Walk
+pub mod Judged
+pub mod Cuts
+pub mod Lists
+pub mod Numbers

@@ -1,0 +1,134 @@
+-- The nodes of a listing: what may stand behind a line.
+use Rattle.std.proofs.Common.{◌≡◌, ℕ, ◌+◌, ◌<◌, true, ◌⊎◌, ◌&&◌, List, [], ◌∷◌, ◌++◌, length, refl, sym, ap, ◌∙◌, subst, inl, inr, arith}
+use Rattle.std.specs.Prelude.{All}
+use Rattle.std.proofs.lemmas.Bool.{and_from, and_parts, eqb-true, or_cases, or_left, or_right, false≢true}
+use Rattle.std.proofs.lemmas.List.{length_push, nil_from_length}
+use Rattle.std.proofs.lemmas.List.Elements.{All-nil, All-cons, All-head, All-push}
+use Rattle.roster_model.specs.Lines.{IsLine}
+use Rattle.roster_model.specs.Problem.{Problem}
+use Rattle.roster_model.specs.Rules.{is_among, IsLegal}
+use Rattle.roster_model.proofs.SetLemmas.{Ascends, Ascends-from_rising, Ascends-push, rising_from_Ascends, is_among-append, is_among-here, All-is_among, All-from_is_among}
+use Rattle.roster_lines.specs.declared.extend.Node.{Node}
+use Rattle.roster_lines.specs.Listing.{AreAlone, ArePartsLegal, AreTogether, IsNode, IsRow}
+
+-- ---- the front of a set, and what is behind
+
+among_front : (front more : List ℕ) (p : ℕ) → is_among front p ≡ true → is_among (front ++ more) p ≡ true
+among_front front more p h = is_among-append front more p ∙ or_left _ _ h
+
+among_behind : (front more : List ℕ) (p : ℕ) → is_among more p ≡ true → is_among (front ++ more) p ≡ true
+among_behind front more p h = is_among-append front more p ∙ or_right _ _ h
+
+among_cases : (front more : List ℕ) (p : ℕ) → is_among (front ++ more) p ≡ true → (is_among front p ≡ true) ⊎ (is_among more p ≡ true)
+among_cases front more p h = or_cases _ _ (sym (is_among-append front more p) ∙ h)
+
+pub among_single : (p q : ℕ) → is_among (p ∷ []) q ≡ true → p ≡ q
+among_single p q h =
+    elim (or_cases _ _ h) [ inl same ↦ eqb-true p q same | inr none ↦ absurd (false≢true none) ]
+
+pub Ascends-parts : (front : List ℕ) (p : ℕ) (rest : List ℕ) → Ascends (front ++ p ∷ rest) → Ascends front × All (λ q. q < p) front × Ascends (p ∷ rest)
+Ascends-parts [] p rest up = (tt, All-nil (λ q. q < p), up)
+Ascends-parts (r ∷ front) p rest up =
+    let parts = Ascends-parts front p rest up.1 in
+    let here : r < p = All-is_among (λ q. r < q) (front ++ p ∷ rest) p up.0 (among_behind front (p ∷ rest) p (is_among-here p rest)) in
+    let above : All (λ q. r < q) front = All-from_is_among (λ q. r < q) front (λ q h. All-is_among (λ q. r < q) (front ++ p ∷ rest) q up.0 (among_front front (p ∷ rest) q h)) in
+    ((above, parts.0), All-cons (λ q. q < p) r front here parts.1, parts.2)
+
+-- the empty set is a line
+pub IsLine-empty : (problem : Problem) (k : ℕ) → IsLine problem k []
+IsLine-empty problem k = record {
+  ascending = rising_from_Ascends [] tt;
+  places = All-nil (λ p. p < length problem.pairings);
+  legal = inl refl;
+}
+
+-- a candidate behind its node, where the two are legal
+pub IsLine-with : (problem : Problem) (k : ℕ) (node : Node) (p : ℕ) → IsNode problem k node → is_among node.candidates p ≡ true → IsLegal problem k (node.set ++ p ∷ []) → IsLine problem k (node.set ++ p ∷ [])
+IsLine-with problem k node p is here legal = record {
+  ascending = rising_from_Ascends _ (Ascends-push node.set p (Ascends-from_rising node.set is.line.ascending) (is.behind p here));
+  places = All-push (λ q. q < length problem.pairings) node.set p is.line.places (is.places p here);
+  legal = legal;
+}
+
+module _ (problem : Problem) (k : ℕ) (legal : ArePartsLegal problem k) where
+  IsLine-part : (set part : List ℕ) → IsLine problem k set → Ascends part → ((p : ℕ) → is_among part p ≡ true → is_among set p ≡ true) → IsLine problem k part
+  IsLine-part set part line up within = record {
+    ascending = rising_from_Ascends part up;
+    places = All-from_is_among (λ p. p < length problem.pairings) part (λ p h. All-is_among (λ p. p < length problem.pairings) set p line.places (within p h));
+    legal = legal set part within line.legal;
+  }
+
+  -- a line up to one of its pairings
+  pub IsLine-up_to : (front : List ℕ) (p : ℕ) (rest : List ℕ) → IsLine problem k (front ++ p ∷ rest) → IsLine problem k (front ++ p ∷ [])
+  IsLine-up_to front p rest line =
+      let parts = Ascends-parts front p rest (Ascends-from_rising _ line.ascending) in
+      IsLine-part (front ++ p ∷ rest) (front ++ p ∷ []) line (Ascends-push front p parts.0 parts.1) (λ q h. elim (among_cases front (p ∷ []) q h) [
+        | inl old ↦ among_front front (p ∷ rest) q old
+        | inr new ↦ among_behind front (p ∷ rest) q (subst (λ r. is_among (p ∷ rest) r ≡ true) (among_single p q new) (is_among-here p rest))
+      ])
+
+  -- the same without the one before
+  IsLine-without : (front : List ℕ) (p q : ℕ) (rest : List ℕ) → IsLine problem k (front ++ p ∷ [] ++ q ∷ rest) → IsLine problem k (front ++ q ∷ [])
+  IsLine-without front p q rest line =
+      let all : List ℕ = front ++ p ∷ [] ++ q ∷ rest in
+      let two = Ascends-parts (front ++ p ∷ []) q rest (Ascends-from_rising _ line.ascending) in
+      let one = Ascends-parts front p [] two.0 in
+      let before : All (λ r. r < q) front = All-from_is_among (λ r. r < q) front (λ r h. All-is_among (λ r. r < q) (front ++ p ∷ []) r two.1 (among_front front (p ∷ []) r h)) in
+      IsLine-part all (front ++ q ∷ []) line (Ascends-push front q one.0 before) (λ r h. elim (among_cases front (q ∷ []) r h) [
+        | inl old ↦ among_front (front ++ p ∷ []) (q ∷ rest) r (among_front front (p ∷ []) r old)
+        | inr new ↦ among_behind (front ++ p ∷ []) (q ∷ rest) r (subst (λ s. is_among (q ∷ rest) s ≡ true) (among_single q r new) (is_among-here q rest))
+      ])
+
+  -- the two as a pair
+  pair_of_line : (front : List ℕ) (p q : ℕ) (rest : List ℕ) → IsLine problem k (front ++ p ∷ [] ++ q ∷ rest) → AreTogether problem k p q
+  pair_of_line front p q rest line =
+      let all : List ℕ = front ++ p ∷ [] ++ q ∷ rest in
+      let two = Ascends-parts (front ++ p ∷ []) q rest (Ascends-from_rising _ line.ascending) in
+      let first : is_among (front ++ p ∷ []) p ≡ true = among_behind front (p ∷ []) p (is_among-here p []) in
+      let second : is_among all q ≡ true = among_behind (front ++ p ∷ []) (q ∷ rest) q (is_among-here q rest) in (
+        All-is_among (λ r. r < q) (front ++ p ∷ []) p two.1 first,
+        All-is_among (λ r. r < length problem.pairings) all q line.places second,
+        legal all (p ∷ q ∷ []) (λ r h. elim (among_cases (p ∷ []) (q ∷ []) r h) [
+          | inl one ↦ subst (λ s. is_among all s ≡ true) (among_single p r one) (among_front (front ++ p ∷ []) (q ∷ rest) p first)
+          | inr other ↦ subst (λ s. is_among all s ≡ true) (among_single q r other) second
+        ]) line.legal,
+      )
+
+  -- with no line behind it, a candidate has none further on
+  pub no_line_behind : (front : List ℕ) (p : ℕ) → (IsLine problem k (front ++ p ∷ []) → ⊥) → (rest : List ℕ) → IsLine problem k (front ++ p ∷ rest) → ⊥
+  no_line_behind front p none rest line = none (IsLine-up_to front p rest line)
+
+  -- the node of a candidate
+  pub IsNode-below : (node below : Node) (p : ℕ) (row : List ℕ) → IsNode problem k node → is_among node.candidates p ≡ true → IsRow problem k p row → below.set ≡ node.set ++ p ∷ [] → below.depth ≡ node.depth + 1 → ((q : ℕ) → is_among below.candidates q ≡ (is_among node.candidates q && is_among row q)) → IsLine problem k below.set → IsNode problem k below
+  IsNode-below node below p row is here is_row set depth both line =
+      let parts = λ (q : ℕ) (h : is_among below.candidates q ≡ true). and_parts (is_among node.candidates q) (is_among row q) (sym (both q) ∙ h) in
+      let long : length below.set ≡ length node.set + 1 = ap length set ∙ length_push node.set p in
+      record {
+        line = line;
+        depth = depth ∙ ap (λ n. n + 1) is.depth ∙ sym long;
+        places = λ q h. is.places q (parts q h).0;
+        behind = λ q h.
+            let pair = (is_row q).0 (parts q h).1 in
+            subst (All (λ r. r < q)) (sym set) (All-push (λ r. r < q) node.set p (is.behind q (parts q h).0) pair.0);
+        known = λ few q h.
+            let pair = (is_row q).0 (parts q h).1 in
+            let depths = is.depth in
+            let none : node.set ≡ [] = nil_from_length node.set (omega arith) in
+            subst (λ s. IsLegal problem k (s ++ q ∷ [])) (sym (set ∙ ap (λ s. s ++ p ∷ []) none)) pair.2;
+        every = λ q rest line.
+            let line' = subst (λ s. IsLine problem k (s ++ q ∷ rest)) set line in
+            both q ∙ and_from _ _ (is.every q [] (IsLine-without node.set p q rest line')) ((is_row q).1 (pair_of_line node.set p q rest line'));
+      }
+
+  -- the node of the empty line
+  pub IsNode-root : (alone : List ℕ) → AreAlone problem k alone → IsNode problem k (record { set = []; number = 0; depth = 0; candidates = alone })
+  IsNode-root alone is = record {
+    line = IsLine-empty problem k;
+    depth = refl;
+    places = λ p h. ((is p).0 h).0;
+    behind = λ p h. All-nil (λ q. q < p);
+    known = λ few p h. ((is p).0 h).1;
+    every = λ p rest line.
+        let single = IsLine-up_to [] p rest line in
+        (is p).1 (All-head (λ q. q < length problem.pairings) p [] single.places, single.legal);
+  }

@@ -1,0 +1,160 @@
+-- The entries of some lines, one line after another.
+use Rattle.std.proofs.Common.{◌≡◌, ℕ, zero, suc, ◌+◌, ◌<◌, false, List, [], ◌∷◌, ◌++◌, length, get_or, Some, refl, sym, ap, ◌∙◌, subst, inl, inr, arith}
+use Rattle.std.specs.Prelude.{All, slice_get}
+use Rattle.std.specs.List.Sorted.{IsStrictlyIncreasing}
+use Rattle.std.proofs.lemmas.Bool.{cases_lt}
+use Rattle.std.proofs.lemmas.List.{map-append, length-map, length_push, get_or_append_left, get_or_push}
+use Rattle.std.proofs.lemmas.List.Elements.{All-cons, All-nil, All-push}
+use Rattle.std.proofs.lemmas.List.Quantifiers.{all_pairs_push}
+use Rattle.std.proofs.lemmas.Option.{none-some, same_Some, slice_get_within, slice_get-get_or, get_or_from_slice_get}
+use Rattle.roster_model.specs.declared.limits.TheConstants.{MOST_LINES, MOST_PAIRINGS}
+use Rattle.roster_model.specs.Lines.{AreOrdered}
+use Rattle.roster_model.specs.Places.{places_le}
+use Rattle.roster_model.proofs.SetLemmas.{Ascends-from_rising, Ascends-push, rising_from_Ascends}
+use Rattle.roster_lines.specs.declared.lines.Line.{Line}
+use Rattle.roster_lines.specs.Entries.{Entry, entry_of, longer, set_at, sets_of}
+use Rattle.roster_lines.specs.Tree.{entries_from, entries_in, next_set, IsTree}
+
+-- ---- one entry more
+
+pub sets_of-push : (entries : List Entry) (entry : Entry) → sets_of (entries ++ entry ∷ []) ≡ sets_of entries ++ entry.set ∷ []
+sets_of-push entries entry = map-append (λ (e : Entry). e.set) entries (entry ∷ [])
+
+pub length-sets_of : (entries : List Entry) → length (sets_of entries) ≡ length entries
+length-sets_of entries = length-map entries (λ (e : Entry). e.set)
+
+set_at-push : (entries : List Entry) (entry : Entry) (i : ℕ) → i < length entries → set_at (entries ++ entry ∷ []) i ≡ set_at entries i
+set_at-push entries entry i inside =
+    ap (λ sets. get_or sets i []) (sets_of-push entries entry)
+    ∙ get_or_append_left (sets_of entries) (entry.set ∷ []) [] i (omega (arith, length-sets_of entries))
+
+set_at-new : (entries : List Entry) (entry : Entry) → set_at (entries ++ entry ∷ []) (length entries) ≡ entry.set
+set_at-new entries entry =
+    ap (λ sets. get_or sets (length entries) []) (sets_of-push entries entry)
+    ∙ get_or_push (sets_of entries) entry.set [] (length entries) (length-sets_of entries)
+
+pub set_at_get : (entries : List Entry) (i : ℕ) → i < length entries → slice_get (sets_of entries) i ≡ Some (set_at entries i)
+set_at_get entries i inside = slice_get-get_or (sets_of entries) i [] (omega (arith, length-sets_of entries))
+
+-- ---- several lines more
+
+length-entries_from : (entries : List Entry) (lines : List Line) → length (entries_from entries lines) ≡ length entries + length lines
+unfolding entries_from
+length-entries_from entries [] = omega arith
+length-entries_from entries (line ∷ lines) =
+    let entry : Entry = entry_of (next_set entries line) in
+    let more : length (entries ++ entry ∷ []) ≡ length entries + 1 = length_push entries entry in
+    let rest = length-entries_from (entries ++ entry ∷ []) lines in
+    omega (arith, rest)
+
+set_at-kept : (entries : List Entry) (lines : List Line) (i : ℕ) → i < length entries → set_at (entries_from entries lines) i ≡ set_at entries i
+unfolding entries_from
+set_at-kept entries [] i inside = refl
+set_at-kept entries (line ∷ lines) i inside =
+    let entry : Entry = entry_of (next_set entries line) in
+    set_at-kept (entries ++ entry ∷ []) lines i (omega (arith, length_push entries entry)) ∙ set_at-push entries entry i inside
+
+pub next_set-some : (entries : List Entry) (line : Line) → 0 < length entries → next_set entries line ≡ longer entries line.parent line.last
+next_set-some [] line some = absurd (omega arith)
+next_set-some (first ∷ entries) line some = refl
+
+set_at-line : (entries : List Entry) (lines : List Line) (i j : ℕ) (line : Line) → slice_get lines i ≡ Some line → length entries + i ≡ j → 0 < j → line.parent < j → set_at (entries_from entries lines) j ≡ longer (entries_from entries lines) line.parent line.last
+unfolding entries_from
+set_at-line entries [] i j line at place some before = absurd (none-some _ at)
+set_at-line entries (first ∷ lines) zero j line at place some before =
+    let entry : Entry = entry_of (next_set entries first) in
+    let long : length (entries ++ entry ∷ []) ≡ length entries + 1 = length_push entries entry in
+    let here : length entries ≡ j = omega arith in
+    let same : first ≡ line = same_Some first line at in
+    let parent : set_at (entries_from (entries ++ entry ∷ []) lines) line.parent ≡ set_at entries line.parent =
+    set_at-kept (entries ++ entry ∷ []) lines line.parent (omega arith) ∙ set_at-push entries entry line.parent (omega arith) in
+    set_at-kept (entries ++ entry ∷ []) lines j (omega arith)
+    ∙ ap (set_at (entries ++ entry ∷ [])) (sym here)
+    ∙ set_at-new entries entry
+    ∙ ap (next_set entries) same
+    ∙ next_set-some entries line (omega arith)
+    ∙ ap (λ set. set ++ line.last ∷ []) (sym parent)
+set_at-line entries (first ∷ lines) (suc i) j line at place some before =
+    let entry : Entry = entry_of (next_set entries first) in
+    let long : length (entries ++ entry ∷ []) ≡ length entries + 1 = length_push entries entry in
+    set_at-line (entries ++ entry ∷ []) lines i j line at (omega arith) some before
+
+entries_from-push : (entries : List Entry) (lines : List Line) (line : Line) → entries_from entries (lines ++ line ∷ []) ≡ entries_from entries lines ++ entry_of (next_set (entries_from entries lines) line) ∷ []
+unfolding entries_from
+entries_from-push entries [] line = refl
+entries_from-push entries (first ∷ lines) line = entries_from-push (entries ++ entry_of (next_set entries first) ∷ []) lines line
+
+-- ---- all lines
+
+pub length-entries_in : (lines : List Line) → length (entries_in lines) ≡ length lines
+unfolding entries_in
+length-entries_in lines = let long = length-entries_from [] lines in omega (arith, long)
+
+pub set_at_first : (lines : List Line) → set_at (entries_in lines) 0 ≡ []
+unfolding entries_in entries_from
+set_at_first [] = refl
+set_at_first (line ∷ lines) = set_at-kept (entry_of [] ∷ []) lines 0 (omega arith)
+
+-- the set of a line is its parent's with its last pairing behind
+pub set_at_later : (lines : List Line) (i : ℕ) (line : Line) → slice_get lines i ≡ Some line → 0 < i → line.parent < i → set_at (entries_in lines) i ≡ longer (entries_in lines) line.parent line.last
+unfolding entries_in
+set_at_later lines i line at later before = set_at-line [] lines i i line at (omega arith) later before
+
+pub entries_in-push : (lines : List Line) (line : Line) → 0 < length lines → entries_in (lines ++ line ∷ []) ≡ entries_in lines ++ entry_of (longer (entries_in lines) line.parent line.last) ∷ []
+unfolding entries_in
+entries_in-push lines line some =
+    entries_from-push [] lines line
+    ∙ ap (λ set. entries_from [] lines ++ entry_of set ∷ []) (next_set-some (entries_from [] lines) line (let long = length-entries_from [] lines in omega (arith, long)))
+
+-- ---- the tree
+
+parents-first : (line : Line) (i : ℕ) (l : Line) → slice_get (line ∷ []) i ≡ Some l → 0 < i → l.parent < i
+parents-first line zero l at later = absurd (omega arith)
+parents-first line (suc i) l at later = absurd (none-some _ at)
+
+pub entries_in-first : (line : Line) → entries_in (line ∷ []) ≡ entry_of [] ∷ []
+unfolding entries_in entries_from
+entries_in-first line = refl
+
+pub IsTree-first : (line : Line) → IsTree (line ∷ [])
+IsTree-first line =
+    let sets : sets_of (entries_in (line ∷ [])) ≡ [] ∷ [] = ap sets_of (entries_in-first line) in
+    record {
+      parents = parents-first line;
+      ascending = subst (All IsStrictlyIncreasing) (sym sets) (All-cons IsStrictlyIncreasing [] [] (rising_from_Ascends [] tt) (All-nil IsStrictlyIncreasing));
+      places = subst (All (All (λ p. p < MOST_PAIRINGS))) (sym sets) (All-cons (All (λ p. p < MOST_PAIRINGS)) [] [] (All-nil (λ p. p < MOST_PAIRINGS)) (All-nil (All (λ p. p < MOST_PAIRINGS))));
+      ordered = subst AreOrdered (sym sets) (λ i j d l inside. absurd (omega arith));
+      few = omega arith;
+    }
+
+pub AreOrdered-push : (sets : List (List ℕ)) (set : List ℕ) → AreOrdered sets → All (λ s. places_le set s ≡ false) sets → AreOrdered (sets ++ set ∷ [])
+AreOrdered-push sets set ordered before = all_pairs_push (λ a b. places_le b a ≡ false) sets set ordered before
+
+-- what is so of each of some elements at its place, and of one more
+pub each-push : {X : Type 0} (P : ℕ → X → Type 0) (xs : List X) (x : X) → ((i : ℕ) (y : X) → slice_get xs i ≡ Some y → P i y) → P (length xs) x → (i : ℕ) (y : X) → slice_get (xs ++ x ∷ []) i ≡ Some y → P i y
+each-push P xs x each here i y at =
+    let inside = slice_get_within (xs ++ x ∷ []) i y at in
+    let is : get_or (xs ++ x ∷ []) i y ≡ y = get_or_from_slice_get (xs ++ x ∷ []) i y y at in
+    elim (cases_lt i (length xs)) [
+      | inl old ↦ each i y (slice_get-get_or xs i y old ∙ ap Some (sym (get_or_append_left xs (x ∷ []) y i old) ∙ is))
+      | inr new ↦
+          let last : length xs ≡ i = omega (arith, inside, length_push xs x) in
+          let same : x ≡ y = sym (get_or_push xs x y i last) ∙ is in
+          subst (P i) same (subst (λ n. P n x) last here)
+    ]
+
+pub IsTree-push : (lines : List Line) (line : Line) → IsTree lines → length lines < MOST_LINES → line.parent < length lines → line.last < MOST_PAIRINGS → All (λ p. p < line.last) (set_at (entries_in lines) line.parent) → All (λ set. places_le (longer (entries_in lines) line.parent line.last) set ≡ false) (sets_of (entries_in lines)) → IsTree (lines ++ line ∷ [])
+IsTree-push lines line tree room parent last later before =
+    let entries : List Entry = entries_in lines in
+    let set : List ℕ = longer entries line.parent line.last in
+    let long : length (sets_of entries) ≡ length lines = length-sets_of entries ∙ length-entries_in lines in
+    let sets : sets_of (entries_in (lines ++ line ∷ [])) ≡ sets_of entries ++ set ∷ [] =
+    ap sets_of (entries_in-push lines line (omega arith)) ∙ sets_of-push entries (entry_of set) in
+    let up = Ascends-from_rising (set_at entries line.parent) (tree.ascending line.parent [] (omega arith)) in
+    record {
+      parents = each-push (λ i (l : Line). 0 < i → l.parent < i) lines line tree.parents (λ later. parent);
+      ascending = subst (All IsStrictlyIncreasing) (sym sets) (All-push IsStrictlyIncreasing (sets_of entries) set tree.ascending (rising_from_Ascends set (Ascends-push (set_at entries line.parent) line.last up later)));
+      places = subst (All (All (λ p. p < MOST_PAIRINGS))) (sym sets) (All-push (All (λ p. p < MOST_PAIRINGS)) (sets_of entries) set tree.places (All-push (λ p. p < MOST_PAIRINGS) (set_at entries line.parent) line.last (tree.places line.parent [] (omega arith)) last));
+      ordered = subst AreOrdered (sym sets) (AreOrdered-push (sets_of entries) set tree.ordered before);
+      few = omega (arith, length_push lines line);
+    }

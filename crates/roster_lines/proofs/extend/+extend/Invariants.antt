@@ -1,0 +1,20 @@
+use Rattle.std.proofs.Common.{◌≡◌, ℕ, ◌-◌, ◌≤◌, ◌++◌, ◌∷◌, List, [], length, Some}
+use Rattle.std.specs.Prelude.{slice_get}
+use Rattle.roster_model.specs.declared.limits.TheConstants.{MOST_PAIRINGS}
+use Rattle.roster_lines.specs.Entries.{sets_of}
+use Rattle.roster_lines.specs.Listing.{IsUpTo}
+use Rattle.roster_lines.proofs.extend.+extend.Given as goal
+
+abbrev pub decreases-extend : goal.decreases-extend
+decreases-extend l = MOST_PAIRINGS - l.node.now.depth
+
+-- the lines before those that go on from the node with a later candidate
+abbrev pub invariant-loop-p : goal.invariant-loop-p
+invariant-loop-p l = record {
+  within : l.from ≤ length l.problem.pairings;
+  lines : IsUpTo l.problem l.k (l.node.set ++ l.from ∷ []) (sets_of l.lines);
+  kept : (i : ℕ) (set : List ℕ) → slice_get (sets_of l.initial.lines) i ≡ Some set → slice_get (sets_of l.lines) i ≡ Some set;
+}
+
+abbrev pub decreases-loop-p : goal.decreases-loop-p
+decreases-loop-p l = MOST_PAIRINGS - l.from

@@ -1,0 +1,5 @@
+pub mod Entries
+pub mod Tree
+pub mod Listing
+pub mod Person
+pub mod TableFaults

@@ -1,0 +1,28 @@
+-- Lines as a tree: the set of each is that of an earlier one, its parent, with one more pairing behind.
+use Rattle.std.specs.Prelude.{◌≡◌, ℕ, ◌<◌, ◌≤◌, List, [], ◌∷◌, ◌++◌, Some, length, slice_get, All}
+use Rattle.std.specs.List.Sorted.{IsStrictlyIncreasing}
+use Rattle.roster_model.specs.declared.limits.TheConstants.{MOST_LINES, MOST_PAIRINGS}
+use Rattle.roster_model.specs.Lines.{AreOrdered}
+use Rattle.roster_lines.specs.declared.lines.Line.{Line}
+use Rattle.roster_lines.specs.Entries.{Entry, entry_of, longer, sets_of}
+
+-- the set of one more line: the first of all is the empty one
+abbrev pub next_set : List Entry → Line → List ℕ
+next_set [] line = []
+next_set (first ∷ entries) line = longer (first ∷ entries) line.parent line.last
+
+-- the entries with those of more lines
+unfoldable pub entries_from : List Entry → List Line → List Entry
+entries_from entries [] = entries
+entries_from entries (line ∷ lines) = entries_from (entries ++ entry_of (next_set entries line) ∷ []) lines
+
+unfoldable pub entries_in : List Line → List Entry
+entries_in lines = entries_from [] lines
+
+-- Each parent stands before its line, and the sets are in their order.
+pub record IsTree (lines : List Line) : Type 0 where
+  pub parents : (i : ℕ) (line : Line) → slice_get lines i ≡ Some line → 0 < i → line.parent < i
+  pub ascending : All IsStrictlyIncreasing (sets_of (entries_in lines))
+  pub places : All (All (λ p. p < MOST_PAIRINGS)) (sets_of (entries_in lines))
+  pub ordered : AreOrdered (sets_of (entries_in lines))
+  pub few : length lines ≤ MOST_LINES

@@ -1,0 +1,26 @@
+//! Every line of each person: the legal sets of pairings, in order.
+//!
+//! `lines_of` lists the lines of one person, and `table_of` those of each. A line takes 16 bytes, since
+//! it says its last pairing and which line stands behind the earlier ones. In reading order:
+//!
+//! - `order`: which of two sets comes first
+//! - `lines`: the lines of a person, and how one of them is found
+//! - `pairs`: which pairings are legal alone, and which of those together
+//! - `extend`: `lines_of`, from each line to those that go on from it
+//! - `table`: the lines of all persons
+//! - `laws`: what follows from the definitions
+#![tactic(auto)]
+
+mod extend;
+mod laws;
+mod lines;
+mod order;
+mod pairs;
+mod table;
+
+pub use extend::{LinesFault, lines_of};
+pub use laws::{
+    few_are_not_crowded, has_numbers, nobody_is_crowded, one_list_of_lines, one_list_of_numbers,
+};
+pub use lines::Lines;
+pub use table::{Table, TableFault, table_of};

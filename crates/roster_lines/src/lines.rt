@@ -1,0 +1,153 @@
+//! The lines of a person.
+
+ghost use Rattle.std.specs.Prelude.{◌≡◌, ◌<◌, ◌≤◌, ◌↔◌, ◌++◌, ◌∷◌, ℕ, false, true, [], List, All, IfOk, IsTrue, Some, length, slice_get};
+ghost use Rattle.roster_model.specs.Lines.{AreOrdered};
+ghost use Rattle.roster_model.specs.Places.{places_le};
+ghost use Rattle.roster_lines.specs.Entries.{entry_of, longer, set_at, sets_of, IsCut};
+
+use crate::order::is_at_most;
+use roster_model::limits::{MOST_LINES, MOST_PAIRINGS};
+use roster_problem::Set;
+use std::alloc::{AllocError, Global};
+use std::marker::Model;
+
+/// A line: the set of an earlier one, its parent, with one more pairing behind.
+#[derive(Clone, Copy, Debug)]
+struct Line {
+    parent: u32,
+    last: u16,
+}
+
+// There may be millions of lines.
+const _: () = prove!(size_of::<Line>() <= 24);
+
+/// The lines of a person in their order, each once, from the empty one on. Contracts see the list of
+/// their sets.
+#[derive(Debug, Drop)]
+pub struct Lines {
+    lines: Vec<Line>,
+}
+
+impl Model for Lines {
+    ghost use Rattle.std.specs.Prelude.{List};
+    ghost use Rattle.roster_lines.specs.Entries.{Entry};
+
+    ghost Value = { List Entry };
+
+    ghost use Rattle.roster_lines.specs.Tree.{entries_in, IsTree};
+
+    ghost view = { λ l. entries_in l.lines.items };
+
+    ghost invariant = { λ l. IsTree l.lines.items };
+}
+
+impl Lines {
+    /// The empty line alone.
+    pub(crate) fn empty(alloc: Global) -> Result<Lines, AllocError>
+        ensures { IfOk result (λ lines. lines ≡ entry_of [] ∷ []) }
+    {
+        let lines = vec![in alloc; Line { parent: 0, last: 0 }]?;
+        Ok(Lines { lines })
+    }
+
+    /// How many there are.
+    pub fn width(&self) -> usize
+        ensures value { result ≡ length self.now }
+        ensures bound { result ≤ MOST_LINES }
+        ensures ordered { AreOrdered (sets_of self.now) }
+    {
+        self.lines.len()
+    }
+
+    /// The set of line `i`.
+    pub fn set(&self, i: usize) -> Set
+        requires { i < length self.now }
+        ensures { slice_get (sets_of self.now) i ≡ Some result }
+    {
+        let mut set = Set::empty();
+        let mut at = i;
+        while at > 0 {
+            let line = self.lines[at];
+            set = set.with(usize::from(line.last)).unwrap();
+            at = line.parent as usize;
+        }
+        set
+    }
+
+    /// The number of the line with this set, if there is one.
+    pub fn find(&self, set: &Set) -> Option<usize>
+        ensures { (i : ℕ) → (result ≡ Some i) ↔ (slice_get (sets_of self.now) i ≡ Some set.now) }
+    {
+        let i = self.count_before(set);
+        if i == self.width() || self.set(i) != *set {
+            return None;
+        }
+        Some(i)
+    }
+
+    /// Where the lines stand whose least pairing is `p`: from the first number up to the second, which
+    /// isn't one of them. The two are equal where there is no such line.
+    pub fn run_of(&self, p: usize) -> (usize, usize)
+        requires { p < MOST_PAIRINGS }
+        ensures bounds { (result.0 ≤ result.1) × (result.1 ≤ length self.now) }
+        ensures run { (i : ℕ) (set : List ℕ) → slice_get (sets_of self.now) i ≡ Some set
+            → (slice_get set 0 ≡ Some p) ↔ ((result.0 ≤ i) × (i < result.1)) }
+    {
+        (self.start_of(p), self.start_of(p + 1))
+    }
+
+    // How many lines stand before those whose least pairing is `p` or later.
+    fn start_of(&self, p: usize) -> usize
+        requires { p ≤ MOST_PAIRINGS }
+        ensures { IsCut (sets_of self.now) (p ∷ []) result }
+    {
+        if p == MOST_PAIRINGS {
+            return self.lines.len();
+        }
+        self.count_before(&Set::empty().with(p).unwrap())
+    }
+
+    // How many lines stand before the set.
+    fn count_before(&self, set: &Set) -> usize
+        ensures { IsCut (sets_of self.now) set.now result }
+    {
+        let mut low = 0;
+        let mut high = self.width();
+        while low < high {
+            let middle = low + (high - low) / 2;
+            if is_at_most(set, &self.set(middle)) {
+                high = middle;
+            } else {
+                low = middle + 1;
+            }
+        }
+        low
+    }
+
+    /// Whether there are as many as there may be.
+    pub(crate) fn is_full(&self) -> bool
+        ensures { IsTrue result ↔ (MOST_LINES ≤ length self.now) }
+    {
+        self.lines.len() == MOST_LINES
+    }
+
+    /// Appends the line whose set is that of line `parent` with the pairing at place `last` behind, and
+    /// tells its number.
+    pub(crate) fn push(&mut self, parent: usize, last: usize) -> Result<usize, AllocError>
+        requires room { length self.old < MOST_LINES }
+        requires parent { parent < length self.old }
+        requires last { last < MOST_PAIRINGS }
+        requires later { All (λ p. p < last) (set_at self.old parent) }
+        requires ordered { All (λ set. places_le (longer self.old parent last) set ≡ false)
+            (sets_of self.old) }
+        ensures { IfOk result (λ number. (number ≡ length self.old)
+            × (self.new ≡ self.old ++ entry_of (longer self.old parent last) ∷ [])) }
+    {
+        let number = self.lines.len();
+        self.lines.push(Line {
+            parent: parent as u32,
+            last: last as u16,
+        })?;
+        Ok(number)
+    }
+}

@@ -1,0 +1,74 @@
+//! Which pairings are legal for a person alone, and which of those together.
+
+ghost use Rattle.std.specs.Prelude.{◌<◌, IfOk, length};
+ghost use Rattle.roster_lines.specs.Listing.{AreAlone, ArePairs, ArePartsLegal, IsRow};
+
+use roster_legal::is_legal;
+use roster_problem::{Problem, Set};
+use std::alloc::{AllocError, Global};
+
+/// For a person, the pairings that are legal alone, and for each the later ones that are legal with it.
+#[derive(Debug, Drop)]
+pub(crate) struct Pairs {
+    pub(crate) alone: Set,
+    pub(crate) rows: Vec<Set>,
+}
+
+/// Judges each pairing alone, and then each two of those that are legal.
+pub(crate) fn pairs_of(alloc: Global, problem: &Problem, k: usize) -> Result<Pairs, AllocError>
+    requires person { k < length problem.now.persons }
+    requires parts { ArePartsLegal problem.now k }
+    ensures { IfOk result (ArePairs problem.now k) }
+{
+    let alone = alone_of(alloc, problem, k)?;
+    let mut rows = Vec::new(alloc);
+    for p in 0..problem.pairings().len() {
+        rows.push(row_of(alloc, problem, k, &alone, p)?)?;
+    }
+    Ok(Pairs { alone, rows })
+}
+
+// The pairings that are legal alone.
+fn alone_of(alloc: Global, problem: &Problem, k: usize) -> Result<Set, AllocError>
+    requires { k < length problem.now.persons }
+    ensures { IfOk result (AreAlone problem.now k) }
+{
+    let mut alone = Set::empty();
+    for p in 0..problem.pairings().len() {
+        let single = Set::empty().with(p)?;
+        if is_legal(alloc, problem, k, &single)? {
+            alone = alone.with(p)?;
+        }
+    }
+    Ok(alone)
+}
+
+// The pairings after the one at place `p` that are legal with it.
+fn row_of(
+    alloc: Global,
+    problem: &Problem,
+    k: usize,
+    alone: &Set,
+    p: usize,
+) -> Result<Set, AllocError>
+    requires person { k < length problem.now.persons }
+    requires place { p < length problem.now.pairings }
+    requires parts { ArePartsLegal problem.now k }
+    requires alone { AreAlone problem.now k alone.now }
+    ensures { IfOk result (IsRow problem.now k p) }
+{
+    let mut row = Set::empty();
+    if !alone.has(p) {
+        return Ok(row);
+    }
+    let single = Set::empty().with(p)?;
+    let mut from = p + 1;
+    while let Some(q) = alone.first_from(from) {
+        let pair = single.with(q)?;
+        if is_legal(alloc, problem, k, &pair)? {
+            row = row.with(q)?;
+        }
+        from = q + 1;
+    }
+    Ok(row)
+}

@@ -1,0 +1,126 @@
+//! The lines of all persons.
+
+ghost use Rattle.std.specs.Prelude.{◌≡◌, ◌<◌, ◌≤◌, ◌↔◌, ℕ, IfErr, IfOk, List, Some, length, slice_get};
+ghost use Rattle.roster_lines.specs.Entries.{sets_of};
+ghost use Rattle.roster_lines.specs.Person.{lines_at, IsTableOf};
+ghost use Rattle.roster_lines.specs.TableFaults.{IsTableFaultOf};
+
+use crate::extend::{LinesFault, lines_of};
+use crate::lines::Lines;
+use roster_model::limits::MOST_PAIRINGS;
+use roster_problem::{Problem, Set};
+use std::alloc::{AllocError, AllocFailed, Global};
+use std::marker::Model;
+use thiserror::Error;
+
+/// Why there is no table of the lines of all persons.
+#[derive(Debug, Drop, Error)]
+pub enum TableFault {
+    /// The person at this place has more than `MOST_LINES`, and no person before has.
+    #[error("person {0} has too many lines")]
+    TooMany(usize),
+    /// Memory ran out.
+    #[error("out of memory")]
+    Memory,
+}
+
+impl From<AllocError> for TableFault {
+    ghost use Rattle.std.specs.Prelude.{◌≡◌};
+    ghost use Rattle.roster_lines.specs.declared.table.TableFault.TheVariants.{Memory};
+
+    ghost from_gives = { λ _ e. e ≡ Memory };
+
+    fn from(_: AllocError) -> TableFault {
+        TableFault::Memory
+    }
+}
+
+impl<T: Drop> From<AllocFailed<T>> for TableFault {
+    ghost use Rattle.std.specs.Prelude.{◌≡◌};
+    ghost use Rattle.roster_lines.specs.declared.table.TableFault.TheVariants.{Memory};
+
+    ghost from_gives = { λ _ e. e ≡ Memory };
+
+    fn from(_: AllocFailed<T>) -> TableFault {
+        TableFault::Memory
+    }
+}
+
+/// The lines of each person, in book order.
+#[derive(Debug, Drop)]
+pub struct Table {
+    persons: Vec<Lines>,
+}
+
+impl Model for Table {
+    ghost use Rattle.std.specs.Prelude.{List};
+    ghost use Rattle.roster_lines.specs.Entries.{Entry};
+
+    ghost Value = { List (List Entry) };
+
+    ghost view = { λ t. t.persons.items };
+}
+
+/// The lines of all persons.
+pub fn table_of(alloc: Global, problem: &Problem) -> Result<Table, TableFault>
+    ensures table { IfOk result (IsTableOf problem.now) }
+    ensures fault { IfErr result (IsTableFaultOf problem.now) }
+{
+    let mut persons = Vec::new(alloc);
+    for k in 0..problem.persons().len() {
+        let lines = match lines_of(alloc, problem, k) {
+            Ok(lines) => lines,
+            Err(LinesFault::TooMany) => return Err(TableFault::TooMany(k)),
+            Err(LinesFault::Memory) => return Err(TableFault::Memory),
+        };
+        persons.push(lines)?;
+    }
+    Ok(Table { persons })
+}
+
+impl Table {
+    /// The lines of person `k`.
+    pub fn lines(&self, k: usize) -> &Lines
+        requires { k < length self.now }
+        ensures { result.now ≡ lines_at self.now k }
+    {
+        &self.persons[k]
+    }
+
+    /// How many lines person `k` has.
+    pub fn width(&self, k: usize) -> usize
+        requires { k < length self.now }
+        ensures { result ≡ length (lines_at self.now k) }
+    {
+        self.lines(k).width()
+    }
+
+    /// The set of line `i` of person `k`.
+    pub fn set(&self, k: usize, i: usize) -> Set
+        requires person { k < length self.now }
+        requires line { i < length (lines_at self.now k) }
+        ensures { slice_get (sets_of (lines_at self.now k)) i ≡ Some result }
+    {
+        self.lines(k).set(i)
+    }
+
+    /// The number of the line of person `k` with this set, if there is one.
+    pub fn find(&self, k: usize, set: &Set) -> Option<usize>
+        requires { k < length self.now }
+        ensures { (i : ℕ)
+            → (result ≡ Some i) ↔ (slice_get (sets_of (lines_at self.now k)) i ≡ Some set.now) }
+    {
+        self.lines(k).find(set)
+    }
+
+    /// Where the lines of person `k` stand whose least pairing is `p`, as `Lines::run_of` says.
+    pub fn run_of(&self, k: usize, p: usize) -> (usize, usize)
+        requires person { k < length self.now }
+        requires place { p < MOST_PAIRINGS }
+        ensures bounds { (result.0 ≤ result.1) × (result.1 ≤ length (lines_at self.now k)) }
+        ensures run { (i : ℕ) (set : List ℕ) → slice_get (sets_of (lines_at self.now k)) i ≡ Some set
+            → (slice_get set 0 ≡ Some p) ↔ ((result.0 ≤ i) × (i < result.1)) }
+    {
+        self.lines(k).run_of(p)
+    }
+}

@@ -1,0 +1,146 @@
+//! The lines of persons, and their numbers.
+
+use roster_book::{Command, Watched, read_book};
+use roster_lines::{
+    LinesFault, TableFault, few_are_not_crowded, has_numbers, lines_of, nobody_is_crowded,
+    one_list_of_lines, one_list_of_numbers, table_of,
+};
+use roster_model::limits::MOST_PAIRINGS;
+use roster_problem::{Problem, Set};
+use std::alloc::{AllocError, Global};
+use std::process::Abort;
+use std::test::Fail;
+
+/// Five pairings on one day, and five on the next.
+const TWO_DAYS: [u8; 10] = [4, 4, 4, 4, 4, 5, 5, 5, 5, 5];
+
+/// Two digits of a number.
+fn digits(n: usize) -> [u8; 2] {
+    [b'0' + (n / 10 % 10) as u8, b'0' + (n % 10) as u8]
+}
+
+/// A book of one person, and a pairing with one duty on each of these days of March, at the same hours.
+fn book_of(alloc: Global, days: &[u8]) -> Result<Vec<u8>, AllocError> {
+    let mut book = b"period,2024-03\nbase,BAS,UTC0\ncrew,A,BAS,0,0,0\n".to_vec(alloc)?;
+    for (p, day) in days.iter().enumerate() {
+        let (name, day) = (digits(p), digits(usize::from(*day)));
+        let parts: [&[u8]; 11] = [
+            b"pairing,P",
+            &name,
+            b",BAS,1\nduty,D",
+            &name,
+            b",P,P",
+            &name,
+            b",BAS,2024-03-",
+            &day,
+            b"T06:00Z,2024-03-",
+            &day,
+            b"T14:00Z\n",
+        ];
+        for part in parts {
+            book.extend_from_slice(part)?;
+        }
+    }
+    Ok(book)
+}
+
+/// The problem of that book.
+fn problem_of(alloc: Global, days: &[u8]) -> Result<Problem, Fail> {
+    let book = book_of(alloc, days)?;
+    let mut reader = Watched::new(book.as_slice());
+    Ok(read_book(alloc, &mut reader, Command::Solve)?.problem)
+}
+
+/// The set of these places.
+fn set_of(rt: &impl Abort, places: &[usize]) -> Set {
+    let mut set = Set::empty();
+    for place in places {
+        if *place < MOST_PAIRINGS {
+            set = set.with(*place).expect(rt, "a set takes no memory");
+        }
+    }
+    set
+}
+
+#[test]
+fn pairings_of_one_day_are_lines_alone(rt: HostRuntime) -> Result<(), Fail> {
+    let problem = problem_of(rt.alloc(), &[4; 6])?;
+    assert!(rt; problem.persons().len() == 1);
+    let lines = lines_of(rt.alloc(), &problem, 0)?;
+    assert!(rt; lines.width() == 7);
+    assert!(rt; lines.set(0).is_empty());
+    for i in 1..7 {
+        assert!(rt; lines.set(i) == set_of(&rt, &[i - 1]));
+    }
+    Ok(())
+}
+
+#[test]
+fn lines_of_two_days(rt: HostRuntime) -> Result<(), Fail> {
+    let problem = problem_of(rt.alloc(), &TWO_DAYS)?;
+    assert!(rt; problem.persons().len() == 1);
+    let lines = lines_of(rt.alloc(), &problem, 0)?;
+    assert!(rt; lines.width() == 36);
+    for i in 0..36 {
+        assert!(rt; lines.find(&lines.set(i)) == Some(i));
+    }
+    let places: [(usize, &[usize]); 7] = [
+        (0, &[]),
+        (1, &[0]),
+        (2, &[0, 5]),
+        (6, &[0, 9]),
+        (7, &[1]),
+        (31, &[5]),
+        (35, &[9]),
+    ];
+    for (i, places) in places {
+        assert!(rt; lines.find(&set_of(&rt, places)) == Some(i));
+    }
+    assert!(rt; lines.find(&set_of(&rt, &[0, 1])).is_none());
+    assert!(rt; lines.find(&set_of(&rt, &[0, 5, 6])).is_none());
+    assert!(rt; lines.find(&set_of(&rt, &[10])).is_none());
+    Ok(())
+}
+
+#[test]
+fn lines_of_a_least_pairing_stand_together(rt: HostRuntime) -> Result<(), Fail> {
+    let problem = problem_of(rt.alloc(), &TWO_DAYS)?;
+    assert!(rt; problem.persons().len() == 1);
+    let lines = lines_of(rt.alloc(), &problem, 0)?;
+    for (p, run) in [(0, (1, 7)), (4, (25, 31)), (5, (31, 32)), (9, (35, 36)), (10, (36, 36))] {
+        assert!(rt; lines.run_of(p) == run);
+    }
+    Ok(())
+}
+
+#[test]
+fn a_table_has_the_lines_of_each_person(rt: HostRuntime) -> Result<(), Fail> {
+    let problem = problem_of(rt.alloc(), &TWO_DAYS)?;
+    assert!(rt; problem.persons().len() == 1);
+    let table = table_of(rt.alloc(), &problem)?;
+    assert!(rt; table.width(0) == 36);
+    assert!(rt; table.lines(0).width() == 36);
+    assert!(rt; table.set(0, 2) == set_of(&rt, &[0, 5]));
+    assert!(rt; table.find(0, &set_of(&rt, &[9])) == Some(35));
+    assert!(rt; table.run_of(0, 4) == (25, 31));
+    Ok(())
+}
+
+#[test]
+fn a_person_may_have_too_many_lines(rt: HostRuntime) -> Result<(), Fail> {
+    let days = [1, 3, 5, 7, 9, 11, 13, 15, 17, 19, 21, 23, 25, 27, 29, 31];
+    let problem = problem_of(rt.alloc(), &days)?;
+    assert!(rt; problem.persons().len() == 1);
+    assert!(rt; matches!(lines_of(rt.alloc(), &problem, 0), Err(LinesFault::TooMany)));
+    assert!(rt; matches!(table_of(rt.alloc(), &problem), Err(TableFault::TooMany(0))));
+    Ok(())
+}
+
+#[test]
+fn laws_of_lines_can_be_called() {
+    one_list_of_lines();
+    few_are_not_crowded();
+    nobody_is_crowded();
+    has_numbers();
+    one_list_of_numbers();
+}
