@@ -46,9 +46,6 @@ pub const MOST_RECORDS: usize = 1
 /// The legal sets of a person, at most.
 pub const MOST_LINES: usize = 60_000;
 
-/// The legal sets of a person, at most.
-pub const MOST_LINES: usize = 60_000;
-
 /// The minutes of a target, and of what was flown before the month, at most.
 pub const MOST_MINUTES: u32 = 60_000;
 
