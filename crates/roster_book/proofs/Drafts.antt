@@ -1,9 +1,9 @@
 -- A draft after one more record without a fault.
-use Rattle.std.proofs.Common.{◌≡◌, ◌+◌, ◌<◌, ◌==◌, ℕ, Bool, true, false, cond, not, ◌&&◌, List, [], ◌∷◌, ◌++◌, length, Option, Some, None, Result, Ok, Err, refl, sym, subst, ◌∙◌, ap, append_assoc, append-nil, length-append, arith}
+use Rattle.std.proofs.Common.{◌≡◌, ◌+◌, ◌<◌, ◌==◌, ℕ, Bool, true, false, cond, List, [], ◌∷◌, ◌++◌, length, Some, None, Result, Ok, Err, refl, sym, subst, ◌∙◌, length-append, arith}
 use Rattle.std.specs.List.{find}
 use Rattle.std.proofs.lemmas.Bool.Decides.{nat_tests}
-use Rattle.roster_model.specs.Record.{Record, Command, kinds_of, Kind, PeriodRecord, SectorRecord, is_of, next_row}
-use Rattle.roster_model.specs.Code.{Code, UnknownKind}
+use Rattle.roster_model.specs.Record.{Record, Command, kinds_of, Kind, SectorRecord, is_of}
+use Rattle.roster_model.specs.Code.{UnknownKind}
 use Rattle.roster_model.specs.Problem.{Problem}
 use Rattle.roster_model.specs.Faults.{code_of, code_of_kind, kind_in}
 use Rattle.roster_model.specs.records.Duty.{Sector}

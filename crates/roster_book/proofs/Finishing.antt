@@ -1,9 +1,9 @@
 -- The problem of the records of a draft, and the first fault of them all.
-use Rattle.std.proofs.Common.{◌≡◌, ℕ, Option, Some, None, List, refl, sym, ap, ◌∙◌}
+use Rattle.std.proofs.Common.{◌≡◌, ℕ, Option, Some, None, List, refl, ap, ◌∙◌}
 use Rattle.std.specs.Prelude.{option_map}
 use Rattle.roster_model.specs.Record.{Record, Command}
 use Rattle.roster_model.specs.Code.{NoDuty}
-use Rattle.roster_model.specs.Problem.{Problem, in_order, problem_of}
+use Rattle.roster_model.specs.Problem.{Problem, in_order}
 use Rattle.roster_model.specs.Faults.{Fault, IsFaultless, fault_at, first_fault, missing_duty, pairing_without_duty}
 use Rattle.roster_model.specs.records.Pairing.{Pairing}
 use Rattle.roster_book.specs.Draft.{HasRecords, IsDraftOf}

@@ -6,7 +6,6 @@ pub mod SectorTable
 pub mod Tables
 pub mod Drafts
 pub mod Sound
-pub mod Homes
 pub mod Periods
 pub mod Finishing
 pub mod LastDuty
@@ -16,3 +15,4 @@ pub mod SeenRecords
 pub mod Enumerated
 pub mod FirstFaultLemmas
 pub mod Tests
+pub mod Names

@@ -1,5 +1,5 @@
 -- The code of a record of a period: the first one, and one that comes later.
-use Rattle.std.proofs.Common.{◌≡◌, ◌==◌, ◌<◌, Bool, true, false, cond, not, ◌&&◌, List, [], ◌∷◌, length, Option, Some, None, refl, ◌∙◌}
+use Rattle.std.proofs.Common.{◌≡◌, ◌==◌, ◌<◌, Bool, true, false, not, List, [], ◌∷◌, length, Option, Some, None, refl}
 use Rattle.std.specs.Prelude.{is_some}
 use Rattle.roster_model.specs.Calendar.{period_of}
 use Rattle.roster_model.specs.Record.{Record, Command, Solve, PeriodRecord, is_of, field}

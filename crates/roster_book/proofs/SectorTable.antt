@@ -1,5 +1,5 @@
 -- Duties with their sectors, after one more record of a sector or of a duty.
-use Rattle.std.proofs.Common.{◌≡◌, ◌<◌, ◌≤◌, ◌+◌, ◌==◌, ◌&&◌, ℕ, zero, suc, Bool, true, false, cond, List, [], ◌∷◌, ◌++◌, length, get_or, set, Option, Some, None, inl, inr, refl, sym, ◌∙◌, ap, subst, append-nil, append_assoc, length-append, arith}
+use Rattle.std.proofs.Common.{◌≡◌, ◌<◌, ◌≤◌, ◌+◌, ◌==◌, ◌&&◌, ℕ, zero, suc, Bool, true, false, cond, List, [], ◌∷◌, ◌++◌, length, get_or, set, Option, Some, None, inl, inr, refl, ◌∙◌, ap, subst, append-nil, length-append, arith}
 use Rattle.std.specs.Prelude.{All, filter, map, nat_le, nat_lt, option_map, position, slice_get}
 use Rattle.std.specs.List.{cons_option, last_or, position_or_len}
 use Rattle.std.specs.Option.{option_map_or}
@@ -9,8 +9,9 @@ use Rattle.std.proofs.lemmas.List.{map-append}
 use Rattle.std.proofs.lemmas.List.Sums.{sum_by-append, sum_by-set}
 use Rattle.std.proofs.lemmas.Option.{slice_get-get_or, slice_get_cases}
 use Rattle.std.proofs.lemmas.List.Elements.{All-nil, All-cons, All-head, All-tail, filter-append}
-use Rattle.roster_model.specs.Record.{Record, DutyRecord, SectorRecord, is_of, entry_of, gather_after}
-use Rattle.roster_model.specs.records.Duty.{Duty, Sector, Holder, duties_in, duty_of, duty_place, is_duty_named, is_held_by_pairing, is_in_sequence, last_duty, starts_well}
+use Rattle.std.specs.Str.{bytes_eq}
+use Rattle.roster_model.specs.Record.{Record, DutyRecord, SectorRecord, is_of, entry_of, gather_after, place_named}
+use Rattle.roster_model.specs.records.Duty.{Duty, Sector, Holder, duties_in, duty_of, duty_place, is_held_by_pairing, is_in_sequence, last_duty, starts_well}
 use Rattle.roster_model.specs.records.Base.{Base}
 use Rattle.roster_model.specs.records.Sector.{GivenSector, duty_name_in, flown, flown_from, is_of_duty, sector_of, sectors_at, sectors_in}
 use Rattle.roster_book.specs.Flown.{fits_at, sector_count, with_sector, with_sector_at}
@@ -126,14 +127,14 @@ entry-kept P false x xs h all = all
 
 -- a sector names a duty that was given before it
 sectors_below : (before records : List Record) → All (IsBelow (length (duties_in (before ++ records)))) (gather_after (entry_of SectorRecord sector_of) before records)
-unfolding gather_after sector_of
+unfolding gather_after sector_of place_named
 sectors_below before [] = All-nil _
 sectors_below before (fields ∷ records) =
     let n : ℕ = length (duties_in (before ++ fields ∷ records)) in
     let rest : All (IsBelow n) (gather_after (entry_of SectorRecord sector_of) (before ++ fields ∷ []) records) =
     subst (λ all. All (IsBelow (length (duties_in all))) (gather_after (entry_of SectorRecord sector_of) (before ++ fields ∷ []) records)) (append_snoc before fields records) (sectors_below (before ++ fields ∷ []) records) in
     let own : IsBelow n (sector_of before fields) =
-    place_longer (length (duties_in before)) n (duty_place before (duty_name_in fields)) (duties_longer before (fields ∷ records)) (place_found (is_duty_named (duty_name_in fields)) (duties_in before)) in
+    place_longer (length (duties_in before)) n (duty_place before (duty_name_in fields)) (duties_longer before (fields ∷ records)) (place_found (λ duty. bytes_eq duty.id (duty_name_in fields)) (duties_in before)) in
     entry-kept (IsBelow n) (is_of SectorRecord fields) (sector_of before fields) _ own rest
 
 none_there : (n : ℕ) (place : Option ℕ) → IsPlaceBelow n place → option_map_or (λ p. p == n) place false ≡ false
@@ -164,14 +165,15 @@ flown-length given d [] = refl
 flown-length given d (duty ∷ duties) = ap suc (flown-length given (d + 1) duties)
 
 flown-place : (name : List ℕ) (given : List GivenSector) (d : ℕ) (duties : List Duty)
-    → position_or_len (is_duty_named name) (flown_from given d duties) ≡ position_or_len (is_duty_named name) duties
+    → position_or_len (λ duty. bytes_eq duty.id name) (flown_from given d duties) ≡ position_or_len (λ duty. bytes_eq duty.id name) duties
 unfolding flown_from
 flown-place name given d [] = refl
 flown-place name given d (duty ∷ duties) = rw (flown-place name given (d + 1) duties) refl
 
 -- the place of a duty with a name
 pub flown_position : (name : List ℕ) (given : List GivenSector) (duties : List Duty)
-    → position (is_duty_named name) (flown given duties) ≡ position (is_duty_named name) duties
+    → place_named (λ duty. duty.id) name (flown given duties) ≡ place_named (λ duty. duty.id) name duties
+unfolding place_named
 flown_position name given duties = rw (flown-place name given 0 duties, flown-length given 0 duties) refl
 
 pub flown_count : (given : List GivenSector) (duties : List Duty) → length (flown given duties) ≡ length duties

@@ -1,6 +1,6 @@
 -- Records that are seen one by one, and then those that are left.
-use Rattle.std.proofs.Common.{◌≡◌, ◌+◌, ◌∙◌, ap, sym, refl, ℕ, List, [], ◌∷◌, ◌++◌, length, Option, Some, None, append_assoc}
-use Rattle.std.specs.Prelude.{⊤, IfSome}
+use Rattle.std.proofs.Common.{◌≡◌, ◌∙◌, ap, sym, refl, ℕ, List, [], ◌∷◌, ◌++◌, Option, Some, None, append_assoc}
+use Rattle.std.specs.Prelude.{IfSome}
 use Rattle.std.proofs.lemmas.List.{append-nil}
 use Rattle.roster_model.specs.Record.{Record, Command, next_row}
 use Rattle.roster_model.specs.Faults.{IsFaultlessSoFar, code_of}

@@ -1,8 +1,8 @@
 -- The tables of records without a fault are sound: each kind of record keeps them so.
-use Rattle.std.proofs.Common.{◌≡◌, ℕ, ◌+◌, ◌*◌, ◌<◌, ◌≤◌, Bool, true, false, cond, not, ◌&&◌, List, [], ◌∷◌, ◌++◌, length, ℤ, pos, negsuc, Option, Some, None, inl, inr, refl, sym, ◌∙◌, ap, subst, length-append, append-nil, arith}
-use Rattle.std.specs.Prelude.{All, unsigned_abs, nat_lt, is_some, option_map, position, slice_get, unwrap_or, codes}
+use Rattle.std.proofs.Common.{◌≡◌, ℕ, ◌+◌, ◌<◌, ◌≤◌, Bool, true, false, cond, not, ◌&&◌, List, [], ◌∷◌, ◌++◌, length, ℤ, pos, negsuc, Option, Some, None, inl, inr, refl, sym, ◌∙◌, ap, subst, length-append, append-nil, arith}
+use Rattle.std.specs.Prelude.{unsigned_abs, nat_lt, is_some, option_map, slice_get, unwrap_or, codes}
 use Rattle.std.specs.Str.{bytes_eq}
-use Rattle.std.specs.List.{find, list_any, position_or_len}
+use Rattle.std.specs.List.{list_any, position_or_len}
 use Rattle.std.specs.Option.{option_and_then}
 use Rattle.std.proofs.lemmas.Option.{slice_get_cases}
 use Rattle.std.proofs.Props.{props}
@@ -14,7 +14,7 @@ use Rattle.std.proofs.lemmas.List.Folds.{list_any-append}
 use Rattle.std.proofs.lemmas.List.Sorted.{All-permutation, length_permutation}
 use Rattle.roster_model.specs.declared.limits.TheConstants.{MOST_BASES, MOST_PERSONS, MOST_PAIRINGS, MOST_DUTIES, MOST_LEAVES, MOST_PENALTY, MOST_SECTORS, MOST_RECORDS}
 use Rattle.roster_model.specs.Form.{is_amount, number_of}
-use Rattle.roster_model.specs.Record.{Record, Command, Kind, PeriodRecord, BaseRecord, CrewRecord, PairingRecord, DutyRecord, SectorRecord, LeaveRecord, is_of}
+use Rattle.roster_model.specs.Record.{Record, Command, Kind, PeriodRecord, BaseRecord, CrewRecord, PairingRecord, DutyRecord, SectorRecord, LeaveRecord, is_of, place_named}
 use Rattle.roster_model.specs.Code.{Code, first_unmet, NoPeriod}
 use Rattle.roster_model.specs.Problem.{Problem, tables_in, in_order}
 use Rattle.roster_model.specs.Busy.{is_busy}
@@ -60,8 +60,11 @@ below : (n most : ℕ) → nat_lt n most ≡ true → n < most
 below n most h = grind (arith, nat_tests)
 
 -- a name that is known has a place
-place-below : {X : Type 0} (p : X → Bool) (xs : List X) → is_some (position p xs) ≡ true → unwrap_or (position p xs) 0 < length xs
-place-below p xs some = found (position_or_len p xs) (length xs) (nat_lt (position_or_len p xs) (length xs)) refl some
+place-below : {X : Type 0} (id_of : X → List ℕ) (name : List ℕ) (xs : List X) → is_some (place_named id_of name xs) ≡ true → unwrap_or (place_named id_of name xs) 0 < length xs
+unfolding place_named
+place-below id_of name xs some =
+    let place : ℕ = position_or_len (λ x. bytes_eq (id_of x) name) xs in
+    found place (length xs) (nat_lt place (length xs)) refl some
 
 amount-below : (most : ℕ) (z : ℤ) → is_amount most z ≡ true → unsigned_abs z ≤ most
 amount-below most (pos n) h = grind (arith, nat_tests)
@@ -138,7 +141,7 @@ sound-person count before fields t k =
     let met = AreMet-none (crew.conditions before fields) k.met in
     let few : length t.persons < MOST_PERSONS = rw k.tables_are (below _ MOST_PERSONS met.1.1.1.1.1.0) in
     let few' : length (t.persons ++ made ∷ []) ≤ MOST_PERSONS = omega arith in
-    let home : made.base < length t.bases = rw k.tables_are (place-below _ (bases_in before) met.1.1.1.1.0) in
+    let home : made.base < length t.bases = rw k.tables_are (place-below _ _ (bases_in before) met.1.1.1.1.0) in
     let homes = All-push (λ person. person.base < length t.bases) t.persons made s.homes home in
     let holders = All-weaker (λ d. IsHolder (length t.pairings) (length t.persons) d.holder) (λ d. IsHolder (length t.pairings) (length (t.persons ++ made ∷ [])) d.holder) (λ d. holder_of_more d.holder (omega arith) (omega arith)) t.duties s.holders in
     let absences = All-weaker (λ leave. leave.person < length t.persons) (λ leave. leave.person < length (t.persons ++ made ∷ [])) (λ leave. longer leave.person t.persons made) t.leaves s.absences in
@@ -158,7 +161,7 @@ sound-pairing count before fields t k =
     let met = AreMet-none (pairing.conditions before fields) k.met in
     let few : length t.pairings < MOST_PAIRINGS = rw k.tables_are (below _ MOST_PAIRINGS met.1.1.1.1.1.0) in
     let few' : length (t.pairings ++ made ∷ []) ≤ MOST_PAIRINGS = omega arith in
-    let start : made.base < length t.bases = rw k.tables_are (place-below _ (bases_in before) met.1.1.1.1.0) in
+    let start : made.base < length t.bases = rw k.tables_are (place-below _ _ (bases_in before) met.1.1.1.1.0) in
     let penalties = All-push (λ q. q.penalty ≤ MOST_PENALTY) t.pairings made s.penalties (amount-below MOST_PENALTY (number_of (pairing.penalty_in fields)) met.1.1.0) in
     let starts = All-push (λ q. q.base < length t.bases) t.pairings made s.starts start in
     let holders = All-weaker (λ d. IsHolder (length t.pairings) (length t.persons) d.holder) (λ d. IsHolder (length (t.pairings ++ made ∷ [])) (length t.persons) d.holder) (λ d. holder_of_more d.holder (omega arith) (omega arith)) t.duties s.holders in
@@ -201,7 +204,7 @@ sound-duty count before fields t k =
     let h = held busy before (holder_in before fields) _ _ _ met.1.1.1 in
     let few : length t.duties < MOST_DUTIES = rw (k.tables_are, flown_count (sectors_in before) (duties_in before)) h.room in
     let few' : length (t.duties ++ made ∷ []) ≤ MOST_DUTIES = omega arith in
-    let holder : IsHolder (length t.pairings) (length t.persons) made.holder = rw k.tables_are (holder_of_place _ _ (bytes_eq (letter_in fields) (codes "P")) (pairing_place before (holder_name_in fields)) (person_place before (holder_name_in fields)) (place-below _ _) (place-below _ _) h.known) in
+    let holder : IsHolder (length t.pairings) (length t.persons) made.holder = rw k.tables_are (holder_of_place _ _ (bytes_eq (letter_in fields) (codes "P")) (pairing_place before (holder_name_in fields)) (person_place before (holder_name_in fields)) (place-below _ _ _) (place-below _ _ _) h.known) in
     let holders = All-push (λ d. IsHolder (length t.pairings) (length t.persons) d.holder) t.duties made s.holders holder in
     record {
       sound = assumption (few', holders, s);
@@ -231,7 +234,7 @@ sound-leave count before fields t k =
     let h = taken-for (is_busy (tables_in before)) before place _ _ met.1.1 in
     let few : length t.leaves < MOST_LEAVES = rw k.tables_are h.room in
     let few' : length (t.leaves ++ made ∷ []) ≤ MOST_LEAVES = omega arith in
-    let there : made.person < length t.persons = rw k.tables_are (place-below _ (persons_in before) h.known) in
+    let there : made.person < length t.persons = rw k.tables_are (place-below _ _ (persons_in before) h.known) in
     let absences = All-push (λ leave. leave.person < length t.persons) t.leaves made s.absences there in
     record {
       sound = assumption (few', absences, s);

@@ -1,8 +1,7 @@
 -- One more record adds at most one entry to one table, and changes no entry before it.
-use Rattle.std.proofs.Common.{◌≡◌, ◌<◌, ◌+◌, Bool, true, false, cond, List, [], ◌∷◌, ◌++◌, length, Option, Some, None, refl, sym, ◌∙◌, ap, append-nil, arith}
+use Rattle.std.proofs.Common.{◌≡◌, ◌<◌, Bool, true, false, cond, List, [], ◌∷◌, ◌++◌, length, Some, None, refl, ◌∙◌, ap, append-nil, arith}
 use Rattle.std.specs.List.{cons_option}
 use Rattle.std.specs.Str.{bytes_eq}
-use Rattle.std.proofs.Math.Seq.{append_snoc}
 use Rattle.std.proofs.lemmas.Slice.Eq.{bytes_eq-Decides}
 use Rattle.roster_model.specs.Record.{Record, Kind, PeriodRecord, BaseRecord, CrewRecord, PairingRecord, DutyRecord, SectorRecord, LeaveRecord, field, word_of, is_of, entry_of, gather_after, table_of}
 use Rattle.roster_model.specs.Problem.{Problem, tables_in}

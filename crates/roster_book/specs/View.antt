@@ -1,5 +1,5 @@
 -- How the definitions see this crate's enums, and how a refusal is told.
-use Rattle.std.specs.Prelude.{◌≡◌, ℕ, Option, Some, None, Result, Ok, Err}
+use Rattle.std.specs.Prelude.{◌≡◌, ℕ, Option, Some, None}
 use Rattle.roster_book.specs.declared.code.Code.{Code}
 use Rattle.roster_book.specs.declared.code.Code.TheVariants as codes
 use Rattle.roster_book.specs.declared.command.Command.{Command}

@@ -1,16 +1,14 @@
 //! The tables of the records taken so far.
 
-ghost use Rattle.std.specs.Prelude.{◌≡◌, ◌≢◌, ◌<◌, ◌∷◌, [], ℕ, List, Option, Some, None, MatchResult, IfErr, IfOk, IsErrOf, option_map, position, vec_len};
+ghost use Rattle.std.specs.Prelude.{◌≡◌, ◌≢◌, ◌<◌, ◌∷◌, [], ℕ, List, Option, Some, None, MatchResult, IfErr, IfOk, IsErrOf, option_map, vec_len};
 ghost use Rattle.std.specs.List.{list_any};
 ghost use Rattle.csv.specs.Records.{fields_of};
 ghost use Rattle.roster_model.specs.Code as model;
 ghost use Rattle.roster_model.specs.Record.{Record, Command as Asked};
 ghost use Rattle.roster_model.specs.Problem.{home_of};
 ghost use Rattle.roster_model.specs.Faults.{code_of, first_fault, pairing_without_duty};
-ghost use Rattle.roster_model.specs.records.Base.{is_base_named};
-ghost use Rattle.roster_model.specs.records.Crew.{is_person_named};
-ghost use Rattle.roster_model.specs.records.Pairing.{Pairing as PairingEntry, is_pairing_named};
-ghost use Rattle.roster_model.specs.records.Duty.{is_duty_named, is_held_by_pairing, last_duty};
+ghost use Rattle.roster_model.specs.records.Pairing.{Pairing as PairingEntry};
+ghost use Rattle.roster_model.specs.records.Duty.{is_held_by_pairing, last_duty};
 ghost use Rattle.roster_book.specs.Draft.{HasRecords, IsDraftOf, Judges, Pushes, Takes, base_of_pairing, tables_of_draft};
 ghost use Rattle.roster_book.specs.Reading.{IsProblemOf, TellsFirst};
 ghost use Rattle.roster_book.specs.View.{code_of as view_of_code, command_of};
@@ -142,40 +140,6 @@ impl Draft {
             self.duties.into_vec(),
             self.leaves,
         )?)
-    }
-
-    /// The place of the base with the name.
-    pub(crate) fn base_place(&self, name: &[u8]) -> Option<usize>
-        ensures { result ≡ position (is_base_named name.now) self.now.bases.items }
-    {
-        self.bases
-            .iter()
-            .position(|base| base.id.as_bytes() == name)
-    }
-
-    /// The place of the person with the name.
-    pub(crate) fn person_place(&self, name: &[u8]) -> Option<usize>
-        ensures { result ≡ position (is_person_named name.now) self.now.persons.items }
-    {
-        self.persons
-            .iter()
-            .position(|person| person.id.as_bytes() == name)
-    }
-
-    /// The place of the pairing with the name.
-    pub(crate) fn pairing_place(&self, name: &[u8]) -> Option<usize>
-        ensures { result ≡ position (is_pairing_named name.now) self.now.pairings.items }
-    {
-        self.pairings
-            .iter()
-            .position(|pairing| pairing.id.as_bytes() == name)
-    }
-
-    /// The place of the duty with the name.
-    pub(crate) fn duty_place(&self, name: &[u8]) -> Option<usize>
-        ensures { result ≡ position (is_duty_named name.now) self.now.duties }
-    {
-        self.duties.place(name)
     }
 
     /// The base of the pairing at the place.

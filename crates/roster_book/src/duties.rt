@@ -1,9 +1,10 @@
 //! The duties of the records taken so far.
 
-ghost use Rattle.std.specs.Prelude.{◌≡◌, ◌<◌, ◌++◌, ◌∷◌, [], Some, OnOk, length, position, slice_get, true};
-ghost use Rattle.roster_model.specs.records.Duty.{is_duty_named};
+ghost use Rattle.std.specs.Prelude.{◌≡◌, ◌<◌, ◌++◌, ◌∷◌, [], Some, IfSome, OnOk, length, slice_get, true};
+ghost use Rattle.roster_model.specs.Record.{place_named};
 ghost use Rattle.roster_book.specs.Flown.{fits_at, sector_count, with_sector_at};
 
+use crate::named::place_of;
 use roster_model::limits::MOST_SECTORS;
 use roster_problem::{Duty, Sector};
 use std::alloc::{AllocError, Global};
@@ -72,11 +73,10 @@ impl Duties {
 
     /// The place of the duty with the name.
     pub(crate) fn place(&self, name: &[u8]) -> Option<usize>
-        ensures { result ≡ position (is_duty_named name.now) self.now }
+        ensures value { result ≡ place_named (λ duty. duty.id) name.now self.now }
+        ensures within { IfSome result (λ place. place < length self.now) }
     {
-        self.duties
-            .iter()
-            .position(|duty| duty.id.as_bytes() == name)
+        place_of(&self.duties, name)
     }
 
     /// Puts a duty without a sector behind the others.

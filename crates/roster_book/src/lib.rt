@@ -8,6 +8,7 @@
 //! - `refusal`: why a record isn't taken
 //! - `forms`: the forms of a record's fields
 //! - `kind`: what a record is about
+//! - `named`: the entries of tables by their names
 //! - `record`: a file a kind: what its records add, and what may be wrong with them
 //! - `duties`: the duties of the records taken so far, with their sectors
 //! - `draft`: the tables of the records taken so far
@@ -22,6 +23,7 @@ mod duties;
 mod fault;
 mod forms;
 mod kind;
+mod named;
 mod reading;
 mod record;
 mod refusal;

@@ -22,7 +22,7 @@ fn is_off_leave(problem: &Problem, k: usize, duty: &Duty) -> bool
     ensures { IsTrue result ↔ IsOffLeave (leaves_of problem.now k) duty.now }
 {
     let leaves = problem.leaves();
-    for place in problem.leaves_of(k) {
+    for place in problem.leave(k) {
         if !is_apart(duty, &leaves[usize::from(*place)]) {
             return false;
         }

@@ -43,7 +43,7 @@ fn positions_of(
     ensures members { IfOk result (λ positions. (i : ℕ) → is_among positions.items i
         ≡ passes_at (λ duty. is_listed k set.now duty.holder) problem.now.duties i) }
 {
-    let fixed = problem.fixed_of(k);
+    let fixed = problem.fixed(k);
     let mut positions = Vec::with_capacity(alloc, fixed.len() + count_of(problem, set))?;
     positions.extend_from_slice(fixed)?;
     let mut from = 0;

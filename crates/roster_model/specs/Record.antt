@@ -1,6 +1,6 @@
 -- Records: lists of fields of bytes, as `csv` gives them. Each has a kind, and the records of a kind
 -- make a table: each is seen with the records before it, among which it looks up what it names.
-use Rattle.std.specs.Prelude.{ℕ, ◌+◌, Bool, if◌then◌else◌, List, [], ◌∷◌, ◌++◌, length, Option, Some, None, unsigned_abs, unwrap_or, slice_get, codes}
+use Rattle.std.specs.Prelude.{ℕ, ◌+◌, Bool, if◌then◌else◌, List, [], ◌∷◌, ◌++◌, length, Option, Some, None, unsigned_abs, position, unwrap_or, slice_get, codes}
 use Rattle.std.specs.List.{cons_option}
 use Rattle.std.specs.Str.{bytes_eq}
 use Rattle.roster_model.specs.Form.{number_of}
@@ -20,6 +20,12 @@ amount_of text = unsigned_abs (number_of text)
 -- the instant that a field spells
 abbrev pub minute_of : List ℕ → ℕ
 minute_of text = unwrap_or (instant_of text) 0
+
+-- ---- names
+
+-- the place of the entry with the name, if there is one; `id_of` gives the name of an entry
+unfoldable pub place_named : {X : Type 0} → (X → List ℕ) → List ℕ → List X → Option ℕ
+place_named id_of name entries = position (λ entry. bytes_eq (id_of entry) name) entries
 
 -- ---- kinds
 

@@ -1,12 +1,14 @@
 -- The index from places to the positions of the elements that belong to them.
-use Rattle.std.proofs.Common.{◌≡◌, ℕ, ◌+◌, ◌<◌, Bool, true, cond, eqb, eq-eqb, List, [], ◌∷◌, ◌++◌, length, take, get_or, set, map, replicate, Option, Some, None, refl, sym, ap, ◌∙◌, subst, inl, inr, arith, append-nil}
+use Rattle.std.proofs.Common.{◌≡◌, ℕ, ◌+◌, ◌<◌, ◌≤◌, Bool, true, cond, eqb, eq-eqb, List, [], ◌∷◌, ◌++◌, length, take, get_or, set, map, replicate, Option, Some, None, refl, sym, ap, ◌∙◌, subst, inl, inr, arith, append-nil}
 use Rattle.std.specs.Prelude.{All, slice_get}
 use Rattle.std.proofs.lemmas.Bool.{cases_eq, cond-true, cond-false, ne_eqb, eqb-true, both_ways}
 use Rattle.std.proofs.lemmas.List.{map-set, get_or-map, get_or-set_same, get_or-set_other, get_or-replicate, length-map, length-set, length-replicate}
 use Rattle.std.proofs.lemmas.Option.{slice_get-get_or, get_or_from_slice_get, same_Some}
+use Rattle.roster_model.specs.declared.limits.TheConstants.{MOST_DUTIES}
+use Rattle.roster_model.specs.Problem.{Problem}
 use Rattle.roster_model.specs.records.Duty.{Duty, Holder, OfPairing, OfPerson, is_held_by_pairing, is_held_by_person}
 use Rattle.roster_model.specs.records.Leave.{Leave, is_leave_of}
-use Rattle.roster_problem.specs.Sound.{IsHolder}
+use Rattle.roster_problem.specs.Sound.{IsHolder, IsSound}
 use Rattle.roster_problem.specs.Duties.{ArePositionsOf, IsIndex, is_at, is_of_pairing, is_of_person, positions_where}
 use Rattle.roster_problem.proofs.PositionLists.{positions_where-more, ArePositionsOf-where}
 
@@ -59,10 +61,25 @@ IsIndex-none belongs n =
       each = λ p within. slice_get-get_or (replicate n none) p none (omega (arith, length-replicate n none)) ∙ ap Some (get_or-replicate n p none none within);
     }
 
--- the list of a place, as some code holds it
-pub positions_of_place : {X : Type 0} (belongs : ℕ → X → Bool) (n p : ℕ) (xs : List X) (lists : List (List ℕ)) (list : List ℕ) → IsIndex belongs n xs lists → p < n → slice_get lists p ≡ Some list → ArePositionsOf (belongs p) xs list
-positions_of_place belongs n p xs lists list index within at =
-    ArePositionsOf-where (belongs p) xs list (same_Some _ _ (sym at ∙ index.each p within))
+-- what the list of a place says of duties: `belongs` tells which are the place's
+pub record AreDutiesOf (belongs : ℕ → Duty → Bool) (p : ℕ) (problem : Problem) (list : List ℕ) : Type 0 where
+  pub positions : ArePositionsOf (belongs p) problem.duties list
+  pub bound : length list ≤ MOST_DUTIES
+
+-- The list of a place, in a problem that is given as these tables.
+pub positions_of_place : {X : Type 0} (belongs : ℕ → X → Bool) (places : Problem → ℕ) (entries : Problem → List X) (p : ℕ) (tables problem : Problem) (lists : List (List ℕ)) (list : List ℕ)
+    → tables ≡ problem → IsIndex belongs (places tables) (entries tables) lists → p < places problem → slice_get lists p ≡ Some list → ArePositionsOf (belongs p) (entries problem) list
+positions_of_place belongs places entries p tables problem lists list same index within at =
+    let own = subst (λ (all : Problem). IsIndex belongs (places all) (entries all) lists) same index in
+    ArePositionsOf-where (belongs p) (entries problem) list (same_Some _ _ (sym at ∙ own.each p within))
+
+-- the same of duties, which are no more than a book may have
+pub duties_of_place : (belongs : ℕ → Duty → Bool) (places : Problem → ℕ) (p : ℕ) (tables problem : Problem) (lists : List (List ℕ)) (list : List ℕ)
+    → tables ≡ problem → IsSound tables → IsIndex belongs (places tables) tables.duties lists → p < places problem → slice_get lists p ≡ Some list → AreDutiesOf belongs p problem list
+duties_of_place belongs places p tables problem lists list same sound index within at =
+    let positions = positions_of_place belongs places (λ all. all.duties) p tables problem lists list same index within at in
+    let few = subst (λ (all : Problem). length all.duties ≤ MOST_DUTIES) same sound.duties in
+    record { positions = positions; bound = omega (arith, positions.bound) }
 
 -- the place that is told of an entry is there, where all places that may be told of entries are
 pub inside_at : {X : Type 0} (Tells : X → ℕ → Type 0) (n : ℕ) (xs : List X) (i p : ℕ) (x : X) → All (λ y. (q : ℕ) → Tells y q → q < n) xs → i < length xs → x ≡ get_or xs i x → Tells x p → p < n

@@ -170,7 +170,7 @@ impl Problem {
 
     /// The positions in `duties` of the duties that are fixed for the person at place `k`, in
     /// ascending order. It looks at no other duty.
-    pub fn fixed_of(&self, k: usize) -> &[u16]
+    pub fn fixed(&self, k: usize) -> &[u16]
         requires { k < length self.now.persons }
         ensures positions { ArePositionsOf (is_of_person k) self.now.duties result.now }
         ensures bound { length result.now ≤ MOST_DUTIES }
@@ -180,7 +180,7 @@ impl Problem {
 
     /// The positions in `leaves` of the leaves of the person at place `k`, in ascending order. It
     /// looks at no other leave.
-    pub fn leaves_of(&self, k: usize) -> &[u16]
+    pub fn leave(&self, k: usize) -> &[u16]
         requires { k < length self.now.persons }
         ensures { ArePositionsOf (is_leave_of k) self.now.leaves result.now }
     {

@@ -11,6 +11,7 @@ ghost use Rattle.roster_book.specs.Draft.{FindsDays, IsDraftOf, Reads, tables_of
 use crate::code::Code;
 use crate::draft::Draft;
 use crate::forms::{field, zone_text};
+use crate::named::place_of;
 use crate::refusal::Refusal;
 use csv::ByteRecord;
 use roster_instants::{BaseDays, Period, ZoneFault};
@@ -47,7 +48,7 @@ impl Draft {
         let Some(zone) = zone_text(field(fields, 2)) else {
             return Err(Refusal::Fault(Code::FieldForm));
         };
-        if self.base_place(field(fields, 1)).is_some() {
+        if place_of(&self.bases, field(fields, 1)).is_some() {
             return Err(Refusal::Fault(Code::GivenTwice));
         }
         let days = match days_of(alloc, zone, self.period) {

@@ -10,6 +10,7 @@ ghost use Rattle.roster_book.specs.Draft.{IsDraftOf, Judges, tables_of_draft};
 use crate::code::Code;
 use crate::draft::Draft;
 use crate::forms::{amount, field, is_number};
+use crate::named::place_of;
 use csv::ByteRecord;
 use roster_model::limits::{MOST_MINUTES, MOST_PERSONS};
 use roster_problem::{Name, Person, is_identifier};
@@ -60,10 +61,10 @@ impl Draft {
         let Some((target, year, eleven)) = limited(fields) else {
             return Err(Code::OutOfLimits);
         };
-        if self.person_place(field(fields, 1)).is_some() {
+        if place_of(&self.persons, field(fields, 1)).is_some() {
             return Err(Code::GivenTwice);
         }
-        let Some(base) = self.base_place(field(fields, 2)) else {
+        let Some(base) = place_of(&self.bases, field(fields, 2)) else {
             return Err(Code::NotGiven);
         };
         if self.persons.len() >= MOST_PERSONS {

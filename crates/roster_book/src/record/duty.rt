@@ -18,6 +18,7 @@ ghost use Rattle.roster_book.specs.Draft.{HasRecords, IsDraftOf, Judges, tables_
 use crate::code::Code;
 use crate::draft::Draft;
 use crate::forms::field;
+use crate::named::place_of;
 use crate::record::window::{is_in_window, midnight};
 use csv::ByteRecord;
 use roster_instants::{BaseDays, Minute, read_minute};
@@ -95,9 +96,9 @@ impl Draft {
     {
         let name = field(fields, 3);
         if field(fields, 2) == b"P".as_slice() {
-            Some(Holder::Pairing(self.pairing_place(name)?))
+            Some(Holder::Pairing(place_of(&self.pairings, name)?))
         } else {
-            Some(Holder::Person(self.person_place(name)?))
+            Some(Holder::Person(place_of(&self.persons, name)?))
         }
     }
 
@@ -191,7 +192,7 @@ impl Draft {
         let Some(duty) = formed(fields) else {
             return Err(Code::FieldForm);
         };
-        if self.duty_place(field(fields, 1)).is_some() {
+        if self.duties.place(field(fields, 1)).is_some() {
             return Err(Code::GivenTwice);
         }
         let Some(holder) = self.holder_in(fields) else {

@@ -10,6 +10,7 @@ ghost use Rattle.roster_book.specs.Draft.{HasRecords, IsDraftOf, Judges, tables_
 use crate::code::Code;
 use crate::draft::Draft;
 use crate::forms::field;
+use crate::named::place_of;
 use crate::record::window::is_in_window;
 use csv::ByteRecord;
 use roster_instants::{Minute, read_minute};
@@ -48,7 +49,7 @@ impl Draft {
         let Some((from, to)) = formed(fields) else {
             return Err(Code::FieldForm);
         };
-        let Some(person) = self.person_place(field(fields, 1)) else {
+        let Some(person) = place_of(&self.persons, field(fields, 1)) else {
             return Err(Code::NotGiven);
         };
         if from >= to {

@@ -10,6 +10,7 @@ ghost use Rattle.roster_book.specs.Draft.{IsDraftOf, Judges, tables_of_draft};
 use crate::code::Code;
 use crate::draft::Draft;
 use crate::forms::{amount, field, is_number};
+use crate::named::place_of;
 use csv::ByteRecord;
 use roster_model::limits::{MOST_PAIRINGS, MOST_PENALTY};
 use roster_problem::{Name, Pairing, is_identifier};
@@ -42,10 +43,10 @@ impl Draft {
         let Some(penalty) = amount(field(fields, 3), MOST_PENALTY) else {
             return Err(Code::OutOfLimits);
         };
-        if self.pairing_place(field(fields, 1)).is_some() {
+        if place_of(&self.pairings, field(fields, 1)).is_some() {
             return Err(Code::GivenTwice);
         }
-        let Some(base) = self.base_place(field(fields, 2)) else {
+        let Some(base) = place_of(&self.bases, field(fields, 2)) else {
             return Err(Code::NotGiven);
         };
         if self.pairings.len() >= MOST_PAIRINGS {

@@ -1,12 +1,11 @@
 -- `base,ID,ZONE`: where pairings and persons begin and end.
-use Rattle.std.specs.Prelude.{ℕ, Bool, not, ◌&&◌, ◌==◌, List, [], ◌∷◌, length, Option, is_some, is_ok, nat_lt, position, unwrap_or, slice_get}
+use Rattle.std.specs.Prelude.{ℕ, Bool, not, ◌&&◌, ◌==◌, List, [], ◌∷◌, length, Option, is_some, is_ok, nat_lt, unwrap_or, slice_get}
 use Rattle.std.specs.Result.{result_unwrap_or}
-use Rattle.std.specs.Str.{bytes_eq}
 use Rattle.roster_model.specs.declared.limits.TheConstants.{MOST_BASES}
 use Rattle.roster_model.specs.Form.{is_identifier, is_zone_text}
 use Rattle.roster_model.specs.Calendar.{Days}
 use Rattle.roster_model.specs.Zone.{days_of_zone}
-use Rattle.roster_model.specs.Record.{Record, BaseRecord, field, table_of}
+use Rattle.roster_model.specs.Record.{Record, BaseRecord, field, place_named, table_of}
 use Rattle.roster_model.specs.Code.{Code, FieldCount, FieldForm, GivenTwice, ZoneRefused, NoRoom}
 use Rattle.roster_model.specs.records.Period.{period_in}
 
@@ -37,12 +36,9 @@ base_of before fields = record {
 abbrev pub bases_in : List Record → List Base
 bases_in records = table_of BaseRecord base_of records
 
-abbrev pub is_base_named : List ℕ → Base → Bool
-is_base_named name base = bytes_eq base.id name
-
 -- the place of the base with the name, if it is among those of the records
 abbrev pub base_place : List Record → List ℕ → Option ℕ
-base_place records name = position (is_base_named name) (bases_in records)
+base_place records name = place_named (λ base. base.id) name (bases_in records)
 
 -- the base at a place
 abbrev pub base_at : List Base → ℕ → Base

@@ -1,9 +1,8 @@
 -- `crew,ID,BASE,TARGET,YEAR,ELEVEN`: a person, and what they are to fly and have flown.
-use Rattle.std.specs.Prelude.{ℕ, Bool, not, ◌&&◌, ◌==◌, List, [], ◌∷◌, length, Option, is_some, nat_lt, option_map, position, slice_get, unwrap_or}
-use Rattle.std.specs.Str.{bytes_eq}
+use Rattle.std.specs.Prelude.{ℕ, Bool, not, ◌&&◌, ◌==◌, List, [], ◌∷◌, length, Option, is_some, nat_lt, option_map, slice_get, unwrap_or}
 use Rattle.roster_model.specs.declared.limits.TheConstants.{MOST_PERSONS, MOST_MINUTES}
 use Rattle.roster_model.specs.Form.{is_identifier, is_number, is_amount, number_of}
-use Rattle.roster_model.specs.Record.{Record, CrewRecord, field, amount_of, next_row, table_of}
+use Rattle.roster_model.specs.Record.{Record, CrewRecord, field, amount_of, next_row, place_named, table_of}
 use Rattle.roster_model.specs.Code.{Code, FieldCount, FieldForm, OutOfLimits, GivenTwice, NotGiven, NoRoom}
 use Rattle.roster_model.specs.records.Base.{Base, base_at, base_place}
 
@@ -50,12 +49,9 @@ person_of before fields = record {
 abbrev pub persons_in : List Record → List Person
 persons_in records = table_of CrewRecord person_of records
 
-abbrev pub is_person_named : List ℕ → Person → Bool
-is_person_named name person = bytes_eq person.id name
-
 -- the place of the person with the name, if they are among those of the records
 abbrev pub person_place : List Record → List ℕ → Option ℕ
-person_place records name = position (is_person_named name) (persons_in records)
+person_place records name = place_named (λ person. person.id) name (persons_in records)
 
 -- the home base of the person at place k, of some bases and persons
 abbrev pub home_at : List Base → List Person → ℕ → Base

@@ -1,6 +1,6 @@
 -- `duty,ID,P,PAIRING,STATION,REPORT,RELEASE`: a duty of a pairing; with C and a person in place of P
 -- and the pairing, a duty that is fixed for the person.
-use Rattle.std.specs.Prelude.{ℕ, ◌+◌, Bool, true, false, not, ◌&&◌, ◌||◌, ◌==◌, if◌then◌else◌, List, [], ◌∷◌, length, Option, Some, None, is_some, option_map, nat_lt, nat_le, position, unwrap_or, slice_get, codes}
+use Rattle.std.specs.Prelude.{ℕ, ◌+◌, Bool, true, false, not, ◌&&◌, ◌||◌, ◌==◌, if◌then◌else◌, List, [], ◌∷◌, length, Option, Some, None, is_some, option_map, nat_lt, nat_le, unwrap_or, slice_get, codes}
 use Rattle.std.specs.List.{filter, last_or}
 use Rattle.std.specs.Option.{option_map_or}
 use Rattle.std.specs.Str.{bytes_eq}
@@ -8,7 +8,7 @@ use Rattle.roster_model.specs.declared.limits.TheConstants.{MOST_DUTIES, DAYS_BE
 use Rattle.roster_model.specs.Form.{is_identifier}
 use Rattle.roster_model.specs.Calendar.{Days, instant_of}
 use Rattle.roster_model.specs.Window.{midnight, is_in_window}
-use Rattle.roster_model.specs.Record.{Record, DutyRecord, field, minute_of, next_row, table_of}
+use Rattle.roster_model.specs.Record.{Record, DutyRecord, field, minute_of, next_row, place_named, table_of}
 use Rattle.roster_model.specs.Code.{Code, FieldCount, FieldForm, GivenTwice, NotGiven, OutOfSequence, OutOfWindow, NoRoom, WrongStart, Busy}
 use Rattle.roster_model.specs.records.Base.{Base, bases_in, base_at}
 use Rattle.roster_model.specs.records.Crew.{persons_in, person_place, home_at}
@@ -87,12 +87,9 @@ duty_of before fields = record {
 abbrev pub duties_in : List Record → List Duty
 duties_in records = table_of DutyRecord duty_of records
 
-abbrev pub is_duty_named : List ℕ → Duty → Bool
-is_duty_named name duty = bytes_eq duty.id name
-
 -- the place of the duty with the name, if it is among those of the records
 abbrev pub duty_place : List Record → List ℕ → Option ℕ
-duty_place records name = position (is_duty_named name) (duties_in records)
+duty_place records name = place_named (λ duty. duty.id) name (duties_in records)
 
 -- the duty of the pairing that was given last, of some duties in the order given
 abbrev pub last_duty : List Duty → ℕ → Option Duty

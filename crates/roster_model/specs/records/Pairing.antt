@@ -1,9 +1,8 @@
 -- `pairing,ID,BASE,PENALTY`: duties in a row for one person, from the base and back.
-use Rattle.std.specs.Prelude.{ℕ, Bool, not, ◌&&◌, ◌==◌, List, [], ◌∷◌, length, Option, is_some, nat_lt, position, unwrap_or}
-use Rattle.std.specs.Str.{bytes_eq}
+use Rattle.std.specs.Prelude.{ℕ, Bool, not, ◌&&◌, ◌==◌, List, [], ◌∷◌, length, Option, is_some, nat_lt, unwrap_or}
 use Rattle.roster_model.specs.declared.limits.TheConstants.{MOST_PAIRINGS, MOST_PENALTY}
 use Rattle.roster_model.specs.Form.{is_identifier, is_number, is_amount, number_of}
-use Rattle.roster_model.specs.Record.{Record, PairingRecord, field, amount_of, next_row, table_of}
+use Rattle.roster_model.specs.Record.{Record, PairingRecord, field, amount_of, next_row, place_named, table_of}
 use Rattle.roster_model.specs.Code.{Code, FieldCount, FieldForm, OutOfLimits, GivenTwice, NotGiven, NoRoom}
 use Rattle.roster_model.specs.records.Base.{base_place}
 
@@ -38,12 +37,9 @@ pairing_of before fields = record {
 abbrev pub pairings_in : List Record → List Pairing
 pairings_in records = table_of PairingRecord pairing_of records
 
-abbrev pub is_pairing_named : List ℕ → Pairing → Bool
-is_pairing_named name pairing = bytes_eq pairing.id name
-
 -- the place of the pairing with the name, if it is among those of the records
 abbrev pub pairing_place : List Record → List ℕ → Option ℕ
-pairing_place records name = position (is_pairing_named name) (pairings_in records)
+pairing_place records name = place_named (λ pairing. pairing.id) name (pairings_in records)
 
 -- ---- what it has to meet
 

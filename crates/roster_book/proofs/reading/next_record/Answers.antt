@@ -1,10 +1,8 @@
-use Rattle.std.proofs.Common.{◌≡◌, ◌∷◌, [], ℕ, List, Option, Bool, true, false, Result, Ok, Err, inl, refl, ◌∙◌}
-use Rattle.std.specs.Prelude.{IfOk, IfErr, OnOk, IfSome}
-use Rattle.csv.specs.Reading.{ExplainsRead, ReadRecord, Ready, error_kind, has_failed, is_flexible, reader_state, reader_trim, source_of, stops_reader, took_first}
+use Rattle.std.proofs.Common.{◌≡◌, ◌∷◌, [], ℕ, List, Option, Bool, true, false, Result, Ok, Err, inl, ◌∙◌}
+use Rattle.std.specs.Prelude.{IfOk, OnOk, IfSome}
+use Rattle.csv.specs.Reading.{ReadRecord, Ready, has_failed, is_flexible, reader_state, reader_trim, source_of, took_first}
 use Rattle.csv.specs.Records.{fields_of}
 use Rattle.csv.specs.declared.error.Error.{Error}
-use Rattle.csv.specs.declared.error.ErrorKind.{ErrorKind}
-use Rattle.csv.specs.declared.error.ErrorKind.TheVariants as kind
 use Rattle.csv.specs.declared.reader.Reader.{Reader}
 use Rattle.csv.specs.declared.reader.Trim.TheVariants as trim
 use Rattle.roster_book.specs.Reading.{AreSeen, IsOpen, records_left}

@@ -7,11 +7,11 @@ use Rattle.roster_legal.proofs.listing.positions_of.Goals as goal
 
 pub loop-p-init : goal.loop-p-init
 loop-p-init c =
-    let fixed = c.fixed_of-fixed.result.now in
+    let fixed = c.fixed-fixed.result.now in
     let items = c.in_ok-extend_from_slice.ensures.items ∙ ap (λ xs. xs ++ fixed) c.in_ok-positions.ensures.items in
     record {
-      distinct = subst (IsDistinct eqb) (sym items) (distinct_rising fixed c.fixed_of-fixed.ensures.positions.ascending);
-      members = λ i. ap (λ xs. is_among xs i) items ∙ gathered-fixed c.args.k c.args.set.now fixed c.args.problem.now.duties c.fixed_of-fixed.ensures.positions.members i;
+      distinct = subst (IsDistinct eqb) (sym items) (distinct_rising fixed c.fixed-fixed.ensures.positions.ascending);
+      members = λ i. ap (λ xs. is_among xs i) items ∙ gathered-fixed c.args.k c.args.set.now fixed c.args.problem.now.duties c.fixed-fixed.ensures.positions.members i;
     }
 
 pub duties_of-requires : goal.duties_of-requires

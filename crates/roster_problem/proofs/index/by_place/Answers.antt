@@ -1,4 +1,4 @@
-use Rattle.std.proofs.Common.{◌≡◌, ◌<◌, ℕ, Option, Some, None, false, get_or, length, sym, ap, subst, ◌∙◌, arith, refl}
+use Rattle.std.proofs.Common.{ℕ, Option, Some, None, false, length, sym, ap, subst, ◌∙◌, arith, refl}
 use Rattle.std.specs.Prelude.{All}
 use Rattle.std.specs.Fn.{FnReturnsAt}
 use Rattle.std.proofs.iter.Next.{says_at}

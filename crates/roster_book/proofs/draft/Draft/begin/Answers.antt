@@ -1,6 +1,5 @@
-use Rattle.std.proofs.Common.{◌≡◌, ◌∷◌, [], sym, ◌∙◌, arith}
+use Rattle.std.proofs.Common.{sym, arith}
 use Rattle.csv.specs.Records.{fields_of}
-use Rattle.roster_model.specs.Problem.{tables_in}
 use Rattle.roster_book.specs.View.{command_of}
 use Rattle.roster_book.proofs.Sound.{first_is_period}
 use Rattle.roster_book.proofs.Tables.{tables_in-first}

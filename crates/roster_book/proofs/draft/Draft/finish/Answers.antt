@@ -1,5 +1,4 @@
-use Rattle.std.proofs.Common.{◌∙◌, sym}
-use Rattle.std.proofs.lemmas.Result.{err_from_is_err_and}
+use Rattle.std.proofs.Common.{sym}
 use Rattle.roster_book.specs.Draft.{tables_of_draft}
 use Rattle.roster_book.proofs.Finishing.{IsFaultless-draft, IsProblemOf-draft, first_fault-missing, first_fault-none}
 use Rattle.roster_book.proofs.Sound.{IsSound-in_order, IsSound-records}

@@ -5,7 +5,6 @@ use Rattle.roster_model.specs.Record.{BaseRecord, CrewRecord, PairingRecord, Dut
 use Rattle.roster_model.specs.records.Base.{base_of}
 use Rattle.roster_model.specs.records.Crew.{person_of}
 use Rattle.roster_model.specs.records.Pairing.{pairing_of}
-use Rattle.roster_model.specs.records.Duty.{duty_of}
 use Rattle.roster_model.specs.records.Leave.{leave_of}
 use Rattle.roster_book.specs.Draft.{tables_of_draft}
 use Rattle.roster_book.specs.View.{command_of}

@@ -1,8 +1,7 @@
-use Rattle.std.proofs.Common.{◌≡◌, ◌<◌, ◌∙◌, length, Some, refl, sym, ap, subst, true}
+use Rattle.std.proofs.Common.{◌≡◌, ◌<◌, ◌∙◌, length, Some, refl, sym, ap}
 use Rattle.std.specs.Prelude.{slice_get}
 use Rattle.std.proofs.lemmas.Option.{slice_get_read}
-use Rattle.roster_model.specs.records.Duty.{Duty}
-use Rattle.roster_book.specs.Flown.{fits_at, sector_count, with_sector_at}
+use Rattle.roster_book.specs.Flown.{sector_count}
 use Rattle.roster_book.proofs.SectorTable.{fits-within, sector_count_more, with_sector_at-is}
 use Rattle.roster_book.proofs.duties.Duties.push_sector.Goals as goal
 
