@@ -49,8 +49,8 @@ fn is_of_pairing(duty: &Duty, place: usize) -> bool
     duty.holder == Holder::Pairing(place)
 }
 
-// Puts an entry behind the others of its table, if the record makes one.
-fn push<T: Drop>(entries: &mut Vec<T>, judged: Result<T, Code>) -> Result<(), Refusal>
+/// Puts an entry behind the others of its table, if the record makes one.
+pub(crate) fn push<T: Drop>(entries: &mut Vec<T>, judged: Result<T, Code>) -> Result<(), Refusal>
     ensures { (told : Option model.Code) (entry : T) → Judges told entry judged
         → Pushes told entry entries.old.items entries.new.items result }
 {
@@ -121,10 +121,7 @@ impl Draft {
                 push(&mut self.leaves, leave)
             }
             Some(Kind::Cost) => self.take_cost(fields),
-            Some(Kind::Assign) => {
-                let assign = self.judge_assign(fields);
-                push(&mut self.assigns, assign)
-            }
+            Some(Kind::Assign) => self.take_assign(fields),
         }
     }
 

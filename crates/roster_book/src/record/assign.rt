@@ -5,15 +5,16 @@ ghost use Rattle.std.specs.List.{list_any};
 ghost use Rattle.csv.specs.Records.{fields_of};
 ghost use Rattle.roster_model.specs.declared.limits.TheConstants.{MOST_PERSONS};
 ghost use Rattle.roster_model.specs.Record.{Record, Command, AssignRecord, place_named};
-ghost use Rattle.roster_model.specs.Faults.{code_of_kind};
+ghost use Rattle.roster_model.specs.Faults.{code_of_kind, kind_in};
 ghost use Rattle.roster_model.specs.records.Assign as model;
 ghost use Rattle.roster_model.specs.records.Assign.{assign_of, assigned_by, assigned_number, is_assign_of};
-ghost use Rattle.roster_book.specs.Draft.{HasRecords, IsDraftOf, Judges, contents_of};
+ghost use Rattle.roster_book.specs.Draft.{HasRecords, IsDraftOf, Judges, Takes, contents_of};
 
 use crate::code::Code;
-use crate::draft::Draft;
+use crate::draft::{Draft, push};
 use crate::forms::field;
 use crate::named::place_of;
+use crate::refusal::Refusal;
 use csv::ByteRecord;
 use roster_problem::{Places, is_identifier};
 use std::alloc::{AllocError, Global};
@@ -116,9 +117,9 @@ impl Draft {
         }
     }
 
-    /// The assignment that a record of one gives, or what is wrong with it.
+    // The assignment that a record of one gives, or what is wrong with it.
     #[tactic(auto, unfolding(roster_model::specs::Faults::code_of_kind, roster_model::specs::records::Assign::assign_of))]
-    pub(crate) fn judge_assign(&self, fields: &ByteRecord) -> Result<Assign, Code>
+    fn judge_assign(&self, fields: &ByteRecord) -> Result<Assign, Code>
         requires { HasRecords (contents_of self.now) }
         ensures { (command : Command) (row : ℕ) (before : List Record)
             → IsDraftOf command row before (contents_of self.now)
@@ -142,6 +143,18 @@ impl Draft {
             return Err(Code::NotGiven);
         }
         Ok(Assign { pairing, person })
+    }
+
+    /// Keeps the assignment that a record of one gives, or tells what is wrong with it.
+    pub(crate) fn take_assign(&mut self, fields: &ByteRecord) -> Result<(), Refusal>
+        requires { HasRecords (contents_of self.old) }
+        ensures { (command : Command) (row : ℕ) (before : List Record)
+            → IsDraftOf command row before (contents_of self.old)
+            → Some AssignRecord ≡ kind_in command (fields_of fields.now)
+            → Takes command row before (fields_of fields.now) (contents_of self.new) result }
+    {
+        let assign = self.judge_assign(fields);
+        push(&mut self.assigns, assign)
     }
 
     /// The roster of the assignments so far: who flies each pairing, which is open where none names it.

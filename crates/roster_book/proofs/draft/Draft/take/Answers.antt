@@ -1,12 +1,11 @@
 use Rattle.std.proofs.Common.{◌∙◌, sym, refl}
 use Rattle.std.proofs.lemmas.Result.{err_from_is_err_and}
 use Rattle.csv.specs.Records.{fields_of}
-use Rattle.roster_model.specs.Record.{BaseRecord, CrewRecord, PairingRecord, DutyRecord, LeaveRecord, AssignRecord, PeriodRecord}
+use Rattle.roster_model.specs.Record.{BaseRecord, CrewRecord, PairingRecord, DutyRecord, LeaveRecord, PeriodRecord}
 use Rattle.roster_model.specs.records.Base.{base_of}
 use Rattle.roster_model.specs.records.Crew.{person_of}
 use Rattle.roster_model.specs.records.Pairing.{pairing_of}
 use Rattle.roster_model.specs.records.Leave.{leave_of}
-use Rattle.roster_model.specs.records.Assign.{assign_of}
 use Rattle.roster_book.specs.Draft.{contents_of}
 use Rattle.roster_book.specs.View.{command_of}
 use Rattle.roster_book.proofs.Drafts.{code_of-later, code_of-unknown, IsDraftOf-append, Takes-pushed}
@@ -68,9 +67,3 @@ returns-in-Some-Leave c = λ before d.
     let fields = fields_of c.args.fields.now in
     Takes-pushed (command_of c.args.command) c.args.row LeaveRecord before fields (contents_of c.args.self.now) _ (leave_of before fields) _ _ _ d (rw c.in-Some-Leave.field-0-is at c.in-Some-Leave.ensures)
     (c.push-in-Some-Leave.ensures _ (leave_of before fields) (c.judge_leave-leave.ensures (command_of c.args.command) c.args.row before d)) (λ same. rw same refl)
-
-pub returns-in-Some-Assign : goal.returns-in-Some-Assign
-returns-in-Some-Assign c = λ before d.
-    let fields = fields_of c.args.fields.now in
-    Takes-pushed (command_of c.args.command) c.args.row AssignRecord before fields (contents_of c.args.self.now) _ (assign_of before fields) _ _ _ d (rw c.in-Some-Assign.field-0-is at c.in-Some-Assign.ensures)
-    (c.push-in-Some-Assign.ensures _ (assign_of before fields) (c.judge_assign-assign.ensures (command_of c.args.command) c.args.row before d)) (λ same. rw same refl)
