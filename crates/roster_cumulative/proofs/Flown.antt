@@ -1,12 +1,12 @@
--- The flight of a duty is within the duty.
-use Rattle.std.proofs.Common.{◌≡◌, ℕ, suc, ◌+◌, ◌<◌, ◌≤◌, Bool, true, false, cond, List, [], ◌∷◌, arith}
+-- The flight of a duty is within the duty, and between two instants no more than lies between them.
+use Rattle.std.proofs.Common.{ℕ, suc, ◌+◌, ◌-◌, ◌<◌, ◌≤◌, Bool, true, false, cond, List, [], ◌∷◌, arith}
 use Rattle.std.specs.Prelude.{All, AllPairs}
 use Rattle.std.specs.List.{sum_by}
 use Rattle.std.proofs.lemmas.List.Elements.{All-head, All-tail}
 use Rattle.std.proofs.lemmas.List.Sums.{sum_by-cons}
 use Rattle.roster_model.specs.Calendar.{common}
-use Rattle.roster_model.specs.records.Duty.{Sector}
-use Rattle.roster_model.specs.Sums.{flown_between}
+use Rattle.roster_model.specs.records.Duty.{Duty, Sector}
+use Rattle.roster_model.specs.Sums.{flight_between, flown_between}
 use Rattle.roster_problem.specs.Sectors.{AreSectors}
 
 at_most : (operates : Bool) (n : ℕ) → cond operates n 0 ≤ n
@@ -35,3 +35,10 @@ common-le a b c d = omega arith
 pub flown-le : (report release from to most : ℕ) (sectors : List Sector) → AreSectors report release sectors → release ≤ most → sum_by (λ s. flown_between s from to) sectors ≤ most
 flown-le report release from to most sectors are short =
     omega (arith, flown-within report release from to sectors are, common-le report release from to, short)
+
+common-between : (a b c d : ℕ) → common a b c d ≤ d - c
+common-between a b c d = omega arith
+
+pub flight_between-le : (duty : Duty) (from to : ℕ) → AreSectors duty.report duty.release duty.sectors → flight_between duty from to ≤ to - from
+flight_between-le duty from to are =
+    omega (arith, flown-within duty.report duty.release from to duty.sectors are, common-between duty.report duty.release from to)

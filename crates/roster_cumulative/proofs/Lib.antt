@@ -1,4 +1,6 @@
 pub mod OnDay
 pub mod InRun
 pub mod Flown
-pub mod KeptLimits
+pub mod Divided
+pub mod MonthFlight
+pub mod ListedFlight

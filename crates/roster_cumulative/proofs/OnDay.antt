@@ -39,7 +39,7 @@ pub le_from_cmp : (a b : ℕ) → is_le (int_cmp (pos a) (pos b)) ≡ true → a
 le_from_cmp a b h = le_by_rank a b (int_cmp (pos a) (pos b)) (int_ranks (pos a) (pos b)) h
 
 -- no later midnight is before an earlier one
-mid-later : (days : Days) → IsTable days → (i j : ℕ) → i ≤ j → j ≤ length days.eight → get_or days.mid i 0 ≤ get_or days.mid j 0
+pub mid-later : (days : Days) → IsTable days → (i j : ℕ) → i ≤ j → j ≤ length days.eight → get_or days.mid i 0 ≤ get_or days.mid j 0
 mid-later days table i j before within =
     elim (cases_lt i j) [
       | inl less ↦ let rises = mid-rises days table i j less within in omega arith

@@ -1,14 +1,14 @@
 //! Duty and flight by local day, in runs of days, and in the month, in minutes.
 
-ghost use Rattle.std.specs.Prelude.{◌≡◌, ◌≤◌, ◌<◌, length, pos};
+ghost use Rattle.std.specs.Prelude.{◌≡◌, ◌≤◌, ◌<◌, ◌*◌, ◌-◌, length, pos};
 ghost use Rattle.roster_model.specs.Sums as sums;
 ghost use Rattle.roster_cumulative.specs.Table.{minutes_of, most_in_run};
 
-use crate::runs::{greatest_run, month_of};
-use crate::table::{Measure, add_flight, table_of};
-use roster_instants::BaseDays;
-use roster_model::limits::{DAYS_BEFORE, MOST_DAYS};
-use roster_problem::{Duty, DutyList};
+use crate::runs::greatest_run;
+use crate::table::{Measure, table_of};
+use roster_instants::{BaseDays, Minute, common};
+use roster_model::limits::{DAYS_BEFORE, MOST_MONTH_MINUTES};
+use roster_problem::{Duty, DutyList, Sector};
 
 /// What the list has of the measure on day `i`.
 fn minutes_on(days: &BaseDays, list: &DutyList, i: usize, measure: Measure) -> i64
@@ -68,20 +68,49 @@ pub fn greatest_flight(days: &BaseDays, list: &DutyList, n: usize) -> i64
     most_minutes(days, list, n, Measure::Flight)
 }
 
-/// The flight of the list in the month.
-pub fn month_flight(days: &BaseDays, list: &DutyList) -> i64
-    ensures value { result ≡ pos (sums.month_flight days.now list.now) }
-    ensures bound { sums.month_flight days.now list.now ≤ most_in_run }
+/// The minutes of the sector from one instant to another that its person flies.
+fn flown_between(sector: Sector, from: Minute, to: Minute) -> u64
+    requires sector { sector.off ≤ sector.on }
+    requires order { from ≤ to }
+    ensures { result ≡ sums.flown_between sector from to }
 {
-    month_of(days, &table_of(days, list, Measure::Flight)) as i64
+    if sector.operates {
+        common(sector.off, sector.on, from, to) as u64
+    } else {
+        0
+    }
 }
 
-/// The flight of the duty in the month.
+/// The flight of the duty from one instant to another.
+fn flight_between(duty: &Duty, from: Minute, to: Minute) -> u64
+    requires { from ≤ to }
+    ensures value { result ≡ sums.flight_between duty.now from to }
+    ensures bound { result ≤ to - from }
+{
+    prove!(to.get() <= 5_000_000_000);
+    let mut total = 0;
+    for sector in &duty.sectors {
+        total += flown_between(*sector, from, to);
+    }
+    total
+}
+
+/// The flight of the duty in the month. It looks at no day of the month.
 pub fn duty_flight(days: &BaseDays, duty: &Duty) -> i64
     ensures value { result ≡ pos (sums.duty_flight days.now duty.now) }
-    ensures bound { sums.duty_flight days.now duty.now ≤ most_in_run }
+    ensures bound { sums.duty_flight days.now duty.now ≤ MOST_MONTH_MINUTES }
 {
-    let mut table = [0; MOST_DAYS];
-    add_flight(&mut table, days, duty);
-    month_of(days, &table) as i64
+    flight_between(duty, days.month_start(), days.month_end()) as i64
+}
+
+/// The flight of the list in the month, which is that of its duties.
+pub fn month_flight(days: &BaseDays, list: &DutyList) -> i64
+    ensures value { result ≡ pos (sums.month_flight days.now list.now) }
+    ensures bound { sums.month_flight days.now list.now ≤ length list.now * MOST_MONTH_MINUTES }
+{
+    let mut total = 0;
+    for k in 0..list.len() {
+        total += duty_flight(days, list.duty(k));
+    }
+    total
 }

@@ -11,7 +11,7 @@ use crate::clocks::{Clocks, EIGHT, MIDNIGHT, TEN};
 use crate::minute::Minute;
 use crate::period::Period;
 use jiff::civil::{self, Date};
-use roster_model::limits::{DAYS_AFTER, DAYS_BEFORE};
+use roster_model::limits::{DAYS_AFTER, DAYS_BEFORE, MOST_DAYS};
 use std::alloc::{AllocError, Global};
 use std::marker::Model;
 use thiserror::Error;
@@ -48,7 +48,8 @@ impl From<AllocError> for ZoneFault {
 ///
 /// The window reaches from [`DAYS_BEFORE`] days before the month's first day to [`DAYS_AFTER`] days
 /// after its last. Its days are numbered from 0, so the month's first day is day `DAYS_BEFORE`. Each
-/// day's 00:00, 08:00 and 22:00 and the next day's 00:00 follow one another, which the type keeps.
+/// day's 00:00, 08:00 and 22:00 and the next day's 00:00 follow one another, and the month is no longer
+/// than `MOST_MONTH_MINUTES`. The type keeps both.
 #[derive(Debug, Drop)]
 pub struct BaseDays {
     month_days: usize,
@@ -101,7 +102,7 @@ impl BaseDays {
     pub fn days(&self) -> usize
         ensures value { result ≡ length self.now.eight }
         ensures window { result ≡ DAYS_BEFORE + self.now.month_days + DAYS_AFTER }
-        ensures bound { result ≤ DAYS_BEFORE + 31 + DAYS_AFTER }
+        ensures bound { result ≤ MOST_DAYS }
         ensures table { IsTable self.now }
     {
         self.eight.len()
@@ -132,6 +133,14 @@ impl BaseDays {
         ensures { slice_get self.now.mid DAYS_BEFORE ≡ Some result }
     {
         self.mid[DAYS_BEFORE]
+    }
+
+    /// The instant at which the month ends.
+    pub fn month_end(&self) -> Minute
+        ensures value { slice_get self.now.mid (DAYS_BEFORE + self.now.month_days) ≡ Some result }
+        ensures table { IsTable self.now }
+    {
+        self.mid[DAYS_BEFORE + self.month_days]
     }
 
     /// The instant of 08:00 on day `i`.
@@ -218,7 +227,7 @@ fn rises(clocks: &Clocks, period: Period) -> bool
 
 /// The tables of the window's days.
 fn table(alloc: Global, clocks: &Clocks, period: Period) -> Result<BaseDays, AllocError>
-    requires { rises period clocks.now ≡ true }
+    requires { IsTable (table_of period clocks.now) }
     ensures { IfOk result (λ days. days ≡ table_of period clocks.now) }
 {
     let Window { first, days } = window_of(period);

@@ -1,4 +1,4 @@
--- The tables of a zone's days have the window's lengths, and rise.
+-- The tables of a zone's days have the window's lengths, and rise, and the month is short.
 use Rattle.std.proofs.Common.{◌≡◌, ◌∙◌, sym, ℕ, pos, inl, inr, ◌+◌, ◌-◌, ◌<◌, ◌≤◌, Bool, true, false, not, ◌&&◌, nat_lt, cond, List, length, zero, suc, refl, ap, arith, subst, Option, Some, None, Result, Ok, Err, get_or}
 use Rattle.std.specs.List.{list_all, range_with_len, slice_get}
 use Rattle.std.specs.List.Sorted.{IsStrictlyIncreasing}
@@ -10,7 +10,9 @@ use Rattle.jiff_core.proofs.CalendarLemmas.{days_in_month_bounds}
 use Rattle.jiff_tz.specs.PosixReader.{read_whole}
 use Rattle.jiff_tz.specs.PosixRule.{match_some}
 use Rattle.jiff_tz.specs.PosixText.{TzText}
-use Rattle.roster_model.specs.Calendar.{Period, Days, IsDayOf, IsRising, IsTable, days_of_month, days_of_window, first_day}
+use Rattle.roster_model.proofs.OffsetLemmas.{AreNear, days-short, read-near}
+use Rattle.roster_model.specs.declared.limits.TheConstants.{DAYS_BEFORE, MOST_MONTH_MINUTES}
+use Rattle.roster_model.specs.Calendar.{Period, Days, IsDayOf, IsRising, IsTable, days_of_month, days_of_window, first_day, month_start, month_end}
 use Rattle.roster_model.specs.Clocks.{minute_at}
 use Rattle.roster_model.specs.Zone.{ZoneRefusal, NotRead, NotMinutes, NotRising, days_of_zone, days_by_rule, table_of, has_minutes, rises, rises_on, instants_at}
 
@@ -57,9 +59,23 @@ table-rises period zone all = record {
       (rises_at zone (first + i) (all_of_range (λ day. rises_on zone day) first n i all b.0));
 }
 
--- and it has the window's lengths
-pub table-whole : (period : Period) (zone : TzText) → rises period zone ≡ true → IsTable (table_of period zone)
-table-whole period zone all =
+-- the i-th midnight is that of the i-th day
+midnight_is : (period : Period) (zone : TzText) (i : ℕ) → i ≤ days_of_window period → get_or (table_of period zone).mid i 0 ≡ minute_at zone (first_day period + i) 0
+midnight_is period zone i within =
+    get_or-map-range_with_len (λ d. minute_at zone d 0) (first_day period) (days_of_window period + 1) i (first_day period + i) 0 (omega arith) refl
+
+-- so the month is short
+month-short : (period : Period) (zone : TzText) → AreNear zone → month_end (table_of period zone) ≤ month_start (table_of period zone) + MOST_MONTH_MINUTES
+month-short period zone near =
+    let n = days_of_month period in
+    let few = (days_in_month_bounds (pos period.year) period.month).0 in
+    let there : first_day period + (DAYS_BEFORE + n) ≡ first_day period + DAYS_BEFORE + n = omega arith in
+    let short = days-short zone (first_day period + DAYS_BEFORE) n near few in
+    rw (midnight_is period zone DAYS_BEFORE (omega arith), midnight_is period zone (DAYS_BEFORE + n) (omega arith), there) short
+
+-- and the table has the window's lengths
+pub table-whole : (period : Period) (text : List ℕ) (zone : TzText) → read_whole text ≡ Some zone → rises period zone ≡ true → IsTable (table_of period zone)
+table-whole period text zone read all =
     let n = days_of_window period in
     let first = first_day period in
     let month = days_in_month_bounds (pos period.year) period.month in
@@ -73,6 +89,7 @@ table-whole period zone all =
       mid = mid ∙ ap (λ k. k + 1) (sym eight);
       ten = ten ∙ sym eight;
       rising = table-rises period zone all;
+      short = month-short period zone (read-near text zone read);
     }
 
 -- what a rule's days are, where it has some
@@ -94,13 +111,14 @@ pub days_of_zone-rule : (period : Period) (text : List ℕ) (days : Days) → da
 unfolding days_of_zone
 days_of_zone-rule period text days h = by_reading period (read_whole text) days h
 
--- The days that a zone text stands for have the window's lengths, the month's days, and rise.
+-- The days that a zone text stands for have the window's lengths, the month's days, and rise, and the
+-- month is short.
 pub days_of_zone-table : (period : Period) (text : List ℕ) (days : Days) → days_of_zone period text ≡ Ok days → IsTable days × (days.month_days ≡ days_of_month period)
 days_of_zone-table period text days h =
     let rule = days_of_zone-rule period text days h in
     let table = days_by_rule-table period rule.0 days rule.2 in
     let P : Days → Type 0 = λ d. IsTable d × (d.month_days ≡ days_of_month period) in
-    subst P table.2 (table-whole period rule.0 table.1, refl)
+    subst P table.2 (table-whole period text rule.0 rule.1 table.1, refl)
 
 -- On each day of a table the instants follow one another,
 pub day-rises : (days : Days) → IsTable days → (i : ℕ) → i < length days.eight

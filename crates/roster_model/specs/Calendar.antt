@@ -1,9 +1,9 @@
 -- Instants, periods, and the days round a month. An instant is a number of minutes since
 -- 1970-01-01T00:00Z. The calendar is the Gregorian one, as `jiff` has it.
-use Rattle.std.specs.Prelude.{ℕ, ◌+◌, ◌-◌, ◌*◌, ◌≡◌, ◌<◌, ◌≤◌, Bool, ◌&&◌, if◌then◌else◌, List, length, slice_get, Option, Some, None, pos, unsigned_abs, min, max, nat_le, codes}
+use Rattle.std.specs.Prelude.{ℕ, ◌+◌, ◌-◌, ◌*◌, ◌≡◌, ◌<◌, ◌≤◌, Bool, ◌&&◌, if◌then◌else◌, List, length, slice_get, slice_index, Option, Some, None, pos, unsigned_abs, min, max, nat_le, codes}
 use Rattle.std.specs.Int.{is_in_range}
 use Rattle.jiff_core.specs.Calendar.{days_in_month, days_from_civil}
-use Rattle.roster_model.specs.declared.limits.TheConstants.{DAYS_BEFORE, DAYS_AFTER}
+use Rattle.roster_model.specs.declared.limits.TheConstants.{DAYS_BEFORE, DAYS_AFTER, MOST_MONTH_MINUTES}
 use Rattle.roster_model.specs.Form.{has_shape, number_at}
 
 -- days since 1 January 1970, for a date not before it
@@ -66,6 +66,13 @@ pub record Days : Type 0 where
   pub eight : List ℕ
   pub ten : List ℕ
 
+-- the instants at which the month begins and ends
+abbrev pub month_start : Days → ℕ
+month_start days = slice_index days.mid DAYS_BEFORE
+
+abbrev pub month_end : Days → ℕ
+month_end days = slice_index days.mid (DAYS_BEFORE + days.month_days)
+
 -- On each day 00:00, 08:00, 22:00 and the next day's 00:00 follow one another.
 pub record IsRising (days : Days) : Type 0 where
   pub on : (i mid eight ten next : ℕ) → slice_get days.mid i ≡ Some mid
@@ -73,7 +80,8 @@ pub record IsRising (days : Days) : Type 0 where
       → slice_get days.mid (i + 1) ≡ Some next
       → (mid < eight) × (eight < ten) × (ten < next)
 
--- The tables are those of a window round a month of 28 to 31 days, and rise.
+-- The tables are those of a window round a month of 28 to 31 days, and rise. The month is no longer
+-- than a zone text can make one.
 pub record IsTable (days : Days) : Type 0 where
   pub least : 28 ≤ days.month_days
   pub most : days.month_days ≤ 31
@@ -81,6 +89,7 @@ pub record IsTable (days : Days) : Type 0 where
   pub mid : length days.mid ≡ length days.eight + 1
   pub ten : length days.ten ≡ length days.eight
   pub rising : IsRising days
+  pub short : month_end days ≤ month_start days + MOST_MONTH_MINUTES
 
 -- Day i holds the instant.
 pub record IsDayOf (days : Days) (instant i : ℕ) : Type 0 where

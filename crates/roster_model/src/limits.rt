@@ -66,3 +66,7 @@ pub const DAYS_AFTER: usize = 14;
 
 /// The days of a window, at most: those round a month of 31 days.
 pub const MOST_DAYS: usize = DAYS_BEFORE + 31 + DAYS_AFTER;
+
+/// The minutes of the month at a base, at most: those of 31 days, and of 52 hours for its clocks, which
+/// may be 26 hours ahead of UTC as it begins and 26 hours behind as it ends.
+pub const MOST_MONTH_MINUTES: usize = (31 * 24 + 52) * 60;

@@ -1,28 +1,41 @@
-use Rattle.std.proofs.Common.{◌≡◌, ℕ, ◌+◌, ◌≤◌, ◌∷◌, [], get_or, pos, w64, ap, ◌∙◌, subst, arith}
+use Rattle.std.proofs.Common.{◌≡◌, ◌+◌, ◌≤◌, pos, w64, sym, ap, ◌∙◌, arith}
 use Rattle.std.proofs.lemmas.Int.{to_z_pos}
-use Rattle.roster_model.specs.Sums.{duty_flight, flight_on}
-use Rattle.roster_cumulative.specs.Table.{most_in_run}
-use Rattle.roster_cumulative.proofs.InRun.{in_month-agree}
-use Rattle.roster_cumulative.proofs.OnDay.{zeros}
+use Rattle.std.proofs.lemmas.Option.{get_or_from_slice_get}
+use Rattle.roster_model.specs.Calendar.{month_end}
+use Rattle.roster_model.specs.Sums.{duty_flight, flight_between}
+use Rattle.roster_model.specs.declared.limits.TheConstants.{DAYS_BEFORE, MOST_MONTH_MINUTES}
+use Rattle.roster_cumulative.proofs.Divided.{duty_flight-between}
+use Rattle.roster_cumulative.proofs.OnDay.{mid-later}
 use Rattle.roster_cumulative.proofs.sums.duty_flight.Goals as goal
 
-is_flight : (c : goal.After-month_of) → c.month_of.result ≡ duty_flight c.args.days.now c.args.duty.now
+pub flight_between-requires : goal.flight_between-requires
+flight_between-requires c =
+    let days = c.args.days.now in
+    let long = c.month_end.ensures.table.eight in
+    let starts = get_or_from_slice_get days.mid DAYS_BEFORE _ 0 c.month_start.ensures in
+    let ends = get_or_from_slice_get days.mid (DAYS_BEFORE + days.month_days) _ 0 c.month_end.ensures.value in
+    omega (arith, starts, ends, mid-later days c.month_end.ensures.table DAYS_BEFORE (DAYS_BEFORE + days.month_days) (omega arith) (omega arith))
+
+is_flight : (c : goal.After-flight_between) → duty_flight c.args.days.now c.args.duty.now ≡ c.flight_between.result
 is_flight c =
-    let table = λ (i : ℕ). get_or c.add_flight.new.table i 0 in
-    let flight = flight_on c.args.days.now (c.args.duty.now ∷ []) in
-    c.month_of.ensures.value ∙ in_month-agree table flight (λ i. omega (arith, c.add_flight.ensures.added i, zeros 80 i)) c.args.days.now
+    let days = c.args.days.now in
+    let starts = get_or_from_slice_get days.mid DAYS_BEFORE _ 0 c.month_start.ensures in
+    let ends = get_or_from_slice_get days.mid (DAYS_BEFORE + days.month_days) _ 0 c.month_end.ensures.value in
+    duty_flight-between days c.args.duty.now c.month_end.ensures.table
+    ∙ ap (λ at. flight_between c.args.duty.now at (month_end days)) starts
+    ∙ ap (λ at. flight_between c.args.duty.now c.month_start.result at) ends
+    ∙ sym c.flight_between.ensures.value
 
-pub add_flight-requires : goal.add_flight-requires
-add_flight-requires c = record { light = λ i. omega (arith, zeros 80 i) }
-
-pub month_of-requires : goal.month_of-requires
-month_of-requires c = λ i.
-    let mid = c.args.days.now.mid in
-    omega (arith, c.add_flight.ensures.added i, zeros 80 i, c.add_flight.ensures.bound (get_or mid i 0) (get_or mid (i + 1) 0))
+-- it fits, since the month is short
+is_short : (c : goal.After-flight_between) → c.flight_between.result ≤ MOST_MONTH_MINUTES
+is_short c =
+    let days = c.args.days.now in
+    let starts = get_or_from_slice_get days.mid DAYS_BEFORE _ 0 c.month_start.ensures in
+    let ends = get_or_from_slice_get days.mid (DAYS_BEFORE + days.month_days) _ 0 c.month_end.ensures.value in
+    omega (arith, starts, ends, c.month_end.ensures.table.short, c.flight_between.ensures.bound)
 
 pub returns-clause-value : goal.returns-clause-value
-returns-clause-value c =
-    to_z_pos w64 c.month_of.result (omega (arith, c.month_of.ensures.bound)) ∙ ap pos (is_flight c)
+returns-clause-value c = to_z_pos w64 c.flight_between.result (omega (arith, is_short c)) ∙ ap pos (sym (is_flight c))
 
 pub returns-clause-bound : goal.returns-clause-bound
-returns-clause-bound c = subst (λ n. n ≤ most_in_run) (is_flight c) c.month_of.ensures.bound
+returns-clause-bound c = omega (arith, is_flight c, is_short c)

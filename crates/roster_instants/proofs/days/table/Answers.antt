@@ -1,5 +1,4 @@
 use Rattle.std.proofs.Common.{sym, subst}
-use Rattle.roster_model.proofs.WindowLemmas.{table-whole}
 use Rattle.roster_model.specs.Calendar.{IsTable}
 use Rattle.roster_instants.proofs.ZoneLemmas.{table_made}
 use Rattle.roster_instants.proofs.days.table.Goals as goal
@@ -10,4 +9,4 @@ invariant_of-result c =
     (sym (table_made c.args.period c.args.clocks.now c.window_of-first.result.first c.window_of-first.result.days c.days_of_month.result _ _ _
     c.window_of-first.ensures.first c.window_of-first.ensures.days c.days_of_month.ensures.value
     c.in_ok-instants_at.ensures c.in_ok-instants_at-2.ensures c.in_ok-instants_at-3.ensures))
-    (table-whole c.args.period c.args.clocks.now c.requires)
+    c.requires

@@ -1,5 +1,6 @@
 use Rattle.std.proofs.Common.{◌∙◌, sym, ap, refl, Ok}
 use Rattle.std.proofs.lemmas.Result.{err_from_is_err_and}
+use Rattle.roster_model.proofs.WindowLemmas.{table-whole}
 use Rattle.roster_instants.proofs.ZoneLemmas.{not_read, not_minutes, not_rising, has_days}
 use Rattle.roster_instants.proofs.days.BaseDays.build.Goals as goal
 
@@ -14,6 +15,10 @@ pub returns-then-not-rises-clause-fault : goal.returns-then-not-rises-clause-fau
 returns-then-not-rises-clause-fault c =
     not_rising c.args.period c.args.text.now c.in-Some.clocks (sym c.in-Some.ensures) (sym c.has_minutes.ensures ∙ c.if-not-has_minutes.false)
     (sym c.rises.ensures ∙ c.if-not-rises.true)
+
+pub table-requires : goal.table-requires
+table-requires c =
+    table-whole c.args.period c.args.text.now c.in-Some.clocks (sym c.in-Some.ensures) (sym c.rises.ensures ∙ c.if-not-rises.false)
 
 pub returns-in_err-days-clause-fault : goal.returns-in_err-days-clause-fault
 returns-in_err-days-clause-fault c =

@@ -1,0 +1,166 @@
+-- The flight of duty lists, by which of a problem's duties they hold.
+use Rattle.std.proofs.Common.{◌≡◌, ℕ, zero, suc, ◌+◌, ◌*◌, ◌≤◌, Bool, true, false, ◌||◌, cond, eqb, List, [], ◌∷◌, ◌++◌, length, get_or, Option, Some, None, refl, sym, ap, ◌∙◌, subst, inl, inr, arith}
+use Rattle.std.specs.Prelude.{All, filter, slice_get}
+use Rattle.std.specs.List.{range_with_len, sum_by}
+use Rattle.std.specs.Option.{option_map_or}
+use Rattle.std.proofs.lemmas.Bool.{both_ways, cases_Bool, cases_lt, eqb-true, false_from_ne_true}
+use Rattle.std.proofs.lemmas.Bool.Decides.{nat_tests}
+use Rattle.std.proofs.lemmas.Option.{slice_get-get_or, slice_get_past}
+use Rattle.std.proofs.lemmas.List.Sums.{sum_by-cons, sum_by-le, sum_by-le-sum_by}
+use Rattle.roster_model.proofs.PlacesLemmas.{is_among-set_of}
+use Rattle.roster_model.proofs.SetLemmas.{is_among-append}
+use Rattle.roster_model.specs.declared.limits.TheConstants.{MOST_MONTH_MINUTES}
+use Rattle.roster_model.specs.Calendar.{Days, IsTable}
+use Rattle.roster_model.specs.Problem.{Problem, home_of}
+use Rattle.roster_model.specs.Rosters.{set_of}
+use Rattle.roster_model.specs.Rules.{duty_list, is_among, is_listed}
+use Rattle.roster_model.specs.Sums.{duty_flight, month_flight}
+use Rattle.roster_model.specs.records.Duty.{Duty, Holder, OfPairing, OfPerson, is_held_by_pairing}
+use Rattle.roster_model.specs.records.Base.{Base, base_at, no_base}
+use Rattle.roster_problem.specs.Sectors.{AreSectors}
+use Rattle.roster_cumulative.proofs.Divided.{duty_flight-short}
+use Rattle.roster_cumulative.proofs.MonthFlight.{month_flight-sum, sum_of_sums}
+
+-- ---- of those that pass a test
+
+sum_by-cond : {X : Type 0} (f : X → ℕ) (passes : Bool) (x : X) (rest : List X) → sum_by f (cond passes (x ∷ rest) rest) ≡ cond passes (f x) 0 + sum_by f rest
+sum_by-cond f true x rest = sum_by-cons f x rest
+sum_by-cond f false x rest = omega arith
+
+sum_by-filter : {X : Type 0} (f : X → ℕ) (test : X → Bool) (xs : List X) → sum_by f (filter test xs) ≡ sum_by (λ x. cond (test x) (f x) 0) xs
+sum_by-filter f test [] = refl
+sum_by-filter f test (x ∷ xs) =
+    omega (arith, sum_by-cond f (test x) x (filter test xs), sum_by-filter f test xs, sum_by-cons (λ y. cond (test y) (f y) 0) x xs)
+
+pub month_flight-listed : (problem : Problem) (days : Days) (k : ℕ) (set : List ℕ)
+    → month_flight days (duty_list problem k set) ≡ sum_by (λ duty. cond (is_listed k set duty.holder) (duty_flight days duty) 0) problem.duties
+month_flight-listed problem days k set =
+    month_flight-sum days (duty_list problem k set) ∙ sum_by-filter (duty_flight days) (λ duty. is_listed k set duty.holder) problem.duties
+
+-- ---- of one pairing more
+
+one_of_two : (n : ℕ) (more listed held : Bool) → more ≡ (listed || held) → (listed ≡ true → held ≡ true → ⊥) → cond more n 0 ≡ cond listed n 0 + cond held n 0
+one_of_two n more true true is apart = absurd (apart refl refl)
+one_of_two n more true false is apart = rw is (omega arith)
+one_of_two n more false true is apart = rw is (omega arith)
+one_of_two n more false false is apart = rw is (omega arith)
+
+sum_by-both : {X : Type 0} (f g h : X → ℕ) → ((x : X) → f x ≡ g x + h x) → (xs : List X) → sum_by f xs ≡ sum_by g xs + sum_by h xs
+sum_by-both f g h each [] = omega arith
+sum_by-both f g h each (x ∷ xs) =
+    omega (arith, sum_by-cons f x xs, sum_by-cons g x xs, sum_by-cons h x xs, each x, sum_by-both f g h each xs)
+
+or_false : (b : Bool) → b ≡ (b || false)
+or_false true = refl
+or_false false = refl
+
+same_either_way : (p q : ℕ) → (eqb p q || false) ≡ eqb q p
+same_either_way p q = grind (arith, nat_tests)
+
+is_listed-more : (k p : ℕ) (set : List ℕ) (holder : Holder) → is_listed k (set ++ p ∷ []) holder ≡ (is_listed k set holder || is_held_by_pairing p holder)
+is_listed-more k p set (OfPairing q) = is_among-append set (p ∷ []) q ∙ ap (λ b. is_among set q || b) (same_either_way p q)
+is_listed-more k p set (OfPerson j) = or_false (eqb j k)
+
+not_both : (k p : ℕ) (set : List ℕ) (holder : Holder) → is_among set p ≡ false → is_listed k set holder ≡ true → is_held_by_pairing p holder ≡ true → ⊥
+not_both k p set (OfPairing q) new listed held =
+    both_ways (is_among set p) new (subst (λ r. is_among set r ≡ true) (eqb-true q p held) listed)
+not_both k p set (OfPerson j) new listed held = absurd (cc)
+
+pub month_flight-one_more : (problem : Problem) (days : Days) (k p : ℕ) (set : List ℕ) → is_among set p ≡ false
+    → month_flight days (duty_list problem k (set ++ p ∷ [])) ≡ month_flight days (duty_list problem k set) + month_flight days (filter (λ duty. is_held_by_pairing p duty.holder) problem.duties)
+month_flight-one_more problem days k p set new =
+    let minutes = duty_flight days in
+    let held = λ (duty : Duty). is_held_by_pairing p duty.holder in
+    let each = λ (duty : Duty). one_of_two (minutes duty) (is_listed k (set ++ p ∷ []) duty.holder) (is_listed k set duty.holder) (held duty)
+    (is_listed-more k p set duty.holder) (not_both k p set duty.holder new) in
+    omega (
+      arith,
+      month_flight-listed problem days k (set ++ p ∷ []),
+      month_flight-listed problem days k set,
+      month_flight-sum days (filter held problem.duties),
+      sum_by-filter minutes held problem.duties,
+      sum_by-both (λ duty. cond (is_listed k (set ++ p ∷ []) duty.holder) (minutes duty) 0) (λ duty. cond (is_listed k set duty.holder) (minutes duty) 0) (λ duty. cond (held duty) (minutes duty) 0) each problem.duties,
+    )
+
+-- ---- of all persons
+
+-- where no number of a range passes
+none_passes : (passes : ℕ → Bool) (minutes : ℕ → ℕ) (first n : ℕ) → ((k : ℕ) → first ≤ k → passes k ≡ true → ⊥) → sum_by (λ k. cond (passes k) (minutes k) 0) (range_with_len first n) ≡ 0
+none_passes passes minutes first zero none = omega arith
+none_passes passes minutes first (suc n) none =
+    let fails : passes first ≡ false = false_from_ne_true (passes first) (none first (omega arith)) in
+    let here : cond (passes first) (minutes first) 0 ≡ 0 = rw fails refl in
+    let later = none_passes passes minutes (first + 1) n (λ k past. none k (omega arith)) in
+    omega (arith, sum_by-cons (λ k. cond (passes k) (minutes k) 0) first (range_with_len (first + 1) n), here, later)
+
+-- and where one does at most
+one_passes : (passes : ℕ → Bool) (minutes : ℕ → ℕ) (most first n : ℕ) → ((i j : ℕ) → passes i ≡ true → passes j ≡ true → i ≡ j) → ((k : ℕ) → minutes k ≤ most) → sum_by (λ k. cond (passes k) (minutes k) 0) (range_with_len first n) ≤ most
+one_passes passes minutes most first zero one few = omega arith
+one_passes passes minutes most first (suc n) one few =
+    let split = sum_by-cons (λ k. cond (passes k) (minutes k) 0) first (range_with_len (first + 1) n) in
+    elim (cases_Bool (passes first)) [
+      | inl does ↦
+          let here : cond (passes first) (minutes first) 0 ≡ minutes first = rw does refl in
+          let later = none_passes passes minutes (first + 1) n (λ k past h. let same : first ≡ k = one first k does h in omega arith) in
+          omega (arith, split, here, later, few first)
+      | inr fails ↦
+          let here : cond (passes first) (minutes first) 0 ≡ 0 = rw fails refl in
+          omega (arith, split, here, one_passes passes minutes most (first + 1) n one few)
+    ]
+
+one_number : (found : Option ℕ) (i j : ℕ) → option_map_or (λ x. eqb x i) found false ≡ true → option_map_or (λ x. eqb x j) found false ≡ true → i ≡ j
+one_number None i j first second = absurd (cc)
+one_number (Some x) i j first second = sym (eqb-true x i first) ∙ eqb-true x j second
+
+-- a duty is on one person's list at most
+one_list : (places : List ℕ) (holder : Holder) (i j : ℕ) → is_listed i (set_of i places) holder ≡ true → is_listed j (set_of j places) holder ≡ true → i ≡ j
+one_list places (OfPairing p) i j first second =
+    one_number (slice_get places p) i j (sym (is_among-set_of i p places) ∙ first) (sym (is_among-set_of j p places) ∙ second)
+one_list places (OfPerson m) i j first second = sym (eqb-true m i first) ∙ eqb-true m j second
+
+-- So what the lists of the first n persons have is no more than what each duty has at most. What it has
+-- may depend on the person.
+all_lists : (minutes : ℕ → Duty → ℕ) (most : ℕ) (problem : Problem) (places : List ℕ) (n : ℕ) → ((k : ℕ) → All (λ duty. minutes k duty ≤ most) problem.duties)
+    → sum_by (λ k. sum_by (minutes k) (duty_list problem k (set_of k places))) (range_with_len 0 n) ≤ length problem.duties * most
+all_lists minutes most problem places n few =
+    let listed = λ (k : ℕ) (duty : Duty). is_listed k (set_of k places) duty.holder in
+    let counted = λ (duty : Duty) (k : ℕ). cond (listed k duty) (minutes k duty) 0 in
+    let persons = range_with_len 0 n in
+    let by_duty = sum_by-le-sum_by (λ k. sum_by (minutes k) (duty_list problem k (set_of k places))) (λ k. sum_by (λ duty. counted duty k) problem.duties) persons
+    (λ k. omega (arith, sum_by-filter (minutes k) (listed k) problem.duties)) in
+    let turned = sum_of_sums counted problem.duties persons in
+    let each : All (λ duty. sum_by (counted duty) persons ≤ most) problem.duties = λ i d inside.
+    let duty : Duty = get_or problem.duties i d in
+    one_passes (λ k. listed k duty) (λ k. minutes k duty) most 0 n (one_list places duty.holder) (λ k. few k i d inside) in
+    omega (arith, by_duty, turned, sum_by-le (λ duty. sum_by (counted duty) persons) most problem.duties each)
+
+ones : {X : Type 0} (xs : List X) → sum_by (λ x. 1) xs ≡ length xs
+ones [] = refl
+ones (x ∷ xs) = omega (arith, sum_by-cons (λ y. 1) x xs, ones xs)
+
+-- the lists have no more duties than there are,
+pub length-lists : (problem : Problem) (places : List ℕ) (n : ℕ) → sum_by (λ k. length (duty_list problem k (set_of k places))) (range_with_len 0 n) ≤ length problem.duties
+length-lists problem places n =
+    let once = all_lists (λ k duty. 1) 1 problem places n (λ k i d inside. omega arith) in
+    let counted = sum_by-le-sum_by (λ k. length (duty_list problem k (set_of k places))) (λ k. sum_by (λ duty. 1) (duty_list problem k (set_of k places))) (range_with_len 0 n)
+    (λ k. omega (arith, ones (duty_list problem k (set_of k places)))) in
+    omega (arith, once, counted)
+
+duty_flight-at_home : (bases : List Base) (place : ℕ) (duty : Duty) → All (λ base. IsTable base.days) bases → AreSectors duty.report duty.release duty.sectors
+    → duty_flight (base_at bases place).days duty ≤ MOST_MONTH_MINUTES
+duty_flight-at_home bases place duty tables are =
+    elim (cases_lt place (length bases)) [
+      | inl within ↦
+          rw (slice_get-get_or bases place no_base within) (duty_flight-short (get_or bases place no_base).days duty (tables place no_base within) are)
+      | inr past ↦ rw (slice_get_past bases place past) (omega arith)
+    ]
+
+-- and no more flight than each duty has at most
+pub month_flight-lists : (problem : Problem) (places : List ℕ) (n : ℕ) → All (λ base. IsTable base.days) problem.bases → All (λ duty. AreSectors duty.report duty.release duty.sectors) problem.duties
+    → sum_by (λ k. month_flight (home_of problem k).days (duty_list problem k (set_of k places))) (range_with_len 0 n) ≤ length problem.duties * MOST_MONTH_MINUTES
+month_flight-lists problem places n tables are =
+    let minutes = λ (k : ℕ). duty_flight (home_of problem k).days in
+    let short = all_lists minutes MOST_MONTH_MINUTES problem places n (λ k i d inside. duty_flight-at_home problem.bases _ (get_or problem.duties i d) tables (are i d inside)) in
+    let each = sum_by-le-sum_by (λ k. month_flight (home_of problem k).days (duty_list problem k (set_of k places))) (λ k. sum_by (minutes k) (duty_list problem k (set_of k places))) (range_with_len 0 n)
+    (λ k. omega (arith, month_flight-sum (home_of problem k).days (duty_list problem k (set_of k places)))) in
+    omega (arith, short, each)
