@@ -48,7 +48,7 @@ fn roster<'a>(alloc: Global) -> Result<clap::Command<'a>, AllocError>
     clap::Command::new(alloc, "roster")
         .about("Rosters airline crew within the flight time limitations of ORO.FTL")
         .subcommand_required(true)
-        .subcommand(solve)
+        .subcommand(solve)?
         .subcommand(check)
 }
 
