@@ -8,10 +8,14 @@ use Rattle.std.proofs.lemmas.Int.{to_z-of_z, fits_signed_from_abs}
 use Rattle.std.proofs.lemmas.List.Elements.{filter_agree}
 use Rattle.std.proofs.lemmas.List.Sums.{sum_by-cons}
 use Rattle.std.proofs.lemmas.Option.{slice_get-get_or}
-use Rattle.roster_model.specs.Problem.{Problem}
+use Rattle.roster_model.specs.Problem.{Problem, home_of}
+use Rattle.roster_model.specs.Costs.{flight_of}
+use Rattle.roster_model.specs.Sums.{month_flight}
 use Rattle.roster_model.specs.Rules.{duty_list, is_listed}
 use Rattle.roster_model.specs.records.Duty.{Duty, Holder, OfPairing, OfPerson, is_held_by_person}
 use Rattle.roster_problem.specs.Duties.{is_of_person, picked}
+use Rattle.roster_problem.specs.Set.{places_from}
+use Rattle.roster_cost.specs.Amounts.{minutes_of_pairing}
 
 -- the next of the positions that are left
 pub picked-next : (minutes : Duty → ℕ) (duties : List Duty) (positions : List ℕ) (i position : ℕ) (duty : Duty) → i < length positions → position ≡ get_or positions i 0 → position < length duties → duty ≡ get_or duties position duty
@@ -38,3 +42,10 @@ listed_without k (OfPerson j) = refl
 -- the list of a person without pairings
 pub fixed-listed : (problem : Problem) (k : ℕ) → filter (is_of_person k) problem.duties ≡ duty_list problem k []
 fixed-listed problem k = filter_agree (is_of_person k) (λ duty. is_listed k [] duty.holder) (λ duty. listed_without k duty.holder) problem.duties
+
+-- a set's flight, where it is that of the fixed duties and of each pairing
+pub set-parts : (problem : Problem) (k : ℕ) (set : List ℕ) (fixed : ℕ)
+    → flight_of problem k set ≡ month_flight (home_of problem k).days (filter (is_of_person k) problem.duties) + sum_by (minutes_of_pairing problem k) set
+    → fixed ≡ flight_of problem k [] → places_from 0 set ≡ set → flight_of problem k set ≡ fixed + sum_by (minutes_of_pairing problem k) (places_from 0 set)
+set-parts problem k set fixed parts none all =
+    omega (arith, parts, none, ap (month_flight (home_of problem k).days) (fixed-listed problem k), ap (sum_by (minutes_of_pairing problem k)) all)

@@ -1,4 +1,4 @@
-use Rattle.std.proofs.Common.{◌≡◌, ◌<◌, ℕ, List, length, get_or, sym, ap, subst, ◌∙◌, arith}
+use Rattle.std.proofs.Common.{◌≡◌, ◌<◌, List, length, get_or, sym, ap, subst, ◌∙◌, arith}
 use Rattle.roster_model.specs.Sums.{duty_flight}
 use Rattle.roster_model.specs.records.Duty.{Duty}
 use Rattle.roster_cost.proofs.Flights.{picked-next, minutes_back}

@@ -9,9 +9,11 @@ loop-p-preserved c =
     let problem = c.args.problem.now in
     let places = c.args.places.now in
     let p = c.loop-p.p in
+    let one_more : suc p ≡ p + 1 = omega arith in
     let next : placed_units problem p (drop p places) ≡ c.units_if_placed-units.result +ℤ placed_units problem (p + 1) (drop (p + 1) places) =
     ap (placed_units problem p) (drop-cons places p 0 c.loop-p-test.true)
-    ∙ ap (λ (units : ℤ). units +ℤ placed_units problem (p + 1) (drop (suc p) places)) (sym c.units_if_placed-units.ensures.value) in
+    ∙ ap (λ (units : ℤ). units +ℤ placed_units problem (p + 1) (drop (suc p) places)) (sym c.units_if_placed-units.ensures.value)
+    ∙ ap (λ n. c.units_if_placed-units.result +ℤ placed_units problem (p + 1) (drop n places)) one_more in
     let few = c.units_if_placed-units.ensures.bound in
     let low = c.loop-p.invariant.bound.0 in
     let high = c.loop-p.invariant.bound.1 in
