@@ -7,7 +7,7 @@ use Rattle.roster_cost.proofs.roster.roster_cost.Goals as goal
 pub returns : goal.returns
 unfolding cost_of
 returns c =
-    let open = c.open_penalties-open.ensures in
+    let penalties = c.open_penalties-open.ensures in
     let units = c.placed_units.ensures in
     let missed = c.missed_targets-missed.ensures in
-    omega (arith, ints, roster_fits, open.value, open.bound, units.value, units.bound.0, units.bound.1, missed.value, missed.bound)
+    omega (arith, ints, roster_fits, penalties.value, penalties.bound, units.value, units.bound.0, units.bound.1, missed.value, missed.bound)
