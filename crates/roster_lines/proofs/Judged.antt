@@ -3,7 +3,7 @@ use Rattle.std.proofs.Common.{◌≡◌, ℕ, ◌+◌, ◌<◌, ◌≤◌, true,
 use Rattle.std.specs.Prelude.{◌↔◌}
 use Rattle.std.proofs.lemmas.Bool.{eqb-true, cases_lt, false≢true, both_ways, or_cases, or_left, or_right}
 use Rattle.roster_model.specs.Problem.{Problem}
-use Rattle.roster_model.specs.Rules.{is_among}
+use Rattle.roster_model.specs.Rules.{is_among, IsLegal}
 use Rattle.roster_model.proofs.SetLemmas.{is_among-here}
 use Rattle.roster_lines.specs.Listing.{AreAlone, ArePartsLegal, AreTogether, IsRow}
 use Rattle.roster_lines.proofs.Listed.{among_single}
@@ -40,6 +40,13 @@ HasBelow-without P set n p has later none not q = (
     ]
   ],
 )
+
+-- what a judge of the problem says of a set that is known
+pub legal_as : (judge problem : Problem) (k : ℕ) (set asked : List ℕ) → judge ≡ problem → set ≡ asked → IsLegal judge k set → IsLegal problem k asked
+legal_as judge problem k set asked same is legal = subst (λ p. IsLegal p k asked) same (subst (IsLegal judge k) is legal)
+
+pub illegal_as : (judge problem : Problem) (k : ℕ) (set asked : List ℕ) → judge ≡ problem → set ≡ asked → (IsLegal judge k set → ⊥) → IsLegal problem k asked → ⊥
+illegal_as judge problem k set asked same is not legal = not (legal_as problem judge k asked set (sym same) (sym is) legal)
 
 module _ (problem : Problem) (k : ℕ) (legal : ArePartsLegal problem k) (alone : List ℕ) (are : AreAlone problem k alone) where
   -- two pairings that are legal together are legal alone

@@ -8,7 +8,7 @@ ghost use Rattle.roster_lines.specs.Listing.{ArePairs, ArePartsLegal, IsFaultOf,
 
 use crate::lines::Lines;
 use crate::pairs::{Pairs, pairs_of};
-use roster_legal::{is_legal, part_of_legal_is_legal};
+use roster_legal::{Judge, part_of_legal_is_legal};
 use roster_model::limits::{MOST_LINES, MOST_PAIRINGS};
 use roster_problem::{Problem, Set};
 use std::alloc::{AllocError, Global};
@@ -53,7 +53,8 @@ pub fn lines_of(alloc: Global, problem: &Problem, k: usize) -> Result<Lines, Lin
     ensures fault { IfErr result (IsFaultOf problem.now k) }
 {
     parts_are_legal(problem);
-    let pairs = pairs_of(alloc, problem, k)?;
+    let mut judge = Judge::new(alloc, problem);
+    let pairs = pairs_of(alloc, &mut judge, problem, k)?;
     let mut lines = Lines::empty(alloc)?;
     let root = Node {
         set: Set::empty(),
@@ -61,19 +62,20 @@ pub fn lines_of(alloc: Global, problem: &Problem, k: usize) -> Result<Lines, Lin
         depth: 0,
         candidates: pairs.alone,
     };
-    extend(alloc, problem, k, &pairs, &root, &mut lines)?;
+    extend(&mut judge, problem, k, &pairs, &root, &mut lines)?;
     Ok(lines)
 }
 
 /// Appends all lines that go on from the node, in their order.
 fn extend(
-    alloc: Global,
+    judge: &mut Judge<'_>,
     problem: &Problem,
     k: usize,
     pairs: &Pairs,
     node: &Node,
     lines: &mut Lines,
 ) -> Result<(), LinesFault>
+    requires judge { judge.old ≡ problem.now }
     requires person { k < length problem.now.persons }
     requires parts { ArePartsLegal problem.now k }
     requires pairs { ArePairs problem.now k pairs.now }
@@ -86,10 +88,11 @@ fn extend(
         → slice_get (sets_of lines.old) i ≡ Some set
         → slice_get (sets_of lines.new) i ≡ Some set) }
     ensures fault { IfErr result (IsFaultOf problem.now k) }
+    ensures judge { judge.new ≡ problem.now }
 {
     let mut from = 0;
     while let Some(p) = node.candidates.first_from(from) {
-        if let Some(set) = line_with(alloc, problem, k, node, p)? {
+        if let Some(set) = line_with(judge, problem, k, node, p)? {
             if lines.is_full() {
                 return Err(LinesFault::TooMany);
             }
@@ -99,7 +102,7 @@ fn extend(
                 depth: node.depth + 1,
                 candidates: node.candidates.and(&pairs.rows[p]),
             };
-            extend(alloc, problem, k, pairs, &below, lines)?;
+            extend(judge, problem, k, pairs, &below, lines)?;
         }
         from = p + 1;
     }
@@ -109,22 +112,24 @@ fn extend(
 /// The set of the node with the candidate behind, if that is a line. Of two pairings or fewer it is
 /// known.
 fn line_with(
-    alloc: Global,
+    judge: &mut Judge<'_>,
     problem: &Problem,
     k: usize,
     node: &Node,
     p: usize,
 ) -> Result<Option<Set>, AllocError>
+    requires judge { judge.old ≡ problem.now }
     requires person { k < length problem.now.persons }
     requires node { IsNode problem.now k node.now }
     requires place { p < MOST_PAIRINGS }
     requires candidate { is_among node.now.candidates p ≡ true }
-    ensures { IfOk result (λ line. MatchOption line
+    ensures line { IfOk result (λ line. MatchOption line
         (¬ IsLine problem.now k (node.now.set ++ p ∷ []))
         (λ set. (set ≡ node.now.set ++ p ∷ []) × IsLine problem.now k set)) }
+    ensures judge { judge.new ≡ problem.now }
 {
     let set = node.set.with(p)?;
-    if node.depth < 2 || is_legal(alloc, problem, k, &set)? {
+    if node.depth < 2 || judge.is_legal(k, &set)? {
         return Ok(Some(set));
     }
     Ok(None)

@@ -21,8 +21,8 @@ struct Line {
 // There may be millions of lines.
 const _: () = prove!(size_of::<Line>() <= 24);
 
-/// The lines of a person in their order, each once, from the empty one on. Contracts see the list of
-/// their sets.
+/// The lines of a person in their order, each once, from the empty one on. Contracts see them as a list
+/// of entries, each with a line's set.
 #[derive(Debug, Drop)]
 pub struct Lines {
     lines: Vec<Line>,

@@ -1,9 +1,9 @@
 //! Which pairings are legal for a person alone, and which of those together.
 
-ghost use Rattle.std.specs.Prelude.{◌<◌, IfOk, length};
+ghost use Rattle.std.specs.Prelude.{◌≡◌, ◌<◌, IfOk, length};
 ghost use Rattle.roster_lines.specs.Listing.{AreAlone, ArePairs, ArePartsLegal, IsRow};
 
-use roster_legal::is_legal;
+use roster_legal::Judge;
 use roster_problem::{Problem, Set};
 use std::alloc::{AllocError, Global};
 
@@ -15,28 +15,37 @@ pub(crate) struct Pairs {
 }
 
 /// Judges each pairing alone, and then each two of those that are legal.
-pub(crate) fn pairs_of(alloc: Global, problem: &Problem, k: usize) -> Result<Pairs, AllocError>
+pub(crate) fn pairs_of(
+    alloc: Global,
+    judge: &mut Judge<'_>,
+    problem: &Problem,
+    k: usize,
+) -> Result<Pairs, AllocError>
+    requires judge { judge.old ≡ problem.now }
     requires person { k < length problem.now.persons }
     requires parts { ArePartsLegal problem.now k }
-    ensures { IfOk result (ArePairs problem.now k) }
+    ensures pairs { IfOk result (ArePairs problem.now k) }
+    ensures judge { judge.new ≡ problem.now }
 {
-    let alone = alone_of(alloc, problem, k)?;
+    let alone = alone_of(judge, problem, k)?;
     let mut rows = Vec::new(alloc);
     for p in 0..problem.pairings().len() {
-        rows.push(row_of(alloc, problem, k, &alone, p)?)?;
+        rows.push(row_of(judge, problem, k, &alone, p)?)?;
     }
     Ok(Pairs { alone, rows })
 }
 
 // The pairings that are legal alone.
-fn alone_of(alloc: Global, problem: &Problem, k: usize) -> Result<Set, AllocError>
-    requires { k < length problem.now.persons }
-    ensures { IfOk result (AreAlone problem.now k) }
+fn alone_of(judge: &mut Judge<'_>, problem: &Problem, k: usize) -> Result<Set, AllocError>
+    requires judge { judge.old ≡ problem.now }
+    requires person { k < length problem.now.persons }
+    ensures alone { IfOk result (AreAlone problem.now k) }
+    ensures judge { judge.new ≡ problem.now }
 {
     let mut alone = Set::empty();
     for p in 0..problem.pairings().len() {
         let single = Set::empty().with(p)?;
-        if is_legal(alloc, problem, k, &single)? {
+        if judge.is_legal(k, &single)? {
             alone = alone.with(p)?;
         }
     }
@@ -45,17 +54,19 @@ fn alone_of(alloc: Global, problem: &Problem, k: usize) -> Result<Set, AllocErro
 
 // The pairings after the one at place `p` that are legal with it.
 fn row_of(
-    alloc: Global,
+    judge: &mut Judge<'_>,
     problem: &Problem,
     k: usize,
     alone: &Set,
     p: usize,
 ) -> Result<Set, AllocError>
+    requires judge { judge.old ≡ problem.now }
     requires person { k < length problem.now.persons }
     requires place { p < length problem.now.pairings }
     requires parts { ArePartsLegal problem.now k }
     requires alone { AreAlone problem.now k alone.now }
-    ensures { IfOk result (IsRow problem.now k p) }
+    ensures row { IfOk result (IsRow problem.now k p) }
+    ensures judge { judge.new ≡ problem.now }
 {
     let mut row = Set::empty();
     if !alone.has(p) {
@@ -65,7 +76,7 @@ fn row_of(
     let mut from = p + 1;
     while let Some(q) = alone.first_from(from) {
         let pair = single.with(q)?;
-        if is_legal(alloc, problem, k, &pair)? {
+        if judge.is_legal(k, &pair)? {
             row = row.with(q)?;
         }
         from = q + 1;

@@ -107,7 +107,13 @@ fn lines_of_a_least_pairing_stand_together(rt: HostRuntime) -> Result<(), Fail> 
     let problem = problem_of(rt.alloc(), &TWO_DAYS)?;
     assert!(rt; problem.persons().len() == 1);
     let lines = lines_of(rt.alloc(), &problem, 0)?;
-    for (p, run) in [(0, (1, 7)), (4, (25, 31)), (5, (31, 32)), (9, (35, 36)), (10, (36, 36))] {
+    for (p, run) in [
+        (0, (1, 7)),
+        (4, (25, 31)),
+        (5, (31, 32)),
+        (9, (35, 36)),
+        (10, (36, 36)),
+    ] {
         assert!(rt; lines.run_of(p) == run);
     }
     Ok(())

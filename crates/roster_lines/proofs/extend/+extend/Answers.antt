@@ -23,7 +23,7 @@ returns-then-is_full-clause-fault t c =
     let lines = c.loop-p.lines in
     let here = c.in-Some.ensures.place.2 in
     let up = up_to_candidate problem k node (sets_of lines) c.loop-p.from p c.requires.node c.loop-p.invariant.lines c.in-Some.ensures.place.0 c.in-Some.ensures.least in
-    let found = line_there problem k node p c.in_ok-set.field-0 c.in-Some-2.set c.in-Some-2.is c.in_ok-set.ensures in
+    let found = line_there problem k node p c.in_ok-set.field-0 c.in-Some-2.set c.in-Some-2.is c.in_ok-set.ensures.line in
     let full = c.is_full.ensures.0 c.if-is_full.true in
     IsCrowded-push problem k (sets_of lines) (node.set ++ p ∷ []) up (subst (IsLine problem k) found.0 found.1) (omega (arith, full, length-sets_of lines))
 
@@ -84,7 +84,7 @@ extend-requires t c =
     let lines = c.loop-p.lines in
     let here = c.in-Some.ensures.place.2 in
     let up = up_to_candidate problem k node (sets_of lines) c.loop-p.from p c.requires.node c.loop-p.invariant.lines c.in-Some.ensures.place.0 c.in-Some.ensures.least in
-    let found = line_there problem k node p c.in_ok-set.field-0 c.in-Some-2.set c.in-Some-2.is c.in_ok-set.ensures in
+    let found = line_there problem k node p c.in_ok-set.field-0 c.in-Some-2.set c.in-Some-2.is c.in_ok-set.ensures.line in
     let number = c.loop-p.invariant.kept node.number node.set c.requires.number in
     let below : Node = record { set = c.in-Some-2.set; number = c.in_ok-push.field-0; depth = node.depth + 1; candidates = c.and.result } in
     let few = length_within node.set p c.requires.node.line.ascending (c.requires.node.behind p here) in
@@ -95,16 +95,19 @@ extend-requires t c =
     let last : c.in_ok-push.field-0 ≡ length (sets_of lines) = c.in_ok-push.ensures.0 ∙ sym (length-sets_of lines) in (
       omega (arith, c.in-Some.ensures.place.1),
       (
-        c.requires.person,
+        c.in_ok-set.ensures.judge,
         (
-          c.requires.parts,
+          c.requires.person,
           (
-            c.requires.pairs,
+            c.requires.parts,
             (
-              IsNode-below problem k c.requires.parts node below p c.index.result.now c.requires.node here (c.requires.pairs.rows p c.index.result.now there) found.0 refl c.and.ensures found.1,
+              c.requires.pairs,
               (
-                ap (slice_get (sets_of c.push.new.self)) last ∙ ap (λ s. slice_get s (length (sets_of lines))) pushed ∙ get_push_new (sets_of lines) below.set,
-                subst (IsUpTo problem k (below.set ++ 0 ∷ [])) (sym pushed) (IsUpTo-push problem k (sets_of lines) below.set (subst (λ mark. IsUpTo problem k mark (sets_of lines)) (sym found.0) up) found.1),
+                IsNode-below problem k c.requires.parts node below p c.index.result.now c.requires.node here (c.requires.pairs.rows p c.index.result.now there) found.0 refl c.and.ensures found.1,
+                (
+                  ap (slice_get (sets_of c.push.new.self)) last ∙ ap (λ s. slice_get s (length (sets_of lines))) pushed ∙ get_push_new (sets_of lines) below.set,
+                  subst (IsUpTo problem k (below.set ++ 0 ∷ [])) (sym pushed) (IsUpTo-push problem k (sets_of lines) below.set (subst (λ mark. IsUpTo problem k mark (sets_of lines)) (sym found.0) up) found.1),
+                ),
               ),
             ),
           ),
@@ -124,11 +127,12 @@ loop-p-preserved t c =
     let next = c.requires.node.places p here in
     elim c.match-branch-2.branch [
       | in-Some-2+else-is_full+in_ok-push+in_ok-extend w ↦
-          let found = line_there problem k node p c.in_ok-set.field-0 w.in-Some-2.set w.in-Some-2.is c.in_ok-set.ensures in
+          let found = line_there problem k node p c.in_ok-set.field-0 w.in-Some-2.set w.in-Some-2.is c.in_ok-set.ensures.line in
           let number = c.loop-p.invariant.kept node.number node.set c.requires.number in
           let pushed = sets_pushed lines w.push.new.self node.number p node.set w.in-Some-2.set w.in_ok-push.ensures.1 number found.0 in
           let same = ap sets_of (sym w.lines-is) in
           record {
+            judge = w.judge-is ∙ w.in_ok-extend.ensures.judge;
             within = omega arith;
             lines = subst (IsUpTo problem k (node.set ++ (p + 1) ∷ [])) same (IsUpTo-return problem k (sets_of w.extend.new.lines) node.set p (subst (λ s. IsUpTo problem k (s ++ length problem.pairings ∷ []) (sets_of w.extend.new.lines)) found.0 w.in_ok-extend.ensures.lines));
             kept = λ i s at.
@@ -138,8 +142,9 @@ loop-p-preserved t c =
       | in_default-2 w ↦
           let same = ap sets_of (sym w.lines-is) in
           record {
+            judge = w.judge-is ∙ c.in_ok-set.ensures.judge;
             within = omega arith;
-            lines = subst (IsUpTo problem k (node.set ++ (p + 1) ∷ [])) same (past_candidate problem k node (sets_of lines) p c.requires.parts up (no_line_there problem k node p c.in_ok-set.field-0 w.in_default-2.is c.in_ok-set.ensures));
+            lines = subst (IsUpTo problem k (node.set ++ (p + 1) ∷ [])) same (past_candidate problem k node (sets_of lines) p c.requires.parts up (no_line_there problem k node p c.in_ok-set.field-0 w.in_default-2.is c.in_ok-set.ensures.line));
             kept = λ i s at. ap (λ sets. slice_get sets i) (sym same) ∙ c.loop-p.invariant.kept i s at;
           }
     ]

@@ -11,6 +11,7 @@ decreases-extend l = MOST_PAIRINGS - l.node.now.depth
 -- the lines before those that go on from the node with a later candidate
 abbrev pub invariant-loop-p : goal.invariant-loop-p
 invariant-loop-p l = record {
+  judge : l.judge ≡ l.problem;
   within : l.from ≤ length l.problem.pairings;
   lines : IsUpTo l.problem l.k (l.node.set ++ l.from ∷ []) (sets_of l.lines);
   kept : (i : ℕ) (set : List ℕ) → slice_get (sets_of l.initial.lines) i ≡ Some set → slice_get (sets_of l.lines) i ≡ Some set;

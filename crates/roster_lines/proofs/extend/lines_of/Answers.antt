@@ -17,7 +17,7 @@ pub extend-requires-clause-node : goal.extend-requires-clause-node
 extend-requires-clause-node c =
     let node : List ℕ → Node = λ set. record { set = set; number = 0; depth = 0; candidates = c.in_ok-pairs.pairs.alone } in
     subst (λ set. IsNode c.args.problem.now c.args.k (node set)) (sym c.empty-2.ensures)
-    (IsNode-root c.args.problem.now c.args.k (c.parts_are_legal.ensures c.args.k) c.in_ok-pairs.pairs.alone c.in_ok-pairs.ensures.alone)
+    (IsNode-root c.args.problem.now c.args.k (c.parts_are_legal.ensures c.args.k) c.in_ok-pairs.pairs.alone c.in_ok-pairs.ensures.pairs.alone)
 
 pub returns-clause-lines : goal.returns-clause-lines
 returns-clause-lines c =

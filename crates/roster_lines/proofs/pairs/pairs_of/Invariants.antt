@@ -6,6 +6,7 @@ use Rattle.roster_lines.proofs.pairs.pairs_of.Given as goal
 -- the rows of the pairings so far
 abbrev pub invariant-loop-p : goal.invariant-loop-p
 invariant-loop-p l = record {
+  judge : l.judge ≡ l.problem;
   long : length l.rows.items ≡ l.p;
   rows : (q : ℕ) (row : List ℕ) → slice_get l.rows.items q ≡ Some row → IsRow l.problem l.k q row;
 }

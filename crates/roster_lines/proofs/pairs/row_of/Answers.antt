@@ -7,12 +7,12 @@ use Rattle.roster_model.specs.Rules.{is_among, IsLegal}
 use Rattle.roster_model.proofs.SetLemmas.{All-is_among}
 use Rattle.roster_problem.specs.Set.{with_place}
 use Rattle.roster_lines.specs.Listing.{AreTogether, IsRow}
-use Rattle.roster_lines.proofs.Judged.{HasBelow, HasBelow-with, HasBelow-without, IsRow-none, IsRow-whole, none_skipped}
+use Rattle.roster_lines.proofs.Judged.{HasBelow, HasBelow-with, HasBelow-without, IsRow-none, IsRow-whole, illegal_as, legal_as, none_skipped}
 use Rattle.roster_lines.proofs.pairs.row_of.Goals.{then-branch+in_ok-row, else-branch}
 use Rattle.roster_lines.proofs.pairs.row_of.Goals as goal
 
-pub returns-then-not-has : goal.returns-then-not-has
-returns-then-not-has c =
+pub returns-then-not-has-clause-row : goal.returns-then-not-has-clause-row
+returns-then-not-has-clause-row c =
     subst (IsRow c.args.problem.now c.args.k c.args.p) (sym c.empty-row.ensures)
     (IsRow-none c.args.problem.now c.args.k c.requires.parts c.args.alone.now c.requires.alone c.args.p (sym c.has.ensures.value ∙ c.if-not-has.true))
 
@@ -26,6 +26,7 @@ overflow_add-from c =
 
 pub loop-q-init : goal.loop-q-init
 loop-q-init c = record {
+  judge = c.requires.judge;
   onward = omega arith;
   row = subst (HasBelow (AreTogether c.args.problem.now c.args.k c.args.p) (c.args.p + 1)) (sym c.empty-row.ensures) (λ q. (λ h. absurd (false≢true h), λ h. absurd (omega (arith, h.0, h.1.0))));
 }
@@ -43,19 +44,22 @@ loop-q-preserved c =
     let pair : c.in_ok-pair.pair ≡ p ∷ q ∷ [] = c.in_ok-pair.ensures.last (subst (All (λ r. r < q)) (sym single) (All-cons (λ r. r < q) p [] later (All-nil (λ r. r < q)))) ∙ ap (λ s. s ++ q ∷ []) single in
     let skipped = none_skipped c.args.problem.now c.args.k c.requires.parts c.args.alone.now c.requires.alone p from q c.in-Some.ensures.least in
     let inside = ((c.requires.alone q).0 place.2).0 in
+    let judge = c.loop-q.invariant.judge in
+    let said = c.in_ok-is_legal.ensures.value in
     record {
+      judge = c.in_ok-is_legal.ensures.same ∙ judge;
       onward = omega arith;
       row = elim c.if-branch.branch [
         | then-branch+in_ok-row w ↦
             HasBelow-with Together c.loop-q.row c.if-branch.row from q c.loop-q.invariant.row place.0 skipped
-            (later, inside, subst (IsLegal c.args.problem.now c.args.k) pair (c.in_ok-is_legal.ensures.0 w.if-branch.true))
+            (later, inside, legal_as _ c.args.problem.now c.args.k _ (p ∷ q ∷ []) judge pair (said.0 w.if-branch.true))
             (λ r. ap (λ s. is_among s r) w.row-is ∙ w.in_ok-row.ensures.members r)
         | else-branch w ↦
             subst (HasBelow Together (q + 1)) (sym w.row-is)
             (HasBelow-without Together c.loop-q.row from q c.loop-q.invariant.row place.0 skipped (λ is.
-            both_ways _ w.if-branch.false (c.in_ok-is_legal.ensures.1 (subst (IsLegal c.args.problem.now c.args.k) (sym pair) is.2))))
+            illegal_as _ c.args.problem.now c.args.k _ (p ∷ q ∷ []) judge pair (λ legal. both_ways _ w.if-branch.false (said.1 legal)) is.2))
       ];
     }
 
-pub returns : goal.returns
-returns c = IsRow-whole c.args.problem.now c.args.k c.requires.parts c.args.alone.now c.requires.alone c.args.p c.loop-q.from c.loop-q.row c.loop-q.invariant.row c.in_default.ensures.least
+pub returns-clause-row : goal.returns-clause-row
+returns-clause-row c = IsRow-whole c.args.problem.now c.args.k c.requires.parts c.args.alone.now c.requires.alone c.args.p c.loop-q.from c.loop-q.row c.loop-q.invariant.row c.in_default.ensures.least
