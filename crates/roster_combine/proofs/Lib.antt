@@ -2,3 +2,5 @@ pub mod Keys
 pub mod Settles
 pub mod AllOpen
 pub mod Best
+pub mod Put
+pub mod Walk
