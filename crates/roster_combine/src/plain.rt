@@ -71,11 +71,7 @@ fn offer(
 }
 
 /// Whether the numbers make a legal roster.
-fn is_legal_roster(
-    alloc: Global,
-    problem: &Problem,
-    places: &[u16],
-) -> Result<bool, AllocError>
+fn is_legal_roster(alloc: Global, problem: &Problem, places: &[u16]) -> Result<bool, AllocError>
     requires covers { length places.now ≡ length problem.now.pairings }
     requires numbers { All (λ x. x ≤ length problem.now.persons) places.now }
     ensures { IfOk result (λ legal. IsTrue legal

@@ -68,7 +68,7 @@ loop-i-preserved t c =
             person = c.loop-i.invariant.person;
             same = w.places-is ∙ put_back k nobody set c.loop-i.places given w.put-then-has_throughout.new.places free w.put.ensures back ∙ c.loop-i.invariant.same;
             settled = subst (Settles problem region c.args.best.now) (sym w.best-is)
-            (tried_given problem lines c.loop-i.i k set places given c.args.best.now c.loop-i.best w.walk.new.best c.set-set.ensures gives c.loop-i.invariant.settled w.walk.ensures.settled);
+                (tried_given problem lines c.loop-i.i k set places given c.args.best.now c.loop-i.best w.walk.new.best c.set-set.ensures gives c.loop-i.invariant.settled w.walk.ensures.settled);
           }
       | else-has_throughout w ↦
           let meets : Throughout (open_number problem) set places → ⊥ = λ free.
@@ -77,7 +77,7 @@ loop-i-preserved t c =
             person = c.loop-i.invariant.person;
             same = w.places-is ∙ c.loop-i.invariant.same;
             settled = subst (Settles problem region c.args.best.now) (sym w.best-is)
-            (tried_left problem lines c.loop-i.i k set places c.args.best.now c.loop-i.best c.set-set.ensures c.requires.walked line c.loop-i.invariant.person meets c.loop-i.invariant.settled);
+                (tried_left problem lines c.loop-i.i k set places c.args.best.now c.loop-i.best c.set-set.ensures c.requires.walked line c.loop-i.invariant.person meets c.loop-i.invariant.settled);
           }
     ]
 
