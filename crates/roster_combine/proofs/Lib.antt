@@ -1,4 +1,3 @@
-pub mod Keys
 pub mod Settles
 pub mod AllOpen
 pub mod Best

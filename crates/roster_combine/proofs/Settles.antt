@@ -5,7 +5,7 @@ use Rattle.roster_model.specs.Problem.{Problem}
 use Rattle.roster_model.specs.Costs.{cost_of}
 use Rattle.roster_model.specs.Rosters.{IsLegalRoster, Key, key_of, key_le}
 use Rattle.roster_combine.specs.Settled.{IsHeld, Settles}
-use Rattle.roster_combine.proofs.Keys.{key_le-refl, key_le-trans, key_le-other}
+use Rattle.roster_model.proofs.KeyLemmas.{key_le-refl, key_le-trans, key_le-other}
 
 -- nothing is tried
 pub Settles-nothing : (problem : Problem) (Region : List ℕ → Type 0) (key : Key) → IsHeld problem key → ((others : List ℕ) → Region others → ⊥) → Settles problem Region key key

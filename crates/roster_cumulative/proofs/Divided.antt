@@ -2,13 +2,13 @@
 use Rattle.std.proofs.Common.{◌≡◌, ℕ, zero, suc, ◌+◌, ◌≤◌, Bool, true, false, cond, List, [], ◌∷◌, length, get_or, refl, sym, ap, ◌∙◌, arith}
 use Rattle.std.specs.List.{range_with_len, sum_by}
 use Rattle.std.proofs.lemmas.List.Sums.{sum_by-cons}
+use Rattle.roster_model.proofs.SumLemmas.{sum_by-range_more}
 use Rattle.roster_model.specs.declared.limits.TheConstants.{DAYS_BEFORE, MOST_MONTH_MINUTES}
 use Rattle.roster_model.specs.Calendar.{Days, IsTable, common, month_start, month_end}
 use Rattle.roster_model.specs.records.Duty.{Duty, Sector}
 use Rattle.roster_model.specs.Sums.{flight_between, flown_between, in_month, duty_flight}
 use Rattle.roster_problem.specs.Sectors.{AreSectors}
 use Rattle.roster_cumulative.proofs.Flown.{flight_between-le}
-use Rattle.roster_cumulative.proofs.InRun.{sum_by-range_more}
 use Rattle.roster_cumulative.proofs.OnDay.{mid-later}
 
 -- nothing lies within an instant, and two parts are the whole

@@ -5,16 +5,11 @@ use Rattle.std.specs.List.{range_with_len, fold, sum_by}
 use Rattle.std.proofs.lemmas.List.Elements.{All-head, All-tail, All-nil, All-cons}
 use Rattle.std.proofs.lemmas.List.FromFn.{map-range_with_len_more, length-range_with_len}
 use Rattle.std.proofs.lemmas.List.Sums.{sum_by-cons, sum_by-le, sum_by-le-sum_by, fold_push}
+use Rattle.roster_model.proofs.SumLemmas.{sum_by-range_more}
 use Rattle.roster_model.specs.Calendar.{Days}
 use Rattle.roster_model.specs.Rules.Limits.{KeepsLimit}
 use Rattle.roster_model.specs.Sums.{in_month, in_run, greatest_run, judged_days}
 use Rattle.roster_model.proofs.LimitLemmas.{KeepsLimit-lighter, in_month-lighter}
-
--- the sum over some days in a row, and one day more
-pub sum_by-range_more : (f : ℕ → ℕ) (first n last : ℕ) → first + n ≡ last → sum_by f (range_with_len first (suc n)) ≡ sum_by f (range_with_len first n) + f last
-sum_by-range_more f first zero last at = let same : first ≡ last = omega arith in ap (λ (day : ℕ). 0 + f day) same
-sum_by-range_more f first (suc n) last at =
-    omega (arith, sum_by-cons f first (range_with_len (first + 1) (suc n)), sum_by-cons f first (range_with_len (first + 1) n), sum_by-range_more f (first + 1) n last (omega arith))
 
 -- the next run has a day more at its end, and lacks the first
 pub next_run : (f : ℕ → ℕ) (n last : ℕ) → n ≤ last → sum_by f (range_with_len (last - n) n) + f last ≡ f (last - n) + sum_by f (range_with_len (last + 1 - n) n)

@@ -149,20 +149,6 @@ gathered-fixed k set positions duties fixed i =
 
 -- ---- the positions in order
 
-ascending_length : (positions : List ℕ) (p n : ℕ) → Ascends positions → All (λ i. p ≤ i) positions → All (λ i. i < n) positions → p ≤ n → length positions + p ≤ n
-ascending_length [] p n up above below l = omega arith
-ascending_length (i ∷ positions) p n up above below l =
-    let first : p ≤ i = All-head (λ i. p ≤ i) i positions above in
-    let last : i < n = All-head (λ i. i < n) i positions below in
-    let rest = ascending_length positions (i + 1) n up.1 (All-weaker (λ j. i < j) (λ j. i + 1 ≤ j) (λ j h. omega arith) positions up.0) (All-tail (λ i. i < n) i positions below) (omega arith) in
-    omega arith
-
--- no more than there are duties
-pub length_within : (positions : List ℕ) (n : ℕ) → IsStrictlyIncreasing positions → All (λ i. i < n) positions → length positions ≤ n
-length_within positions n rises below =
-    let all = ascending_length positions 0 n (Ascends-from_rising positions rises) (λ k d inside. omega arith) below (omega arith) in
-    omega arith
-
 some_duty : (f : Duty → Bool) (duties : List Duty) (i : ℕ) → option_map_or f (slice_get duties i) false ≡ true → i < length duties
 some_duty f duties i h =
     elim (cases_lt i (length duties)) [

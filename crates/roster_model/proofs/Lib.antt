@@ -7,3 +7,6 @@ pub mod OffsetLemmas
 pub mod WindowLemmas
 pub mod LimitLemmas
 pub mod RuleLemmas
+pub mod KeyLemmas
+pub mod SumLemmas
+pub mod CostLemmas

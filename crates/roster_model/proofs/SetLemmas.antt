@@ -62,6 +62,20 @@ Ascends-append (r ∷ set) more p up later below above =
     let rest = All-tail (λ q. q < p) r set below in
     (All-append (λ q. r < q) set more up.0 (All-weaker (λ q. p ≤ q) (λ q. r < q) (λ q l. omega arith) more above), Ascends-append set more p up.1 later rest above)
 
+-- as many places as lie between its bounds, at most
+ascending_length : (set : List ℕ) (p n : ℕ) → Ascends set → All (λ i. p ≤ i) set → All (λ i. i < n) set → p ≤ n → length set + p ≤ n
+ascending_length [] p n up above below l = omega arith
+ascending_length (i ∷ set) p n up above below l =
+    let first : p ≤ i = All-head (λ i. p ≤ i) i set above in
+    let last : i < n = All-head (λ i. i < n) i set below in
+    let rest = ascending_length set (i + 1) n up.1 (All-weaker (λ j. i < j) (λ j. i + 1 ≤ j) (λ j h. omega arith) set up.0) (All-tail (λ i. i < n) i set below) (omega arith) in
+    omega arith
+
+pub length_within : (set : List ℕ) (n : ℕ) → IsStrictlyIncreasing set → All (λ i. i < n) set → length set ≤ n
+length_within set n rises below =
+    let all = ascending_length set 0 n (Ascends-from_rising set rises) (λ k d inside. omega arith) below (omega arith) in
+    omega arith
+
 -- ---- what a set has
 
 pub is_among-here : (p : ℕ) (set : List ℕ) → is_among (p ∷ set) p ≡ true

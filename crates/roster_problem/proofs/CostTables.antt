@@ -109,15 +109,3 @@ IsTableOf-same costs table room is same = record {
   pairings = is.pairings;
   each = λ k p l. same (k * MOST_PAIRINGS + p) ∙ is.each k p l;
 }
-
--- ---- the amounts
-
--- where no units are beyond their limit, those of a pair aren't
-pub units-limited : (costs : List Cost) (k p : ℕ) → All (λ cost. unsigned_abs cost.units ≤ MOST_UNITS) costs → unsigned_abs (unwrap_or (units_given costs k p) (pos 0)) ≤ MOST_UNITS
-units-limited [] k p few = omega arith
-units-limited (cost ∷ costs) k p few =
-    let P : Bool → Type 0 = λ b. unsigned_abs (unwrap_or (option_map (λ c. c.units) (cond b (Some cost) (find (is_cost_of k p) costs))) (pos 0)) ≤ MOST_UNITS in
-    elim (is_cost_of k p cost) as P [
-      | true ↦ All-head (λ c. unsigned_abs c.units ≤ MOST_UNITS) cost costs few
-      | false ↦ units-limited costs k p (All-tail (λ c. unsigned_abs c.units ≤ MOST_UNITS) cost costs few)
-    ]

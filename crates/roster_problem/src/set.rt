@@ -138,6 +138,7 @@ impl Set {
         ensures least { MatchOption result ((q : ℕ) → from ≤ q → is_among self.now q ≡ false)
             (λ p. (q : ℕ) → from ≤ q → q < p → is_among self.now q ≡ false) }
         ensures whole { places_from 0 self.now ≡ self.now }
+        ensures ascending { IsStrictlyIncreasing self.now }
     {
         let mut start = from;
         while start < MOST_PAIRINGS {

@@ -1,5 +1,5 @@
 use Rattle.roster_model.specs.Rosters.{key_of}
-use Rattle.roster_combine.proofs.Keys.{key_le-antisym}
+use Rattle.roster_model.proofs.KeyLemmas.{key_le-antisym}
 use Rattle.roster_combine.proofs.laws.one_best.Goals as goal
 
 pub returns : goal.returns

@@ -1,7 +1,8 @@
 use Rattle.std.proofs.Common.{◌≡◌, ℕ, suc, ◌+◌, ◌*◌, ◌-◌, get_or, sym, ap, ◌∙◌, arith}
 use Rattle.std.specs.List.{sum_by, range_with_len}
 use Rattle.roster_model.specs.declared.limits.TheConstants.{MOST_DUTIES}
-use Rattle.roster_cumulative.proofs.InRun.{sum_by-range_more, sum_by-range-le}
+use Rattle.roster_model.proofs.SumLemmas.{sum_by-range_more}
+use Rattle.roster_cumulative.proofs.InRun.{sum_by-range-le}
 use Rattle.roster_cumulative.proofs.runs.run_before.Goals as goal
 
 pub overflow_add-total : goal.overflow_add-total

@@ -6,7 +6,8 @@ use Rattle.roster_model.specs.Problem.{precedes}
 use Rattle.roster_model.specs.Rules.{is_listed, duty_list}
 use Rattle.roster_model.specs.records.Duty.{Duty}
 use Rattle.roster_problem.specs.Duties.{AreTimed, IsInOrder}
-use Rattle.roster_legal.proofs.Gathered.{rising_from_sort, members-sorted, length_within, positions_within}
+use Rattle.roster_model.proofs.SetLemmas.{length_within}
+use Rattle.roster_legal.proofs.Gathered.{rising_from_sort, members-sorted, positions_within}
 use Rattle.roster_legal.proofs.listing.merge_in.Goals as goal
 
 abbrev listed_with : ℕ → List ℕ → Duty → Bool

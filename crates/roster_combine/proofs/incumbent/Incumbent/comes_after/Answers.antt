@@ -2,7 +2,7 @@ use Rattle.std.proofs.Common.{◌≡◌, not, SFits, w64, to_z, sym, ap, ◌∙�
 use Rattle.std.proofs.lemmas.Int.{to_z-of_z}
 use Rattle.roster_model.specs.Places.{places_le}
 use Rattle.roster_model.specs.Rosters.{Key, key_le}
-use Rattle.roster_combine.proofs.Keys.{places_lt, key_le-at_one_cost}
+use Rattle.roster_model.proofs.KeyLemmas.{places_lt, key_le-at_one_cost}
 use Rattle.roster_combine.proofs.incumbent.Incumbent.comes_after.Goals as goal
 
 pub returns-then-cost-self-2 : goal.returns-then-cost-self-2

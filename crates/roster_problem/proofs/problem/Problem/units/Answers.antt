@@ -1,6 +1,6 @@
 use Rattle.std.proofs.Common.{SFits, w32, w64, rules}
 use Rattle.std.proofs.lemmas.Int.{to_z-of_z}
-use Rattle.roster_problem.proofs.CostTables.{units-limited}
+use Rattle.roster_model.proofs.CostLemmas.{units-limited}
 use Rattle.roster_problem.proofs.problem.Problem.units.Goals as goal
 
 pub returns-clause-bound : goal.returns-clause-bound

@@ -1,6 +1,7 @@
 use Rattle.std.proofs.Common.{◌≡◌, ℕ, ◌≤◌, List, true, false, ◌∙◌, inl, inr, arith}
 use Rattle.std.proofs.lemmas.Bool.{cases_lt, false_from_ne_true}
 use Rattle.roster_model.specs.Rules.{is_among}
+use Rattle.roster_model.proofs.SetLemmas.{rising_from_Ascends}
 use Rattle.roster_problem.specs.Set.{has_bit, places_in, IsSet}
 use Rattle.roster_problem.specs.Bits.{is_among-places_in, Ascends-places_in}
 use Rattle.roster_problem.proofs.SetParts.{places_from-none, places_from-some, places_from-first}
@@ -55,3 +56,9 @@ returns-clause-least c q l = rw (← c.self.view_is) (none_from c q l)
 
 pub returns-clause-whole : goal.returns-clause-whole
 returns-clause-whole c = places_from-first c.args.self.now
+
+pub returns-in-Some-clause-ascending : goal.returns-in-Some-clause-ascending
+returns-in-Some-clause-ascending c = rw (← c.self.view_is) (rising_from_Ascends _ (Ascends-places_in c.self.inside.words).1)
+
+pub returns-clause-ascending : goal.returns-clause-ascending
+returns-clause-ascending c = rw (← c.self.view_is) (rising_from_Ascends _ (Ascends-places_in c.self.inside.words).1)

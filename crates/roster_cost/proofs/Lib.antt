@@ -1,0 +1,4 @@
+pub mod Fits
+pub mod Shares
+pub mod Compared
+pub mod Flights
