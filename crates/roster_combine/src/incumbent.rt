@@ -4,8 +4,7 @@ ghost use Rattle.std.specs.Prelude.{◌≡◌, IfOk, length, not, replicate};
 ghost use Rattle.roster_model.specs.Rosters.{IsLegalRoster, key_le};
 ghost use Rattle.roster_combine.specs.Settled.{IsHeld, Settles};
 
-use crate::places::open_number;
-use roster_cost::roster_cost;
+use roster_cost::{Key, open_number, order_of_keys, roster_cost};
 use roster_problem::{Places, Problem, Roster};
 use std::alloc::{AllocError, Global};
 use std::marker::Model;
@@ -54,7 +53,12 @@ impl Incumbent {
     fn comes_after(&self, cost: i64, places: &[u16]) -> bool
         ensures { result ≡ not (key_le self.now (record { cost = cost; places = places.now })) }
     {
-        cost < self.cost || cost == self.cost && places < self.places.as_slice()
+        order_of_keys();
+        let held = Key {
+            cost: self.cost,
+            places: self.places.as_slice(),
+        };
+        Key { cost, places } < held
     }
 
     /// The roster.

@@ -6,7 +6,7 @@
 //!
 //! - `search`: `solve`, and the walk through the lines
 //! - `incumbent`: the best roster met so far
-//! - `places`: lists of places, and the sets in them
+//! - `places`: a number at all places of a set
 //! - `plain`: `solve_plainly`, and the lists in turn
 //! - `laws`: a problem has one best roster; leaving all open is legal
 #![tactic(auto)]

@@ -1,19 +1,9 @@
-//! Lists of places, and the sets in them.
+//! A number at all places of a set.
 
-ghost use Rattle.std.specs.Prelude.{◌≡◌, ◌<◌, ◌≤◌, ◌↔◌, All, IsTrue, length, slice_index};
-ghost use Rattle.roster_model.specs.Places as model;
+ghost use Rattle.std.specs.Prelude.{◌≡◌, ◌<◌, ◌↔◌, All, IsTrue, length, slice_index};
 ghost use Rattle.roster_combine.specs.Walk.{IsPut};
 
-use roster_model::limits::MOST_PERSONS;
-use roster_problem::{Problem, Set};
-
-/// The number that stands for open.
-pub(crate) fn open_number(problem: &Problem) -> u16
-    ensures value { result ≡ model.open_number problem.now }
-    ensures bound { result ≤ MOST_PERSONS }
-{
-    problem.persons().len() as u16
-}
+use roster_problem::Set;
 
 /// Whether the list has the number at each place of the set.
 pub(crate) fn has_throughout(places: &[u16], set: &Set, number: u16) -> bool

@@ -6,7 +6,7 @@ ghost use Rattle.roster_model.specs.Rosters.{IsBest, IsLegalRoster};
 ghost use Rattle.roster_combine.specs.Settled.{IsHeld, Settles};
 
 use crate::incumbent::Incumbent;
-use crate::places::open_number;
+use roster_cost::open_number;
 use roster_legal::is_legal;
 use roster_problem::{Problem, Roster, Set};
 use std::alloc::{AllocError, Global};

@@ -10,7 +10,8 @@ ghost use Rattle.roster_combine.specs.SolveFaults.{IsSolveFaultOf};
 ghost use Rattle.roster_combine.specs.Walk.{AgreeBefore, IsWalkedTo};
 
 use crate::incumbent::Incumbent;
-use crate::places::{has_throughout, open_number, put};
+use crate::places::{has_throughout, put};
+use roster_cost::open_number;
 use roster_lines::{Table, TableFault, nobody_is_crowded, table_of};
 use roster_problem::{Problem, Roster};
 use std::alloc::{AllocError, Global};
