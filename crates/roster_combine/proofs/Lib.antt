@@ -1,3 +1,5 @@
 pub mod Settles
 pub mod AllOpen
 pub mod Best
+pub mod Put
+pub mod Walk

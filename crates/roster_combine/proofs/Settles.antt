@@ -15,6 +15,14 @@ Settles-nothing problem Region key held nothing = record {
   least = λ others _ inside. absurd (nothing others inside);
 }
 
+-- a region in which every legal roster lies in one that is settled
+pub Settles-within : (problem : Problem) (Region Inner : List ℕ → Type 0) (old new : Key) → Settles problem Region old new → ((others : List ℕ) → IsLegalRoster problem others → Inner others → Region others) → Settles problem Inner old new
+Settles-within problem Region Inner old new settled covers = record {
+  held = settled.held;
+  kept = settled.kept;
+  least = λ others legal inside. settled.least others legal (covers others legal inside);
+}
+
 -- two regions after one another, which cover a third
 pub Settles-then : (problem : Problem) (First Second Both : List ℕ → Type 0) (old mid new : Key) → Settles problem First old mid → Settles problem Second mid new → ((others : List ℕ) → IsLegalRoster problem others → Both others → First others ⊎ Second others) → Settles problem Both old new
 Settles-then problem First Second Both old mid new first second covers = record {

@@ -1,1 +1,3 @@
 pub mod Settled
+pub mod Walk
+pub mod SolveFaults

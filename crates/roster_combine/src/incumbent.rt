@@ -1,10 +1,10 @@
 //! The best roster that a search has met.
 
-ghost use Rattle.std.specs.Prelude.{◌≡◌, ◌≤◌, All, IfOk, OnOk, length, not, replicate};
+ghost use Rattle.std.specs.Prelude.{◌≡◌, IfOk, length, not, replicate};
 ghost use Rattle.roster_model.specs.Rosters.{IsLegalRoster, key_le};
 ghost use Rattle.roster_combine.specs.Settled.{IsHeld, Settles};
 
-use crate::rosters::{cost_of, is_legal_roster, open_number};
+use roster_cost::{Key, open_number, order_of_keys, roster_cost};
 use roster_problem::{Places, Problem, Roster};
 use std::alloc::{AllocError, Global};
 use std::marker::Model;
@@ -32,37 +32,17 @@ impl Incumbent {
             ≡ replicate (length problem.now.pairings) (length problem.now.persons)) }
     {
         let places = vec![in alloc; open_number(problem); problem.pairings().len()]?;
-        let cost = cost_of(problem, &places);
+        let cost = roster_cost(problem, &places);
         Ok(Incumbent { cost, places })
     }
 
-    /// Takes the places if they are a legal roster whose key is before this one's.
-    pub(crate) fn offer(
-        &mut self,
-        alloc: Global,
-        problem: &Problem,
-        places: &[u16],
-    ) -> Result<(), AllocError>
-        requires covers { length places.now ≡ length problem.now.pairings }
-        requires numbers { All (λ x. x ≤ length problem.now.persons) places.now }
-        requires held { IsHeld problem.now self.old }
-        ensures { OnOk result
-            (Settles problem.now (λ others. others ≡ places.now) self.old self.new) }
-    {
-        let is_legal = is_legal_roster(alloc, problem, places)?;
-        if is_legal {
-            self.take_earlier(problem, places);
-        }
-        Ok(())
-    }
-
     /// Takes the legal roster if its key is before this one's.
-    fn take_earlier(&mut self, problem: &Problem, places: &[u16])
+    pub(crate) fn take_earlier(&mut self, problem: &Problem, places: &[u16])
         requires legal { IsLegalRoster problem.now places.now }
         requires held { IsHeld problem.now self.old }
         ensures { Settles problem.now (λ others. others ≡ places.now) self.old self.new }
     {
-        let cost = cost_of(problem, places);
+        let cost = roster_cost(problem, places);
         if self.comes_after(cost, places) {
             self.cost = cost;
             self.places.copy_from_slice(places);
@@ -73,7 +53,12 @@ impl Incumbent {
     fn comes_after(&self, cost: i64, places: &[u16]) -> bool
         ensures { result ≡ not (key_le self.now (record { cost = cost; places = places.now })) }
     {
-        cost < self.cost || cost == self.cost && places < self.places.as_slice()
+        order_of_keys();
+        let held = Key {
+            cost: self.cost,
+            places: self.places.as_slice(),
+        };
+        Key { cost, places } < held
     }
 
     /// The roster.

@@ -1,19 +1,22 @@
-//! The best roster of a problem, by trying every list of places.
+//! The best roster of a problem.
 //!
-//! `solve` is the plain program: it goes through all lists of one number for each pairing, judges
-//! each by the rules, and keeps the one of least key. Its time grows with the number of lists, so it
-//! serves small problems, and says what a faster search must answer. In reading order:
+//! `solve` makes the lines of each person, and walks through all choices of one line for each in which no
+//! two meet: these are the legal rosters. It keeps the one of least key. `solve_plainly` tries every list
+//! of places, and is there to be compared with: tests run both. In reading order:
 //!
-//! - `search`: `solve`, and the lists in turn
+//! - `search`: `solve`, and the walk through the lines
 //! - `incumbent`: the best roster met so far
-//! - `rosters`: whether a list is a legal roster, and what it costs
+//! - `places`: a number at all places of a set
+//! - `plain`: `solve_plainly`, and the lists in turn
 //! - `laws`: a problem has one best roster; leaving all open is legal
 #![tactic(auto)]
 
 mod incumbent;
 mod laws;
-mod rosters;
+mod places;
+mod plain;
 mod search;
 
 pub use laws::{all_open_is_legal, has_best, one_best};
+pub use plain::solve_plainly;
 pub use search::{SolveFault, solve};

@@ -1,12 +1,18 @@
-//! The search through all lists of places.
+//! The walk through the lines of all persons.
 
-ghost use Rattle.std.specs.Prelude.{◌≡◌, ◌≤◌, All, IfOk, OnOk, length, take};
+ghost use Rattle.std.specs.Prelude.{◌≡◌, ◌<◌, ◌≤◌, ℕ, IfErr, IfOk, length};
 ghost use Rattle.roster_model.specs.Costs.{cost_of};
+ghost use Rattle.roster_model.specs.Lines.{IsCrowded};
 ghost use Rattle.roster_model.specs.Rosters.{IsBest};
+ghost use Rattle.roster_lines.specs.Person.{IsTableOf};
 ghost use Rattle.roster_combine.specs.Settled.{IsHeld, Settles};
+ghost use Rattle.roster_combine.specs.SolveFaults.{IsSolveFaultOf};
+ghost use Rattle.roster_combine.specs.Walk.{AgreeBefore, IsWalkedTo};
 
 use crate::incumbent::Incumbent;
-use crate::rosters::open_number;
+use crate::places::{has_throughout, put};
+use roster_cost::open_number;
+use roster_lines::{Table, TableFault, nobody_is_crowded, table_of};
 use roster_problem::{Problem, Roster};
 use std::alloc::{AllocError, Global};
 use thiserror::Error;
@@ -14,6 +20,9 @@ use thiserror::Error;
 /// Why no roster was found.
 #[derive(Debug, Drop, Error)]
 pub enum SolveFault {
+    /// The person at this place has more than `MOST_LINES` legal sets, and no person before has.
+    #[error("person {0} has too many lines")]
+    TooMany(usize),
     /// Memory ran out.
     #[error("out of memory")]
     Memory,
@@ -29,42 +38,59 @@ impl From<AllocError> for SolveFault {
     }
 }
 
-/// The legal roster of least cost, and among those the first in roster order.
+impl From<TableFault> for SolveFault {
+    ghost use Rattle.roster_combine.specs.SolveFaults.{fault_of_table};
+
+    ghost from_gives = { λ fault e. e ≡ fault_of_table fault };
+
+    fn from(fault: TableFault) -> SolveFault {
+        match fault {
+            TableFault::TooMany(k) => SolveFault::TooMany(k),
+            TableFault::Memory => SolveFault::Memory,
+        }
+    }
+}
+
+/// The legal roster of least cost, and among those the first in roster order; or the first person who
+/// has more lines than there may be.
 ///
-/// It tries every list of places.
+/// It goes through all rosters in which each person has one of their lines.
 pub fn solve(alloc: Global, problem: &Problem) -> Result<Roster, SolveFault>
-    ensures { IfOk result (λ roster. IsBest problem.now roster.places
+    ensures best { IfOk result (λ roster. IsBest problem.now roster.places
         × (roster.cost ≡ cost_of problem.now roster.places)) }
+    ensures few { IfOk result (λ _. (k : ℕ)
+        → k < length problem.now.persons → ¬ IsCrowded problem.now k) }
+    ensures fault { IfErr result (IsSolveFaultOf problem.now) }
 {
+    let table = table_of(alloc, problem)?;
+    nobody_is_crowded();
     let mut best = Incumbent::all_open(alloc, problem)?;
-    let mut places = vec![in alloc; 0; problem.pairings().len()]?;
-    try_all(alloc, problem, 0, &mut places, &mut best)?;
+    let mut places = vec![in alloc; open_number(problem); problem.pairings().len()]?;
+    walk(problem, &table, 0, &mut places, &mut best);
     Ok(best.into_roster())
 }
 
-/// Offers every list of places whose numbers before `depth` are those of `places`.
-fn try_all(
-    alloc: Global,
-    problem: &Problem,
-    depth: usize,
-    places: &mut [u16],
-    best: &mut Incumbent,
-) -> Result<(), AllocError>
-    requires covers { length places.old ≡ length problem.now.pairings }
-    requires within { depth ≤ length places.old }
-    requires numbers { All (λ x. x ≤ length problem.now.persons) places.old }
+/// Offers every legal roster in which each person before `k` has the set that they have in `places`. It
+/// takes no memory.
+fn walk(problem: &Problem, table: &Table, k: usize, places: &mut [u16], best: &mut Incumbent)
+    requires person { k ≤ length problem.now.persons }
+    requires table { IsTableOf problem.now table.now }
+    requires walked { IsWalkedTo problem.now k places.old }
     requires held { IsHeld problem.now best.old }
-    ensures numbers { OnOk result (All (λ x. x ≤ length problem.now.persons) places.new) }
-    ensures front { OnOk result (take depth places.new ≡ take depth places.old) }
-    ensures settled { OnOk result (Settles problem.now
-        (λ others. take depth others ≡ take depth places.old) best.old best.new) }
+    ensures same { places.new ≡ places.old }
+    ensures settled { Settles problem.now (AgreeBefore k places.old) best.old best.new }
 {
-    if depth == places.len() {
-        return best.offer(alloc, problem, places);
+    if k == problem.persons().len() {
+        best.take_earlier(problem, places);
+        return;
     }
-    for place in 0..open_number(problem) + 1 {
-        places[depth] = place;
-        try_all(alloc, problem, depth + 1, places, best)?;
+    let nobody = open_number(problem);
+    for i in 0..table.width(k) {
+        let set = table.set(k, i);
+        if has_throughout(places, &set, nobody) {
+            put(places, &set, k as u16);
+            walk(problem, table, k + 1, places, best);
+            put(places, &set, nobody);
+        }
     }
-    Ok(())
 }

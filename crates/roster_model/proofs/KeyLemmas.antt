@@ -80,16 +80,3 @@ key_le-total a b =
 -- of two keys the one that isn't the lesser is after the other
 pub key_le-other : (a b : Key) → key_le a b ≡ false → key_le b a ≡ true
 key_le-other a b h = elim (key_le-total a b) [ inl g ↦ absurd (false≢true (sym h ∙ g)) | inr g ↦ g ]
-
--- ---- the tests of the code
-
--- `<` on the lists
-pub places_lt : (xs ys : List ℕ) (r : Bool) → r ≡ is_some_and is_lt (slice_partial_cmp (λ x y. Some (nat_cmp x y)) xs ys) → r ≡ not (places_le ys xs)
-places_lt = same_from_slice_cmp_tested nat_cmp is_lt (λ xs ys. not (places_le ys xs)) refl (λ _ _. refl) (λ _ _. refl) (λ x y xs ys o h. grind (arith, nat_tests))
-
--- at equal costs the lists decide
-pub key_le-at_one_cost : (a b : Key) → a.cost ≡ b.cost → key_le a b ≡ places_le a.places b.places
-key_le-at_one_cost a b e =
-    let not_less : int_lt a.cost b.cost ≡ false = false_from_ne_true _ (λ less. let h = less_cost a.cost b.cost less in omega (arith, ints, h, e)) in
-    ap (λ t. t || int_eq a.cost b.cost && places_le a.places b.places) not_less
-    ∙ ap (λ t. t && places_le a.places b.places) ((Decides-int_eq a.cost b.cost).1 e)

@@ -2,6 +2,7 @@ pub mod OrderLemmas
 pub mod PlacesLemmas
 pub mod PlacesOrder
 pub mod SetLemmas
+pub mod PlacesParts
 pub mod OffsetLemmas
 pub mod WindowLemmas
 pub mod LimitLemmas

@@ -13,3 +13,5 @@ mod legal;
 mod lines;
 #[cfg(test)]
 mod runs;
+#[cfg(test)]
+mod searches;

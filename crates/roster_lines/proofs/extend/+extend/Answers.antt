@@ -3,7 +3,7 @@ use Rattle.std.specs.Prelude.{All, slice_get}
 use Rattle.std.proofs.lemmas.Option.{slice_get_read, slice_get_within, get_or_from_slice_get}
 use Rattle.roster_model.specs.Lines.{IsLine}
 use Rattle.roster_model.specs.Places.{places_le}
-use Rattle.roster_legal.proofs.Gathered.{length_within}
+use Rattle.roster_model.proofs.SetLemmas.{length_within}
 use Rattle.roster_lines.specs.declared.extend.Node.{Node}
 use Rattle.roster_lines.specs.Entries.{sets_of}
 use Rattle.roster_lines.specs.Listing.{IsUpTo}

@@ -9,8 +9,8 @@ pub returns-clause-held : goal.returns-clause-held
 returns-clause-held c =
     let problem = c.args.problem.now in
     let items : c.in_ok-places.places.items ≡ replicate (length problem.pairings) (length problem.persons) = search rules in
-    let fits : SFits w64 c.cost_of-cost.result = search rules in
+    let fits : SFits w64 c.roster_cost-cost.result = search rules in
     record {
       legal = subst (IsLegalRoster problem) (sym items) (all_open_legal problem);
-      cost = to_z-of_z w64 c.cost_of-cost.result fits ∙ c.cost_of-cost.ensures ∙ ap (cost_of problem) c.deref.ensures.value;
+      cost = to_z-of_z w64 c.roster_cost-cost.result fits ∙ c.roster_cost-cost.ensures ∙ ap (cost_of problem) c.deref.ensures.value;
     }

@@ -6,16 +6,16 @@ use Rattle.roster_combine.proofs.incumbent.Incumbent.take_earlier.Goals as goal
 
 pub returns-then-comes_after : goal.returns-then-comes_after
 returns-then-comes_after c =
-    let cost : ℤ = to_z w64 (of_z w64 c.cost_of-cost.result) in
-    let fits : SFits w64 c.cost_of-cost.result = search rules in
+    let cost : ℤ = to_z w64 (of_z w64 c.roster_cost-cost.result) in
+    let fits : SFits w64 c.roster_cost-cost.result = search rules in
     Settles-taken c.args.problem.now c.args.self.now cost c.args.places.now c.copy_from_slice.new.self.items
-    (to_z-of_z w64 c.cost_of-cost.result fits ∙ c.cost_of-cost.ensures) c.copy_from_slice.ensures.items c.requires.legal
+    (to_z-of_z w64 c.roster_cost-cost.result fits ∙ c.roster_cost-cost.ensures) c.copy_from_slice.ensures.items c.requires.legal
     (not-true _ (sym c.comes_after.ensures ∙ c.if-comes_after.true))
 
 pub returns-else-comes_after : goal.returns-else-comes_after
 returns-else-comes_after c =
-    let cost : ℤ = to_z w64 (of_z w64 c.cost_of-cost.result) in
-    let fits : SFits w64 c.cost_of-cost.result = search rules in
+    let cost : ℤ = to_z w64 (of_z w64 c.roster_cost-cost.result) in
+    let fits : SFits w64 c.roster_cost-cost.result = search rules in
     Settles-left c.args.problem.now c.args.self.now cost c.args.places.now c.requires.held
-    (to_z-of_z w64 c.cost_of-cost.result fits ∙ c.cost_of-cost.ensures)
+    (to_z-of_z w64 c.roster_cost-cost.result fits ∙ c.roster_cost-cost.ensures)
     (not-false _ (sym c.comes_after.ensures ∙ c.if-comes_after.false))

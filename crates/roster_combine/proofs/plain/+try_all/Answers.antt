@@ -2,7 +2,7 @@ use Rattle.std.proofs.Common.{◌≡◌, ℕ, ◌+◌, ◌<◌, List, length, ta
 use Rattle.std.proofs.lemmas.Bool.{cases_lt}
 use Rattle.std.proofs.lemmas.List.{take-set}
 use Rattle.roster_combine.proofs.Settles.{Settles-nothing, Settles-then, front_more, front_less}
-use Rattle.roster_combine.proofs.search.+try_all.Goals as goal
+use Rattle.roster_combine.proofs.plain.+try_all.Goals as goal
 
 pub loop-place-init : goal.loop-place-init
 loop-place-init t c = record {

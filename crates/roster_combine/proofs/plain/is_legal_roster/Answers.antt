@@ -1,5 +1,5 @@
 use Rattle.roster_model.proofs.SetLemmas.{places_of_number}
-use Rattle.roster_combine.proofs.rosters.is_legal_roster.Goals as goal
+use Rattle.roster_combine.proofs.plain.is_legal_roster.Goals as goal
 
 pub is_legal-requires-clause-places : goal.is_legal-requires-clause-places
 is_legal-requires-clause-places c =

@@ -1,6 +1,6 @@
 use Rattle.std.proofs.Common.{◌≡◌, ◌-◌, ◌<◌, ◌≤◌, All, length, take, get_or}
 use Rattle.roster_combine.specs.Settled.{Settles}
-use Rattle.roster_combine.proofs.search.+try_all.Given as goal
+use Rattle.roster_combine.proofs.plain.+try_all.Given as goal
 
 abbrev pub decreases-try_all : goal.decreases-try_all
 decreases-try_all l = length l.places.now - l.depth
