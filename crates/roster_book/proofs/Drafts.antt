@@ -2,17 +2,17 @@
 use Rattle.std.proofs.Common.{◌≡◌, ◌+◌, ◌<◌, ◌==◌, ℕ, Bool, true, false, cond, List, [], ◌∷◌, ◌++◌, length, Some, None, Result, Ok, Err, refl, sym, subst, ◌∙◌, length-append, arith}
 use Rattle.std.specs.List.{find}
 use Rattle.std.proofs.lemmas.Bool.Decides.{nat_tests}
-use Rattle.roster_model.specs.Record.{Record, Command, kinds_of, Kind, SectorRecord, is_of}
+use Rattle.roster_model.specs.Record.{Record, Command, kinds_of, Kind, SectorRecord, AssignRecord, is_of}
 use Rattle.roster_model.specs.Code.{UnknownKind}
-use Rattle.roster_model.specs.Problem.{Problem}
 use Rattle.roster_model.specs.Faults.{code_of, code_of_kind, kind_in}
 use Rattle.roster_model.specs.records.Duty.{Sector}
 use Rattle.roster_model.specs.records.Sector.{GivenSector, sector_of}
 use Rattle.roster_book.specs.Flown.{with_sector_at}
-use Rattle.roster_book.specs.Draft.{HasRecords, IsDraftOf, Pushes, Takes}
+use Rattle.roster_book.specs.Draft.{Contents, HasRecords, IsDraftOf, Pushes, Takes}
 use Rattle.roster_book.specs.declared.refusal.Refusal.{Refusal}
 use Rattle.roster_book.proofs.FirstFaultLemmas.{faultless-more}
-use Rattle.roster_book.proofs.Tables.{tables_in-append, tables_with}
+use Rattle.roster_model.specs.records.Assign.{assign_of}
+use Rattle.roster_book.proofs.Tables.{contents_with, table_of-append, tables_in-append}
 
 found_is : (kinds : List Kind) (kind : Kind) (fields : Record) → find (λ k. is_of k fields) kinds ≡ Some kind → is_of kind fields ≡ true
 found_is [] kind fields h = cc
@@ -38,10 +38,10 @@ unfolding code_of
 code_of-unknown command before fields h k = rw (not_empty before h, k) refl
 
 -- the draft with what a record of the kind adds
-pub IsDraftOf-append : (command : Command) (row : ℕ) (kind : Kind) (before : List Record) (fields : Record) (tables : Problem)
-    → IsDraftOf command row before tables → kind_in command fields ≡ Some kind → code_of_kind kind before fields ≡ None
-    → (code_of command before fields ≡ None) × IsDraftOf command (row + 1) (before ++ fields ∷ []) (tables_with kind before fields tables)
-IsDraftOf-append command row kind before fields tables d k none =
+pub IsDraftOf-append : (command : Command) (row : ℕ) (kind : Kind) (before : List Record) (fields : Record) (contents : Contents)
+    → IsDraftOf command row before contents → kind_in command fields ≡ Some kind → code_of_kind kind before fields ≡ None
+    → (code_of command before fields ≡ None) × IsDraftOf command (row + 1) (before ++ fields ∷ []) (contents_with kind before fields contents)
+IsDraftOf-append command row kind before fields contents d k none =
     let own = code_of-later command kind before fields d.begun k ∙ none in
     let longer = length-append before (fields ∷ []) in (
       own,
@@ -49,33 +49,35 @@ IsDraftOf-append command row kind before fields tables d k none =
         begun = omega arith;
         row_is = omega (arith, d.row_is);
         tables_are = rw d.tables_are (sym (tables_in-append kind before fields d.begun (kind_is command kind fields k)));
+        assigns_are = rw d.assigns_are (sym (table_of-append kind AssignRecord assign_of before fields (kind_is command kind fields k)));
         faultless = faultless-more command [] before fields d.faultless own;
       },
     )
 
 -- a draft has records
-pub HasRecords-draft : (command : Command) (row : ℕ) (before : List Record) (tables : Problem) → IsDraftOf command row before tables → HasRecords tables
+pub HasRecords-draft : (command : Command) (row : ℕ) (before : List Record) (contents : Contents) → IsDraftOf command row before contents → HasRecords contents
 unfolding HasRecords
-HasRecords-draft command row before tables d = ∣ (command, row, before, d) ∣₁
+HasRecords-draft command row before contents d = ∣ (command, row, before, d) ∣₁
 
 -- the record is taken where the entry that it makes is pushed
-pub Takes-pushed : {X : Type 0} (command : Command) (row : ℕ) (kind : Kind) (before : List Record) (fields : Record) (tables new : Problem) (entry : X) (entries longer : List X) (r : Result (Unit {0}) Refusal)
-    → IsDraftOf command row before tables → Some kind ≡ kind_in command fields
+pub Takes-pushed : {X : Type 0} (command : Command) (row : ℕ) (kind : Kind) (before : List Record) (fields : Record) (contents new : Contents) (entry : X) (entries longer : List X) (r : Result (Unit {0}) Refusal)
+    → IsDraftOf command row before contents → Some kind ≡ kind_in command fields
     → Pushes (code_of_kind kind before fields) entry entries longer r
-    → (longer ≡ entries ++ entry ∷ [] → new ≡ tables_with kind before fields tables)
+    → (longer ≡ entries ++ entry ∷ [] → new ≡ contents_with kind before fields contents)
     → Takes command row before fields new r
-Takes-pushed command row kind before fields tables new entry entries longer (Ok done) d k p same =
-    rw (same p.1) (IsDraftOf-append command row kind before fields tables d (sym k) p.0)
-Takes-pushed command row kind before fields tables new entry entries longer (Err e) d k p same =
+Takes-pushed command row kind before fields contents new entry entries longer (Ok done) d k p same =
+    rw (same p.1) (IsDraftOf-append command row kind before fields contents d (sym k) p.0)
+Takes-pushed command row kind before fields contents new entry entries longer (Err e) d k p same =
     rw (code_of-later command kind before fields d.begun (sym k)) p
 
 -- the record of a sector is taken where its duty has it behind its others
-pub IsDraftOf-sector : (command : Command) (row : ℕ) (before : List Record) (fields : Record) (tables : Problem) (place : ℕ) (sector : Sector)
-    → IsDraftOf command row before tables → Some SectorRecord ≡ kind_in command fields → code_of_kind SectorRecord before fields ≡ None
+pub IsDraftOf-sector : (command : Command) (row : ℕ) (before : List Record) (fields : Record) (contents : Contents) (place : ℕ) (sector : Sector)
+    → IsDraftOf command row before contents → Some SectorRecord ≡ kind_in command fields → code_of_kind SectorRecord before fields ≡ None
     → sector_of before fields ≡ record { duty = Some place; sector = sector }
     → (code_of command before fields ≡ None)
-    × IsDraftOf command (row + 1) (before ++ fields ∷ []) (record tables { duties = with_sector_at tables.duties (Some place) sector })
-IsDraftOf-sector command row before fields tables place sector d k none given =
-    let new : GivenSector → Problem = λ g. record tables { duties = with_sector_at tables.duties g.duty g.sector } in
-    let taken = IsDraftOf-append command row SectorRecord before fields tables d (sym k) none in
+    × IsDraftOf command (row + 1) (before ++ fields ∷ [])
+    (record contents { tables = record contents.tables { duties = with_sector_at contents.tables.duties (Some place) sector } })
+IsDraftOf-sector command row before fields contents place sector d k none given =
+    let new : GivenSector → Contents = λ g. record contents { tables = record contents.tables { duties = with_sector_at contents.tables.duties g.duty g.sector } } in
+    let taken = IsDraftOf-append command row SectorRecord before fields contents d (sym k) none in
     (taken.0, subst (λ g. IsDraftOf command (row + 1) (before ++ fields ∷ []) (new g)) given taken.1)

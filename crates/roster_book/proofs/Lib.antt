@@ -5,7 +5,13 @@ pub mod Gather
 pub mod SectorTable
 pub mod Tables
 pub mod Drafts
+pub mod Conditions
+pub mod Soundness
+pub mod SoundTables
+pub mod SoundDuties
+pub mod SoundCosts
 pub mod Sound
+pub mod Numbers
 pub mod Periods
 pub mod Finishing
 pub mod LastDuty

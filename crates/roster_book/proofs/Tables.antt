@@ -1,17 +1,23 @@
 -- One more record adds at most one entry to one table, and changes no entry before it.
-use Rattle.std.proofs.Common.{◌≡◌, ◌<◌, Bool, true, false, cond, List, [], ◌∷◌, ◌++◌, length, Some, None, refl, ◌∙◌, ap, append-nil, arith}
+use Rattle.std.proofs.Common.{◌≡◌, ℕ, ◌<◌, Bool, true, false, cond, List, [], ◌∷◌, ◌++◌, length, Option, Some, None, refl, ◌∙◌, ap, append-nil, arith}
+use Rattle.std.specs.Prelude.{slice_get}
 use Rattle.std.specs.List.{cons_option}
+use Rattle.std.specs.Option.{option_or}
 use Rattle.std.specs.Str.{bytes_eq}
 use Rattle.std.proofs.lemmas.Slice.Eq.{bytes_eq-Decides}
-use Rattle.roster_model.specs.Record.{Record, Kind, PeriodRecord, BaseRecord, CrewRecord, PairingRecord, DutyRecord, SectorRecord, LeaveRecord, field, word_of, is_of, entry_of, gather_after, table_of}
+use Rattle.roster_model.specs.Record.{Record, Kind, PeriodRecord, WeightRecord, BaseRecord, CrewRecord, PairingRecord, DutyRecord, SectorRecord, LeaveRecord, CostRecord, AssignRecord, field, word_of, is_of, entry_of, gather_after, table_of}
 use Rattle.roster_model.specs.Problem.{Problem, tables_in}
 use Rattle.roster_model.specs.records.Period.{period_in}
+use Rattle.roster_model.specs.records.Weight.{weight_in, weight_of, weights_in}
 use Rattle.roster_model.specs.records.Base.{base_of}
 use Rattle.roster_model.specs.records.Crew.{person_of}
 use Rattle.roster_model.specs.records.Pairing.{pairing_of}
 use Rattle.roster_model.specs.records.Duty.{Duty, duties_in, duty_of}
 use Rattle.roster_model.specs.records.Leave.{leave_of}
+use Rattle.roster_model.specs.records.Cost.{cost_of}
+use Rattle.roster_model.specs.records.Assign.{assign_of, assigns_in}
 use Rattle.roster_model.specs.records.Sector.{GivenSector, flown, flown_from, sector_of, sectors_in}
+use Rattle.roster_book.specs.Draft.{Contents}
 use Rattle.roster_book.specs.Flown.{with_sector_at}
 use Rattle.roster_book.proofs.Gather.{gather_after-append}
 use Rattle.roster_book.proofs.SectorTable.{flown-duty, flown-sector}
@@ -46,6 +52,22 @@ unfolding period_in
 period_in-append [] fields h = absurd (omega arith)
 period_in-append (first ∷ rest) fields h = refl
 
+-- a weight with one more given, which counts where none was
+abbrev pub weight_with : Bool → Option ℕ → ℕ → Option ℕ
+weight_with true given weight = option_or given (Some weight)
+weight_with false given weight = given
+
+first_of_grown : (b : Bool) (weights : List ℕ) (weight : ℕ) → slice_get (grown b weights weight) 0 ≡ weight_with b (slice_get weights 0) weight
+first_of_grown true [] weight = refl
+first_of_grown true (first ∷ weights) weight = refl
+first_of_grown false weights weight = refl
+
+weight_in-append : (kind : Kind) (before : List Record) (fields : Record) → is_of kind fields ≡ true
+    → weight_in (before ++ fields ∷ []) ≡ weight_with (is_same kind WeightRecord) (weight_in before) (weight_of before fields)
+weight_in-append kind before fields h =
+    ap (λ (weights : List ℕ). slice_get weights 0) (table_of-append kind WeightRecord weight_of before fields h)
+    ∙ first_of_grown (is_same kind WeightRecord) (weights_in before) (weight_of before fields)
+
 -- duties with what a record of the kind adds
 abbrev pub duties_with : Kind → List Record → Record → List Duty → List Duty
 duties_with kind before fields duties = flown_by (is_same kind SectorRecord) (sector_of before fields)
@@ -58,50 +80,71 @@ duties_with-is : (kind : Kind) (before : List Record) (fields : Record)
     → flown (grown (is_same kind SectorRecord) (sectors_in before) (sector_of before fields)) (grown (is_same kind DutyRecord) (duties_in before) (duty_of before fields))
     ≡ duties_with kind before fields (flown (sectors_in before) (duties_in before))
 duties_with-is PeriodRecord before fields = refl
+duties_with-is WeightRecord before fields = refl
 duties_with-is BaseRecord before fields = refl
 duties_with-is CrewRecord before fields = refl
 duties_with-is PairingRecord before fields = refl
 duties_with-is DutyRecord before fields = flown-duty before fields
 duties_with-is LeaveRecord before fields = refl
+duties_with-is CostRecord before fields = refl
+duties_with-is AssignRecord before fields = refl
 duties_with-is SectorRecord before fields = flown-sector (sectors_in before) (sector_of before fields) (duties_in before)
 
 -- the tables with what a record of the kind adds
 abbrev pub tables_with : Kind → List Record → Record → Problem → Problem
 tables_with kind before fields tables = record {
   period = tables.period;
+  weight = weight_with (is_same kind WeightRecord) tables.weight (weight_of before fields);
   bases = grown (is_same kind BaseRecord) tables.bases (base_of before fields);
   persons = grown (is_same kind CrewRecord) tables.persons (person_of before fields);
   pairings = grown (is_same kind PairingRecord) tables.pairings (pairing_of before fields);
   duties = duties_with kind before fields tables.duties;
   leaves = grown (is_same kind LeaveRecord) tables.leaves (leave_of before fields);
+  costs = grown (is_same kind CostRecord) tables.costs (cost_of before fields);
+}
+
+-- what is kept, with what a record of the kind adds
+abbrev pub contents_with : Kind → List Record → Record → Contents → Contents
+contents_with kind before fields contents = record {
+  tables = tables_with kind before fields contents.tables;
+  assigns = grown (is_same kind AssignRecord) contents.assigns (assign_of before fields);
 }
 
 pub tables_in-append : (kind : Kind) (before : List Record) (fields : Record) → 0 < length before → is_of kind fields ≡ true
     → tables_in (before ++ fields ∷ []) ≡ tables_with kind before fields (tables_in before)
 tables_in-append kind before fields begun h = rw (
   period_in-append before fields begun,
+  weight_in-append kind before fields h,
   table_of-append kind BaseRecord base_of before fields h,
   table_of-append kind CrewRecord person_of before fields h,
   table_of-append kind PairingRecord pairing_of before fields h,
   table_of-append kind DutyRecord duty_of before fields h,
   table_of-append kind SectorRecord sector_of before fields h,
   table_of-append kind LeaveRecord leave_of before fields h,
+  table_of-append kind CostRecord cost_of before fields h,
   duties_with-is kind before fields,
 )
 
 -- the tables of a period alone
 pub tables_in-first : (fields : Record) → is_of PeriodRecord fields ≡ true
-    → tables_in (fields ∷ []) ≡ record { period = period_in (fields ∷ []); bases = []; persons = []; pairings = []; duties = []; leaves = [] }
+    → tables_in (fields ∷ []) ≡ record { period = period_in (fields ∷ []); weight = None; bases = []; persons = []; pairings = []; duties = []; leaves = []; costs = [] }
 unfolding gather_after flown_from
 tables_in-first fields h = rw (
+  is_of-other PeriodRecord WeightRecord fields h,
   is_of-other PeriodRecord BaseRecord fields h,
   is_of-other PeriodRecord CrewRecord fields h,
   is_of-other PeriodRecord PairingRecord fields h,
   is_of-other PeriodRecord DutyRecord fields h,
   is_of-other PeriodRecord LeaveRecord fields h,
+  is_of-other PeriodRecord CostRecord fields h,
 ) refl
 
 -- the sectors of a period alone
 pub no_sector : (fields : Record) → is_of PeriodRecord fields ≡ true → sectors_in (fields ∷ []) ≡ []
 unfolding gather_after
 no_sector fields h = rw (is_of-other PeriodRecord SectorRecord fields h) refl
+
+-- the assignments of a period alone
+pub no_assign : (fields : Record) → is_of PeriodRecord fields ≡ true → assigns_in (fields ∷ []) ≡ []
+unfolding gather_after
+no_assign fields h = rw (is_of-other PeriodRecord AssignRecord fields h) refl

@@ -7,6 +7,7 @@ use Rattle.roster_model.specs.Zone.{ZoneRefusal}
 use Rattle.roster_model.specs.Problem.{Problem, tables_in}
 use Rattle.roster_model.specs.Faults.{IsFaultlessSoFar, code_of}
 use Rattle.roster_model.specs.records.Base.{Base, base_at}
+use Rattle.roster_model.specs.records.Assign.{Assign, assigns_in}
 use Rattle.roster_problem.specs.View.{tables_of}
 use Rattle.roster_book.specs.declared.code.Code.{Code as CodeTold}
 use Rattle.roster_book.specs.declared.draft.Draft.{Draft}
@@ -16,19 +17,29 @@ use Rattle.roster_book.specs.View.{code_of as view_of_code, Refuses}
 
 -- the tables, without where they lie in memory
 abbrev pub tables_of_draft : Draft → Problem
-tables_of_draft d = tables_of d.period d.bases.items d.persons.items d.pairings.items d.duties d.leaves.items
+tables_of_draft d =
+    tables_of d.period d.weight d.bases.items d.persons.items d.pairings.items d.duties d.leaves.items d.costs
 
--- These records come before the row, none of them has a fault of its own, and the tables are theirs.
-pub record IsDraftOf (command : Command) (row : ℕ) (before : List Record) (tables : Problem) : Type 0 where
+-- what is kept: the tables, and who is assigned to pairings
+pub record Contents : Type 0 where
+  pub tables : Problem
+  pub assigns : List Assign
+
+abbrev pub contents_of : Draft → Contents
+contents_of d = record { tables = tables_of_draft d; assigns = d.assigns.items }
+
+-- These records come before the row, none of them has a fault of its own, and the contents are theirs.
+pub record IsDraftOf (command : Command) (row : ℕ) (before : List Record) (contents : Contents) : Type 0 where
   pub begun : 0 < length before
   pub row_is : row ≡ next_row before
-  pub tables_are : tables ≡ tables_in before
+  pub tables_are : contents.tables ≡ tables_in before
+  pub assigns_are : contents.assigns ≡ assigns_in before
   pub faultless : IsFaultlessSoFar command before
 
--- they are the tables of some records without a fault
-unfoldable pub HasRecords : Problem → Type 0
-HasRecords tables =
-    ∥ ((command : Command) × (row : ℕ) × (before : List Record) × IsDraftOf command row before tables) ∥₁
+-- they are the contents of some records without a fault
+unfoldable pub HasRecords : Contents → Type 0
+HasRecords contents =
+    ∥ ((command : Command) × (row : ℕ) × (before : List Record) × IsDraftOf command row before contents) ∥₁
 
 -- the base of the pairing at a place
 abbrev pub base_of_pairing : Problem → ℕ → Base
@@ -51,8 +62,8 @@ abbrev pub Pushes : {X : Type 0} → Option Code → X → List X → List X →
 Pushes told entry old new (Ok done) = (told ≡ None) × (new ≡ old ++ entry ∷ [])
 Pushes told entry old new (Err e) = Refuses e told
 
--- The record is taken, so that the tables are those of one record more, or it is refused.
-abbrev pub Takes : Command → ℕ → List Record → Record → Problem → Result (Unit {0}) Refusal → Type 0
+-- The record is taken, so that the contents are those of one record more, or it is refused.
+abbrev pub Takes : Command → ℕ → List Record → Record → Contents → Result (Unit {0}) Refusal → Type 0
 Takes command row before fields new (Ok done) =
     (code_of command before fields ≡ None) × IsDraftOf command (row + 1) (before ++ fields ∷ []) new
 Takes command row before fields new (Err e) = Refuses e (code_of command before fields)

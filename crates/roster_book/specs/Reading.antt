@@ -1,27 +1,32 @@
 -- What the reading of a book says of the bytes that a reader has left.
-use Rattle.std.specs.Prelude.{◌≡◌, ◌+◌, ⊤, true, false, ℕ, List, ◌++◌, length, Option, Some, None, if◌then◌else◌, option_map}
+use Rattle.std.specs.Prelude.{◌≡◌, ◌+◌, ◌≤◌, ⊤, true, false, ℕ, List, ◌++◌, length, Option, Some, None, if◌then◌else◌, option_map, All}
 use Rattle.csv.specs.Machine.{ends_at_end}
 use Rattle.csv.specs.Reading.{Ready, default_config, has_failed, is_flexible, reader_config, reader_state, reader_trim, records_from, source_of}
 use Rattle.csv.specs.declared.parser.State.{State}
 use Rattle.csv.specs.declared.reader.Reader.{Reader}
 use Rattle.csv.specs.declared.reader.Trim.TheVariants as trim
+use Rattle.roster_book.specs.declared.book.Book.{Book}
 use Rattle.roster_book.specs.declared.fault.BookFault.{BookFault}
 use Rattle.roster_book.specs.declared.fault.BookFault.TheVariants.{At, Device, Memory}
 use Rattle.roster_model.specs.Record.{Record, Command}
-use Rattle.roster_model.specs.Problem.{Problem, problem_of}
+use Rattle.roster_model.specs.Problem.{problem_of}
 use Rattle.roster_model.specs.Faults.{first_fault}
-use Rattle.roster_model.specs.Answer.{IsFirstFault}
+use Rattle.roster_model.specs.records.Assign.{assigned_in}
 
--- the records have no fault, and this is their problem
-pub record IsProblemOf (command : Command) (book : List Record) (problem : Problem) : Type 0 where
-  pub faultless : first_fault command book ≡ None
-  pub problem_is : problem ≡ problem_of book
+-- The records have no fault, this is their problem, and that the roster that they give: one number for
+-- each pairing, the place of a person or the number of persons.
+pub record IsBookOf (command : Command) (records : List Record) (book : Book) : Type 0 where
+  pub faultless : first_fault command records ≡ None
+  pub problem_is : book.problem ≡ problem_of records
+  pub assigned_is : book.assigned ≡ assigned_in records
+  pub covers : length book.assigned ≡ length book.problem.pairings
+  pub numbers : All (λ x. x ≤ length book.problem.persons) book.assigned
 
 -- where the fault is a record's, it is the first fault of the records
 abbrev pub TellsFirst : Command → List Record → BookFault → Type 0
-TellsFirst command book (At row code) = IsFirstFault command book (record { row = row; code = code })
-TellsFirst command book Device = ⊤
-TellsFirst command book Memory = ⊤
+TellsFirst command records (At row code) = first_fault command records ≡ Some (record { row = row; code = code })
+TellsFirst command records Device = ⊤
+TellsFirst command records Memory = ⊤
 
 -- ---- the records of a reader
 

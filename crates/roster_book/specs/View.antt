@@ -28,18 +28,23 @@ code_of codes.NoRoom = model.NoRoom
 code_of codes.WrongStart = model.WrongStart
 code_of codes.Busy = model.Busy
 code_of codes.NoDuty = model.NoDuty
+code_of codes.TooManyLines = model.TooManyLines
 
 abbrev pub kind_of : Kind → record_model.Kind
 kind_of kinds.Period = record_model.PeriodRecord
+kind_of kinds.Weight = record_model.WeightRecord
 kind_of kinds.Base = record_model.BaseRecord
 kind_of kinds.Crew = record_model.CrewRecord
 kind_of kinds.Pairing = record_model.PairingRecord
 kind_of kinds.Duty = record_model.DutyRecord
 kind_of kinds.Sector = record_model.SectorRecord
 kind_of kinds.Leave = record_model.LeaveRecord
+kind_of kinds.Cost = record_model.CostRecord
+kind_of kinds.Assign = record_model.AssignRecord
 
 abbrev pub command_of : Command → record_model.Command
 command_of commands.Solve = record_model.Solve
+command_of commands.Check = record_model.Check
 
 -- A record whose code is this, or that has none, is refused: for that code, or for want of memory
 -- where it has none.

@@ -36,10 +36,12 @@ pub enum Code {
     Busy,
     /// A pairing has no duty.
     NoDuty,
+    /// A person has more legal sets than there may be.
+    TooManyLines,
 }
 
 impl Code {
-    /// How it is told, from 1 to 14.
+    /// How it is told, from 1 to 15.
     pub fn number(self) -> u8
         ensures { result ≡ number_of_code (code_of self) }
     {
@@ -58,6 +60,7 @@ impl Code {
             Code::WrongStart => 12,
             Code::Busy => 13,
             Code::NoDuty => 14,
+            Code::TooManyLines => 15,
         }
     }
 }

@@ -5,4 +5,6 @@
 pub enum Command {
     /// Find the best roster of the book.
     Solve,
+    /// Judge the roster that the book gives.
+    Check,
 }

@@ -1,4 +1,4 @@
-//! The tables of the records taken so far.
+//! What is kept of the records taken so far.
 
 ghost use Rattle.std.specs.Prelude.{◌≡◌, ◌≢◌, ◌<◌, ◌∷◌, [], ℕ, List, Option, Some, None, MatchResult, IfErr, IfOk, IsErrOf, option_map, vec_len};
 ghost use Rattle.std.specs.List.{list_any};
@@ -9,31 +9,37 @@ ghost use Rattle.roster_model.specs.Problem.{home_of};
 ghost use Rattle.roster_model.specs.Faults.{code_of, first_fault, pairing_without_duty};
 ghost use Rattle.roster_model.specs.records.Pairing.{Pairing as PairingEntry};
 ghost use Rattle.roster_model.specs.records.Duty.{is_held_by_pairing, last_duty};
-ghost use Rattle.roster_book.specs.Draft.{HasRecords, IsDraftOf, Judges, Pushes, Takes, base_of_pairing, tables_of_draft};
-ghost use Rattle.roster_book.specs.Reading.{IsProblemOf, TellsFirst};
+ghost use Rattle.roster_book.specs.Draft.{HasRecords, IsDraftOf, Judges, Pushes, Takes, base_of_pairing, contents_of, tables_of_draft};
+ghost use Rattle.roster_book.specs.Reading.{IsBookOf, TellsFirst};
 ghost use Rattle.roster_book.specs.View.{code_of as view_of_code, command_of};
 
+use crate::book::Book;
 use crate::code::Code;
 use crate::command::Command;
 use crate::duties::Duties;
 use crate::fault::BookFault;
 use crate::kind::{Kind, kind_in};
+use crate::record::assign::Assign;
 use crate::record::period;
 use crate::refusal::Refusal;
 use csv::ByteRecord;
 use roster_instants::Period;
-use roster_problem::{Base, Duty, Holder, Leave, Pairing, Person, Problem};
+use roster_problem::{Base, Costs, Duty, Holder, Leave, Pairing, Person, Problem};
 use std::alloc::Global;
 
-/// The tables of the records taken so far. Duties are in the order of their records.
+/// The tables of the records taken so far, and who is assigned to pairings. Duties are in the order of
+/// their records.
 #[derive(Drop)]
 pub(crate) struct Draft {
     pub(crate) period: Period,
+    pub(crate) weight: Option<u32>,
     pub(crate) bases: Vec<Base>,
     pub(crate) persons: Vec<Person>,
     pub(crate) pairings: Vec<Pairing>,
     pub(crate) duties: Duties,
     pub(crate) leaves: Vec<Leave>,
+    pub(crate) costs: Costs,
+    pub(crate) assigns: Vec<Assign>,
 }
 
 // Whether it is a duty of the pairing at the place.
@@ -43,8 +49,8 @@ fn is_of_pairing(duty: &Duty, place: usize) -> bool
     duty.holder == Holder::Pairing(place)
 }
 
-// Puts an entry behind the others of its table, if the record makes one.
-fn push<T: Drop>(entries: &mut Vec<T>, judged: Result<T, Code>) -> Result<(), Refusal>
+/// Puts an entry behind the others of its table, if the record makes one.
+pub(crate) fn push<T: Drop>(entries: &mut Vec<T>, judged: Result<T, Code>) -> Result<(), Refusal>
     ensures { (told : Option model.Code) (entry : T) → Judges told entry judged
         → Pushes told entry entries.old.items entries.new.items result }
 {
@@ -53,21 +59,24 @@ fn push<T: Drop>(entries: &mut Vec<T>, judged: Result<T, Code>) -> Result<(), Re
 }
 
 impl Draft {
-    /// The tables of the first record, which has to be a period, or what is wrong with it.
+    /// The contents of the first record, which has to be a period, or what is wrong with it.
     pub(crate) fn begin(alloc: Global, command: Command, fields: &ByteRecord) -> Result<Draft, Code>
         ensures { MatchResult result
             (λ draft. IsDraftOf (command_of command) 2 (fields_of fields.now ∷ [])
-            (tables_of_draft draft))
+            (contents_of draft))
             (λ code. code_of (command_of command) [] (fields_of fields.now)
             ≡ Some (view_of_code code)) }
     {
         Ok(Draft {
             period: period::read_first(command, fields)?,
+            weight: None,
             bases: Vec::new(alloc),
             persons: Vec::new(alloc),
             pairings: Vec::new(alloc),
             duties: Duties::new(alloc),
             leaves: Vec::new(alloc),
+            costs: Costs::new(alloc),
+            assigns: Vec::new(alloc),
         })
     }
 
@@ -79,15 +88,16 @@ impl Draft {
         row: usize,
         fields: &ByteRecord,
     ) -> Result<(), Refusal>
-        requires records { HasRecords (tables_of_draft self.old) }
+        requires records { HasRecords (contents_of self.old) }
         ensures { (before : List Record)
-            → IsDraftOf (command_of command) row before (tables_of_draft self.old)
+            → IsDraftOf (command_of command) row before (contents_of self.old)
             → Takes (command_of command) row before (fields_of fields.now)
-            (tables_of_draft self.new) result }
+            (contents_of self.new) result }
     {
         match kind_in(command, fields) {
             None => Err(Refusal::Fault(Code::UnknownKind)),
             Some(Kind::Period) => Err(Refusal::Fault(period::fault_of_later(fields))),
+            Some(Kind::Weight) => self.take_weight(fields),
             Some(Kind::Base) => {
                 let base = self.read_base(alloc, fields)?;
                 push(&mut self.bases, Ok(base))
@@ -110,42 +120,48 @@ impl Draft {
                 let leave = self.judge_leave(fields);
                 push(&mut self.leaves, leave)
             }
+            Some(Kind::Cost) => self.take_cost(fields),
+            Some(Kind::Assign) => self.take_assign(fields),
         }
     }
 
-    /// The problem of the records taken, or the row of the first pairing without a duty.
-    pub(crate) fn finish(self, alloc: Global) -> Result<Problem, BookFault>
-        requires records { HasRecords (tables_of_draft self) }
-        ensures book { (command : Asked) (row : ℕ) (book : List Record)
-            → IsDraftOf command row book (tables_of_draft self)
-            → IfOk result (λ problem. IsProblemOf command book problem) }
-        ensures fault { (command : Asked) (row : ℕ) (book : List Record)
-            → IsDraftOf command row book (tables_of_draft self)
-            → IfErr result (λ fault. TellsFirst command book fault) }
+    /// The book of the records taken, or the row of the first pairing without a duty.
+    pub(crate) fn finish(self, alloc: Global) -> Result<Book, BookFault>
+        requires records { HasRecords (contents_of self) }
+        ensures book { (command : Asked) (row : ℕ) (records : List Record)
+            → IsDraftOf command row records (contents_of self)
+            → IfOk result (λ book. IsBookOf command records book) }
+        ensures fault { (command : Asked) (row : ℕ) (records : List Record)
+            → IsDraftOf command row records (contents_of self)
+            → IfErr result (λ fault. TellsFirst command records fault) }
         // Memory runs out where no pairing lacks a duty alone.
-        ensures memory { (command : Asked) (row : ℕ) (book : List Record)
-            → IsDraftOf command row book (tables_of_draft self)
-            → IsErrOf result BookFault.Memory → first_fault command book ≡ None }
+        ensures memory { (command : Asked) (row : ℕ) (records : List Record)
+            → IsDraftOf command row records (contents_of self)
+            → IsErrOf result BookFault.Memory → first_fault command records ≡ None }
         ensures device { IfErr result (λ fault. fault ≢ BookFault.Device) }
     {
         if let Some(row) = self.row_without_duty() {
             return Err(Refusal::Fault(Code::NoDuty).at(row));
         }
-        Ok(Problem::new(
+        let assigned = self.assigned(alloc)?;
+        let problem = Problem::new(
             alloc,
             self.period,
+            self.weight,
             self.bases,
             self.persons,
             self.pairings,
             self.duties.into_vec(),
             self.leaves,
-        )?)
+            self.costs,
+        )?;
+        Ok(Book { problem, assigned })
     }
 
     /// The base of the pairing at the place.
     pub(crate) fn base_of(&self, place: usize) -> &Base
         requires known { place < vec_len self.now.pairings }
-        requires records { HasRecords (tables_of_draft self.now) }
+        requires records { HasRecords (contents_of self.now) }
         ensures { result.now ≡ base_of_pairing (tables_of_draft self.now) place }
     {
         let pairing = &self.pairings[place];
@@ -155,7 +171,7 @@ impl Draft {
     /// The home base of the person at the place.
     pub(crate) fn home_of(&self, place: usize) -> &Base
         requires known { place < vec_len self.now.persons }
-        requires records { HasRecords (tables_of_draft self.now) }
+        requires records { HasRecords (contents_of self.now) }
         ensures { result.now ≡ home_of (tables_of_draft self.now) place }
     {
         let person = &self.persons[place];

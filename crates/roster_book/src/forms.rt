@@ -8,9 +8,10 @@ ghost use Rattle.csv.specs.Records.{fields_of};
 ghost use Rattle.roster_model.specs.Form as form;
 ghost use Rattle.roster_model.specs.Form.{is_amount};
 ghost use Rattle.roster_model.specs.Record as model;
+ghost use Rattle.roster_model.specs.records.Cost.{is_limited};
 
 use csv::ByteRecord;
-use roster_model::limits::{MOST_DIGITS, MOST_ZONE_BYTES};
+use roster_model::limits::{MOST_DIGITS, MOST_UNITS, MOST_ZONE_BYTES};
 use std::str;
 
 /// The field at a place from 0, or no bytes where there is none.
@@ -72,6 +73,15 @@ pub(crate) fn amount(text: &[u8], most: u32) -> Option<u32>
 {
     let number = u32::try_from(number(text)?).ok()?;
     (number <= most).then_some(number)
+}
+
+/// The number that the text spells, if it is of the form and no further than [`MOST_UNITS`] from 0.
+pub(crate) fn units(text: &[u8]) -> Option<i32>
+    ensures { result ≡ (if form.is_number text.now && is_limited (form.number_of text.now)
+        then Some (form.number_of text.now) else None) }
+{
+    let number = i32::try_from(number(text)?).ok()?;
+    (number.unsigned_abs() <= MOST_UNITS).then_some(number)
 }
 
 fn has_graphic_bytes(text: &[u8]) -> bool

@@ -14,12 +14,15 @@ use csv::ByteRecord;
 #[derive(Clone, Copy)]
 pub(crate) enum Kind {
     Period,
+    Weight,
     Base,
     Crew,
     Pairing,
     Duty,
     Sector,
     Leave,
+    Cost,
+    Assign,
 }
 
 /// Whether it is the record of a period.
@@ -33,16 +36,17 @@ pub(crate) fn is_period(fields: &ByteRecord) -> bool
 pub(crate) fn kind_in(command: Command, fields: &ByteRecord) -> Option<Kind>
     ensures { option_map kind_of result ≡ kind_in (command_of command) (fields_of fields.now) }
 {
-    match command {
-        Command::Solve => match field(fields, 0) {
-            b"period" => Some(Kind::Period),
-            b"base" => Some(Kind::Base),
-            b"crew" => Some(Kind::Crew),
-            b"pairing" => Some(Kind::Pairing),
-            b"duty" => Some(Kind::Duty),
-            b"sector" => Some(Kind::Sector),
-            b"leave" => Some(Kind::Leave),
-            _ => None,
-        },
+    match field(fields, 0) {
+        b"period" => Some(Kind::Period),
+        b"weight" => Some(Kind::Weight),
+        b"base" => Some(Kind::Base),
+        b"crew" => Some(Kind::Crew),
+        b"pairing" => Some(Kind::Pairing),
+        b"duty" => Some(Kind::Duty),
+        b"sector" => Some(Kind::Sector),
+        b"leave" => Some(Kind::Leave),
+        b"cost" => Some(Kind::Cost),
+        b"assign" if command == Command::Check => Some(Kind::Assign),
+        _ => None,
     }
 }

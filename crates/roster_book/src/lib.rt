@@ -11,11 +11,13 @@
 //! - `named`: the entries of tables by their names
 //! - `record`: a file a kind: what its records add, and what may be wrong with them
 //! - `duties`: the duties of the records taken so far, with their sectors
-//! - `draft`: the tables of the records taken so far
+//! - `draft`: what is kept of the records taken so far
+//! - `book`: the book that was read
 //! - `fault`: why no book was read
 //! - `reading`: a book, record by record
 #![tactic(auto)]
 
+mod book;
 mod code;
 mod command;
 mod draft;
@@ -28,12 +30,13 @@ mod reading;
 mod record;
 mod refusal;
 
+pub use book::Book;
 pub use code::Code;
 pub use command::Command;
 pub use fault::BookFault;
-pub use reading::{Book, read_book};
+pub use reading::read_book;
 pub use roster_problem::{
-    Base, Duty, Holder, Leave, Name, Pairing, Person, Places, Problem, Roster, Sector,
+    Base, Cost, Costs, Duty, Holder, Leave, Name, Pairing, Person, Places, Problem, Roster, Sector,
     duties_in_order,
 };
 pub use roster_watched::Watched;

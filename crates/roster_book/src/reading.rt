@@ -4,10 +4,11 @@ ghost use Rattle.std.specs.Prelude.{◌≡◌, ◌≢◌, ◌↔◌, [], ◌∷�
 ghost use Rattle.csv.specs.Records.{fields_of};
 ghost use Rattle.roster_model.specs.Answer.{records_of};
 ghost use Rattle.roster_model.specs.Record.{Record};
-ghost use Rattle.roster_book.specs.Reading.{AreSeen, IsOpen, IsProblemOf, TellsFirst, records_left};
+ghost use Rattle.roster_book.specs.Reading.{AreSeen, IsBookOf, IsOpen, TellsFirst, records_left};
 ghost use Rattle.roster_book.specs.View.{command_of};
 ghost use Rattle.roster_watched.specs.Watch.{inner_of, has_failed};
 
+use crate::book::Book;
 use crate::code::Code;
 use crate::command::Command;
 use crate::draft::Draft;
@@ -15,17 +16,9 @@ use crate::fault::BookFault;
 use crate::refusal::Refusal;
 use csv::{ByteRecord, Reader, ReaderBuilder};
 use roster_model::limits::MOST_RECORDS;
-use roster_problem::Problem;
 use roster_watched::Watched;
 use std::alloc::{AllocError, Global};
 use std::io::Read;
-
-/// The book that was read.
-#[derive(Debug, Drop)]
-pub struct Book {
-    /// What is to be rostered.
-    pub problem: Problem,
-}
 
 /// Reads a book to its end, or to its first fault.
 ///
@@ -36,12 +29,12 @@ pub fn read_book<R: Read>(
     command: Command,
 ) -> Result<Book, BookFault>
     ensures book { IfOk result (λ book. IfSome (R.remaining (inner_of reader.old)) (λ bytes.
-        IsProblemOf (command_of command) (records_of bytes) book.problem)) }
+        IsBookOf (command_of command) (records_of bytes) book)) }
     ensures fault { IfErr result (λ fault. IfSome (R.remaining (inner_of reader.old)) (λ bytes.
         TellsFirst (command_of command) (records_of bytes) fault)) }
     // Of a reader whose bytes aren't known: the answer is that of some records.
     ensures some_book { IfOk result (λ book. (records : List Record)
-        × IsProblemOf (command_of command) records book.problem) }
+        × IsBookOf (command_of command) records book) }
     ensures some_fault { IfErr result (λ fault. (records : List Record)
         × TellsFirst (command_of command) records fault) }
     ensures device { IsErrOf result BookFault.Device ↔ (has_failed reader.new ≡ true) }
@@ -50,21 +43,17 @@ pub fn read_book<R: Read>(
     if reader.failed() {
         return Err(BookFault::Device);
     }
-    Ok(Book { problem: outcome? })
+    outcome
 }
 
 // Lends the reader to csv. `Memory` stands for a failed reader too: its flag tells.
-fn read_records<R: Read>(
-    alloc: Global,
-    reader: &mut R,
-    command: Command,
-) -> Result<Problem, BookFault>
-    ensures book { IfOk result (λ problem. IfSome (R.remaining reader.old) (λ bytes.
-        IsProblemOf (command_of command) (records_of bytes) problem)) }
+fn read_records<R: Read>(alloc: Global, reader: &mut R, command: Command) -> Result<Book, BookFault>
+    ensures book { IfOk result (λ book. IfSome (R.remaining reader.old) (λ bytes.
+        IsBookOf (command_of command) (records_of bytes) book)) }
     ensures fault { IfErr result (λ fault. IfSome (R.remaining reader.old) (λ bytes.
         TellsFirst (command_of command) (records_of bytes) fault)) }
-    ensures some_book { IfOk result (λ problem. (records : List Record)
-        × IsProblemOf (command_of command) records problem) }
+    ensures some_book { IfOk result (λ book. (records : List Record)
+        × IsBookOf (command_of command) records book) }
     ensures some_fault { IfErr result (λ fault. (records : List Record)
         × TellsFirst (command_of command) records fault) }
     ensures device { IfErr result (λ fault. fault ≢ BookFault.Device) }
@@ -76,19 +65,19 @@ fn read_records<R: Read>(
     read_all(alloc, &mut reader, command)
 }
 
-// The problem of all records, or their first fault.
+// The book of all records, or their first fault.
 fn read_all<R: Read>(
     alloc: Global,
     reader: &mut Reader<R>,
     command: Command,
-) -> Result<Problem, BookFault>
+) -> Result<Book, BookFault>
     requires { IsOpen reader.old }
-    ensures book { IfOk result (λ problem. IfSome (records_left R.remaining reader.old) (λ all.
-        IsProblemOf (command_of command) all problem)) }
+    ensures book { IfOk result (λ book. IfSome (records_left R.remaining reader.old) (λ all.
+        IsBookOf (command_of command) all book)) }
     ensures fault { IfErr result (λ fault. IfSome (records_left R.remaining reader.old) (λ all.
         TellsFirst (command_of command) all fault)) }
-    ensures some_book { IfOk result (λ problem. (all : List Record)
-        × IsProblemOf (command_of command) all problem) }
+    ensures some_book { IfOk result (λ book. (all : List Record)
+        × IsBookOf (command_of command) all book) }
     ensures some_fault { IfErr result (λ fault. (all : List Record)
         × TellsFirst (command_of command) all fault) }
     ensures device { IfErr result (λ fault. fault ≢ BookFault.Device) }

@@ -1,12 +1,15 @@
 //! A file a kind: what a record of it adds to the tables, or what is wrong with it. `window` and `busy`
 //! tell of the times that several kinds have.
 
+pub(crate) mod assign;
 mod base;
 mod busy;
+mod cost;
 mod crew;
 mod duty;
 mod leave;
 mod pairing;
 pub(crate) mod period;
 mod sector;
+mod weight;
 mod window;

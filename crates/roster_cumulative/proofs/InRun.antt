@@ -1,6 +1,6 @@
 -- Runs of days, from one to the next, and limits of them.
-use Rattle.std.proofs.Common.{◌≡◌, ℕ, zero, suc, ◌+◌, ◌-◌, ◌*◌, ◌≤◌, List, [], ◌∷◌, length, get_or, map, max, refl, sym, ap, ◌∙◌, arith}
-use Rattle.std.specs.Prelude.{All}
+use Rattle.std.proofs.Common.{◌≡◌, Bool, ℕ, zero, suc, ◌+◌, ◌-◌, ◌*◌, ◌≤◌, List, [], ◌∷◌, length, get_or, map, max, refl, sym, ap, ◌∙◌, arith}
+use Rattle.std.specs.Prelude.{◌↔◌, IsTrue, All}
 use Rattle.std.specs.List.{range_with_len, fold, sum_by}
 use Rattle.std.proofs.lemmas.List.Elements.{All-head, All-tail, All-nil, All-cons}
 use Rattle.std.proofs.lemmas.List.FromFn.{map-range_with_len_more, length-range_with_len}
@@ -72,6 +72,13 @@ greatest-bounds f days n most within = (most-bounds (in_run f n) 0 most (judged_
 
 pub KeepsLimit-agree : (f g : ℕ → ℕ) → ((i : ℕ) → f i ≡ g i) → (days : Days) (n most : ℕ) → KeepsLimit f days n most → KeepsLimit g days n most
 KeepsLimit-agree f g same days n most keeps = KeepsLimit-lighter g f (λ i. omega (arith, same i)) days n most keeps
+
+-- so a limit of the one is a limit of the other
+pub limit_agrees : (f g : ℕ → ℕ) → ((i : ℕ) → f i ≡ g i) → (days : Days) (n most : ℕ) (test : Bool) → (IsTrue test ↔ KeepsLimit f days n most) → (IsTrue test ↔ KeepsLimit g days n most)
+limit_agrees f g same days n most test is = (
+  λ passed. KeepsLimit-agree f g same days n most (is.0 passed),
+  λ keeps. is.1 (KeepsLimit-agree g f (λ i. sym (same i)) days n most keeps),
+)
 
 pub in_month-agree : (f g : ℕ → ℕ) → ((i : ℕ) → f i ≡ g i) → (days : Days) → in_month f days ≡ in_month g days
 in_month-agree f g same days =

@@ -4,4 +4,3 @@ pub mod Flown
 pub mod Divided
 pub mod MonthFlight
 pub mod ListedFlight
-pub mod KeptLimits

@@ -3,9 +3,9 @@
 //!
 //! `duty_on` and `flight_on` are those of a list on a day, `greatest_duty` and `greatest_flight` the
 //! most of a judged run of days, and `month_flight` the flight in the month, of a list or, by
-//! `duty_flight`, of one duty. `cumulative_broken` tells the first limit that a list breaks. Any list
-//! will do: its duties may overlap, and may lie outside the window. No call takes memory. In reading
-//! order:
+//! `duty_flight`, of one duty. `ListLimits` tells whether a list keeps a limit, and `cumulative_broken`
+//! the first one that it breaks. Any list will do: its duties may overlap, and may lie outside the
+//! window. No call takes memory. In reading order:
 //!
 //! - `table`: the minutes of each day of a window
 //! - `runs`: the minutes of days in a row
@@ -24,5 +24,5 @@ pub use laws::{
     flight_of_all, flight_of_duties, flight_of_one_pairing_more, flight_of_set,
     one_list_of_each_duty,
 };
-pub use limits::cumulative_broken;
+pub use limits::{ListLimits, cumulative_broken};
 pub use sums::{duty_flight, duty_on, flight_on, greatest_duty, greatest_flight, month_flight};

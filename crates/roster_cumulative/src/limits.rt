@@ -1,20 +1,23 @@
 //! The limits of duty and flight.
 
-ghost use Rattle.std.specs.Prelude.{◌≤◌, ◌↔◌, IsTrue, option_map, slice_index};
+ghost use Rattle.std.specs.Prelude.{◌≡◌, ◌+◌, ◌≤◌, ◌↔◌, IsTrue, IfSome, IsSomeAnd, option_map, slice_index};
 ghost use Rattle.roster_model.specs.Rules.{HoldsLimit, IsFirstFailing};
 ghost use Rattle.roster_model.specs.Rules.Limits.{KeepsLimit};
+ghost use Rattle.roster_model.specs.Sums.{duty_on, flight_on, month_flight};
 ghost use Rattle.roster_problem.specs.View.{rule_of};
-ghost use Rattle.roster_cumulative.specs.Table.{IsLight};
+ghost use Rattle.roster_cumulative.specs.Limited.{IsWithin};
+ghost use Rattle.roster_cumulative.specs.Table.{IsLight, IsTableOf};
 
 use crate::runs::{greatest_run, month_of};
 use crate::table::{Measure, table_of};
 use roster_instants::BaseDays;
 use roster_model::limits::{DAYS_BEFORE, MOST_DAYS, MOST_DUTIES};
 use roster_model::profile::{
-    MOST_DUTY_IN_7_DAYS, MOST_DUTY_IN_14_DAYS, MOST_DUTY_IN_28_DAYS, MOST_FLIGHT_IN_12_MONTHS,
-    MOST_FLIGHT_IN_28_DAYS, MOST_FLIGHT_IN_A_YEAR,
+    LONG_RUN, MIDDLE_RUN, MOST_DUTY_IN_7_DAYS, MOST_DUTY_IN_14_DAYS, MOST_DUTY_IN_28_DAYS,
+    MOST_FLIGHT_IN_12_MONTHS, MOST_FLIGHT_IN_28_DAYS, MOST_FLIGHT_IN_A_YEAR, SHORT_RUN,
 };
 use roster_problem::{DutyList, Person, Rule};
+use std::marker::Model;
 
 /// Whether each judged run of `n` days has at most so many minutes.
 fn keeps_limit(days: &BaseDays, table: &[u64; MOST_DAYS], n: usize, most: u64) -> bool
@@ -25,6 +28,105 @@ fn keeps_limit(days: &BaseDays, table: &[u64; MOST_DAYS], n: usize, most: u64) -
     greatest_run(days, table, n) <= most
 }
 
+/// Sums the minutes of each day into the place for them, where that isn't done.
+fn sum(place: &mut Option<[u64; MOST_DAYS]>, days: &BaseDays, list: &DutyList, measure: Measure)
+    requires { IfSome place.old (IsTableOf measure days.now list.now) }
+    ensures { IsSomeAnd place.new (IsTableOf measure days.now list.now) }
+{
+    if place.is_none() {
+        *place = Some(table_of(days, list, measure));
+    }
+}
+
+/// A duty list as the limits see it, with what the person has flown before the month. The minutes of
+/// its days are summed where a limit first asks for them, those of duty and of flight apart.
+#[derive(Drop)]
+pub struct ListLimits<'a> {
+    days: &'a BaseDays,
+    list: &'a DutyList<'a>,
+    carried: &'a Person,
+    duty: Option<[u64; MOST_DAYS]>,
+    flight: Option<[u64; MOST_DAYS]>,
+}
+
+impl<'a> Model for ListLimits<'a> {
+    ghost use Rattle.std.specs.Prelude.{IfSome};
+    ghost use Rattle.roster_cumulative.specs.Limited.{Limited};
+
+    ghost Value = { Limited };
+
+    ghost view = { λ l. record { days = l.days.now; list = l.list.now; carried = l.carried.now } };
+
+    ghost use Rattle.roster_cumulative.specs.declared.table.Measure.TheVariants.{Duty, Flight};
+    ghost use Rattle.roster_cumulative.specs.Table.{IsTableOf};
+
+    ghost invariant = { λ l. IfSome l.duty (IsTableOf Duty l.days.now l.list.now)
+        × IfSome l.flight (IsTableOf Flight l.days.now l.list.now) };
+}
+
+impl<'a> ListLimits<'a> {
+    /// The list as the limits see it, before any minutes are summed.
+    pub fn new(days: &'a BaseDays, list: &'a DutyList<'a>, carried: &'a Person) -> ListLimits<'a>
+        ensures { result ≡ record { days = days.now; list = list.now; carried = carried.now } }
+    {
+        ListLimits {
+            days,
+            list,
+            carried,
+            duty: None,
+            flight: None,
+        }
+    }
+
+    /// Whether the list keeps the rule as a limit. A rule that is no limit says nothing of that.
+    pub fn holds(&mut self, rule: Rule) -> bool
+        ensures value { IsTrue result ↔ IsWithin self.old (rule_of rule) }
+        ensures same { self.new ≡ self.old }
+    {
+        let carried = self.carried;
+        match rule {
+            Rule::Duty7 => self.keeps_duty(SHORT_RUN, MOST_DUTY_IN_7_DAYS),
+            Rule::Duty14 => self.keeps_duty(MIDDLE_RUN, MOST_DUTY_IN_14_DAYS),
+            Rule::Duty28 => self.keeps_duty(LONG_RUN, MOST_DUTY_IN_28_DAYS),
+            Rule::Flight28 => self.keeps_flight(LONG_RUN, MOST_FLIGHT_IN_28_DAYS),
+            Rule::FlightYear => self.keeps_month(carried.year, MOST_FLIGHT_IN_A_YEAR),
+            Rule::Flight12 => self.keeps_month(carried.eleven, MOST_FLIGHT_IN_12_MONTHS),
+            _ => true,
+        }
+    }
+
+    /// Whether each judged run of `n` days has at most so many minutes of duty.
+    fn keeps_duty(&mut self, n: usize, most: u64) -> bool
+        requires { n ≤ DAYS_BEFORE }
+        ensures value { let l = self.old in
+            IsTrue result ↔ KeepsLimit (duty_on l.days l.list) l.days n most }
+        ensures same { self.new ≡ self.old }
+    {
+        sum(&mut self.duty, self.days, self.list, Measure::Duty);
+        keeps_limit(self.days, self.duty.as_ref().unwrap(), n, most)
+    }
+
+    /// Whether each judged run of `n` days has at most so many minutes of flight.
+    fn keeps_flight(&mut self, n: usize, most: u64) -> bool
+        requires { n ≤ DAYS_BEFORE }
+        ensures value { let l = self.old in
+            IsTrue result ↔ KeepsLimit (flight_on l.days l.list) l.days n most }
+        ensures same { self.new ≡ self.old }
+    {
+        sum(&mut self.flight, self.days, self.list, Measure::Flight);
+        keeps_limit(self.days, self.flight.as_ref().unwrap(), n, most)
+    }
+
+    /// Whether the flight of the month, with what was flown before it, is at most so many minutes.
+    fn keeps_month(&mut self, before: u32, most: u64) -> bool
+        ensures value { IsTrue result ↔ (before + month_flight self.old.days self.old.list ≤ most) }
+        ensures same { self.new ≡ self.old }
+    {
+        sum(&mut self.flight, self.days, self.list, Measure::Flight);
+        u64::from(before) + month_of(self.days, self.flight.as_ref().unwrap()) <= most
+    }
+}
+
 /// The first limit that the list breaks, if there is one, with what the person has flown before the
 /// month.
 pub fn cumulative_broken(days: &BaseDays, list: &DutyList, carried: &Person) -> Option<Rule>
@@ -32,26 +134,11 @@ pub fn cumulative_broken(days: &BaseDays, list: &DutyList, carried: &Person) -> 
         (HoldsLimit days.now list.now carried.now.year carried.now.eleven)
         (option_map rule_of result) }
 {
-    let duty = table_of(days, list, Measure::Duty);
-    if !keeps_limit(days, &duty, 7, MOST_DUTY_IN_7_DAYS) {
-        return Some(Rule::Duty7);
-    }
-    if !keeps_limit(days, &duty, 14, MOST_DUTY_IN_14_DAYS) {
-        return Some(Rule::Duty14);
-    }
-    if !keeps_limit(days, &duty, 28, MOST_DUTY_IN_28_DAYS) {
-        return Some(Rule::Duty28);
-    }
-    let flight = table_of(days, list, Measure::Flight);
-    if !keeps_limit(days, &flight, 28, MOST_FLIGHT_IN_28_DAYS) {
-        return Some(Rule::Flight28);
-    }
-    let month = month_of(days, &flight);
-    if u64::from(carried.year) + month > MOST_FLIGHT_IN_A_YEAR {
-        return Some(Rule::FlightYear);
-    }
-    if u64::from(carried.eleven) + month > MOST_FLIGHT_IN_12_MONTHS {
-        return Some(Rule::Flight12);
+    let mut limits = ListLimits::new(days, list, carried);
+    for rule in Rule::ALL {
+        if !limits.holds(rule) {
+            return Some(rule);
+        }
     }
     None
 }

@@ -3,7 +3,7 @@
 ghost use Rattle.std.specs.Prelude.{◌≡◌, ◌+◌, ◌-◌, ◌≤◌, ℕ, slice_index};
 ghost use Rattle.roster_model.specs.Calendar as calendar;
 ghost use Rattle.roster_model.specs.Sums as sums;
-ghost use Rattle.roster_cumulative.specs.Table.{IsLight, minutes_of};
+ghost use Rattle.roster_cumulative.specs.Table.{IsLight, IsTableOf, minutes_of};
 
 use roster_instants::{BaseDays, Minute, common};
 use roster_model::limits::{MOST_DAYS, MOST_DUTIES};
@@ -87,9 +87,7 @@ fn add_duty(table: &mut [u64; MOST_DAYS], days: &BaseDays, duty: &Duty, measure:
 
 /// What the list has of the measure on each day of the window.
 pub(crate) fn table_of(days: &BaseDays, list: &DutyList, measure: Measure) -> [u64; MOST_DAYS]
-    ensures value { (i : ℕ)
-        → slice_index result i ≡ sums.on_day (minutes_of measure) days.now list.now i }
-    ensures light { IsLight MOST_DUTIES result }
+    ensures { IsTableOf measure days.now list.now result }
 {
     let mut table = [0; MOST_DAYS];
     for k in 0..list.len() {

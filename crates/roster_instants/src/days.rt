@@ -11,7 +11,7 @@ use crate::clocks::{Clocks, EIGHT, MIDNIGHT, TEN};
 use crate::minute::Minute;
 use crate::period::Period;
 use jiff::civil::{self, Date};
-use roster_model::limits::{DAYS_AFTER, DAYS_BEFORE};
+use roster_model::limits::{DAYS_AFTER, DAYS_BEFORE, MOST_DAYS};
 use std::alloc::{AllocError, Global};
 use std::marker::Model;
 use thiserror::Error;
@@ -102,7 +102,7 @@ impl BaseDays {
     pub fn days(&self) -> usize
         ensures value { result ≡ length self.now.eight }
         ensures window { result ≡ DAYS_BEFORE + self.now.month_days + DAYS_AFTER }
-        ensures bound { result ≤ DAYS_BEFORE + 31 + DAYS_AFTER }
+        ensures bound { result ≤ MOST_DAYS }
         ensures table { IsTable self.now }
     {
         self.eight.len()

@@ -1,14 +1,16 @@
--- The rule that is broken first is one alone, that there is none or one can't be refuted, and the limits
--- come after the other rules.
+-- The rule that is broken first is one alone, that there is none or one can't be refuted, and what the
+-- limits say of a person with a set.
 use Rattle.std.proofs.Common.{◌≡◌, ℕ, zero, suc, ◌<◌, ◌⊎◌, List, Option, Some, None, refl, sym, ap, subst, inl, inr, arith}
-use Rattle.std.specs.Prelude.{option_map, slice_get, unwrap_or}
+use Rattle.std.specs.Prelude.{◌↔◌, IsTrue, Bool, option_map, unwrap_or}
 use Rattle.std.proofs.lemmas.Bool.{cases_lt, cases_order}
 use Rattle.roster_model.proofs.RuleLemmas.{HoldBelow, below-all, one_of_rank}
 use Rattle.roster_model.specs.Calendar.{Days}
 use Rattle.roster_model.specs.Problem.{Problem, home_of, year_of, eleven_of}
 use Rattle.roster_model.specs.records.Crew.{Person}
 use Rattle.roster_model.specs.records.Duty.{Duty}
-use Rattle.roster_model.specs.Rules.{Rule, BaseRule, OverlapRule, LeaveRule, RestRule, RecoveryRule, Duty7Rule, Duty14Rule, Duty28Rule, Flight28Rule, FlightYearRule, Flight12Rule, duty_list, rank_of, Holds, HoldsLimit, IsFirstBroken, IsFirstFailing}
+use Rattle.roster_model.specs.Rules.{Rule, BaseRule, OverlapRule, LeaveRule, RestRule, RecoveryRule, Duty7Rule, Duty14Rule, Duty28Rule, Flight28Rule, FlightYearRule, Flight12Rule, duty_list, rank_of, Holds, HoldsLimit, IsFirstBroken}
+use Rattle.roster_cumulative.specs.Limited.{Limited, IsWithin}
+use Rattle.roster_legal.specs.Looks.{LookAt}
 
 pub IsFirstBroken-one : (problem : Problem) (k : ℕ) (set : List ℕ) (a b : Option Rule) → IsFirstBroken problem k set a → IsFirstBroken problem k set b → a ≡ b
 IsFirstBroken-one problem k set None None first second = refl
@@ -59,55 +61,35 @@ has_first_broken problem k set none =
       | inr found ↦ none (Some found.0, found.1)
     ])
 
+-- ---- limits
+
 -- what the limits say of person k with the set
 abbrev pub HoldsAsLimit : Problem → ℕ → List ℕ → Rule → Type 0
 HoldsAsLimit problem k set rule =
     HoldsLimit (home_of problem k).days (duty_list problem k set) (year_of problem k) (eleven_of problem k) rule
 
--- a rule holds where those before the limits do, and it as a limit,
-pub holds-from : (problem : Problem) (k : ℕ) (set : List ℕ) → HoldBelow (Holds problem k set) 5 → (rule : Rule) → HoldsAsLimit problem k set rule → Holds problem k set rule
-holds-from problem k set first BaseRule limit = first BaseRule (omega arith)
-holds-from problem k set first OverlapRule limit = first OverlapRule (omega arith)
-holds-from problem k set first LeaveRule limit = first LeaveRule (omega arith)
-holds-from problem k set first RestRule limit = first RestRule (omega arith)
-holds-from problem k set first RecoveryRule limit = first RecoveryRule (omega arith)
-holds-from problem k set first Duty7Rule limit = limit
-holds-from problem k set first Duty14Rule limit = limit
-holds-from problem k set first Duty28Rule limit = limit
-holds-from problem k set first Flight28Rule limit = limit
-holds-from problem k set first FlightYearRule limit = limit
-holds-from problem k set first Flight12Rule limit = limit
-
--- and holds as a limit where it holds
-pub limit-from : (problem : Problem) (k : ℕ) (set : List ℕ) (rule : Rule) → Holds problem k set rule → HoldsAsLimit problem k set rule
-limit-from problem k set BaseRule holds = tt
-limit-from problem k set OverlapRule holds = tt
-limit-from problem k set LeaveRule holds = tt
-limit-from problem k set RestRule holds = tt
-limit-from problem k set RecoveryRule holds = tt
-limit-from problem k set Duty7Rule holds = holds
-limit-from problem k set Duty14Rule holds = holds
-limit-from problem k set Duty28Rule holds = holds
-limit-from problem k set Flight28Rule holds = holds
-limit-from problem k set FlightYearRule holds = holds
-limit-from problem k set Flight12Rule holds = holds
-
--- where the rules before the limits hold, the first limit that is broken is the first rule that is
-pub IsFirstBroken-limits : (problem : Problem) (k : ℕ) (set : List ℕ) → HoldBelow (Holds problem k set) 5 → (broken : Option Rule) → IsFirstFailing (HoldsAsLimit problem k set) broken → IsFirstBroken problem k set broken
-IsFirstBroken-limits problem k set first None limits = λ rule. holds-from problem k set first rule (limits rule)
-IsFirstBroken-limits problem k set first (Some broken) limits = (
-  λ holds. limits.0 (limit-from problem k set broken holds),
-  λ rule before. holds-from problem k set first rule (limits.1 rule before),
-)
-
--- what is known of a person's days, duties and minutes before the month
-pub IsFirstFailing-person : (problem : Problem) (k : ℕ) (set : List ℕ) (days : Days) (list : List Duty) (person : Person) (broken : Option Rule) → days ≡ (home_of problem k).days → list ≡ duty_list problem k set → slice_get problem.persons k ≡ Some person → IsFirstFailing (HoldsLimit days list person.year person.eleven) broken → IsFirstFailing (HoldsAsLimit problem k set) broken
-IsFirstFailing-person problem k set days list person broken of_home of_set found failing =
+as_limit : (problem : Problem) (k : ℕ) (set : List ℕ) (limits : Limited) (rule : Rule) (test : Bool) → LookAt problem k set limits → (IsTrue test ↔ IsWithin limits rule) → (IsTrue test ↔ HoldsAsLimit problem k set rule)
+as_limit problem k set limits rule test look is =
     let home = (home_of problem k).days in
     let duties = duty_list problem k set in
-    let year : year_of problem k ≡ person.year = ap (λ (o : Option Person). unwrap_or (option_map (λ p. p.year) o) 0) found in
-    let eleven : eleven_of problem k ≡ person.eleven = ap (λ (o : Option Person). unwrap_or (option_map (λ p. p.eleven) o) 0) found in
-    subst (λ n. IsFirstFailing (HoldsLimit home duties (year_of problem k) n) broken) (sym eleven)
-    (subst (λ n. IsFirstFailing (HoldsLimit home duties n person.eleven) broken) (sym year)
-    (subst (λ (l : List Duty). IsFirstFailing (HoldsLimit home l person.year person.eleven) broken) of_set
-    (subst (λ (d : Days). IsFirstFailing (HoldsLimit d list person.year person.eleven) broken) of_home failing)))
+    let person = limits.carried in
+    let year : year_of problem k ≡ person.year = ap (λ (o : Option Person). unwrap_or (option_map (λ p. p.year) o) 0) look.person in
+    let eleven : eleven_of problem k ≡ person.eleven = ap (λ (o : Option Person). unwrap_or (option_map (λ p. p.eleven) o) 0) look.person in
+    subst (λ n. IsTrue test ↔ HoldsLimit home duties (year_of problem k) n rule) (sym eleven)
+    (subst (λ n. IsTrue test ↔ HoldsLimit home duties n person.eleven rule) (sym year)
+    (subst (λ (l : List Duty). IsTrue test ↔ HoldsLimit home l person.year person.eleven rule) look.list
+    (subst (λ (d : Days). IsTrue test ↔ HoldsLimit d limits.list person.year person.eleven rule) look.days is)))
+
+-- a rule after Recovery holds where it does as a limit
+pub holds-limit : (problem : Problem) (k : ℕ) (set : List ℕ) (limits : Limited) (rule : Rule) (test : Bool) → rank_of RecoveryRule < rank_of rule → LookAt problem k set limits → (IsTrue test ↔ IsWithin limits rule) → (IsTrue test ↔ Holds problem k set rule)
+holds-limit problem k set limits BaseRule test after look is = absurd (omega arith)
+holds-limit problem k set limits OverlapRule test after look is = absurd (omega arith)
+holds-limit problem k set limits LeaveRule test after look is = absurd (omega arith)
+holds-limit problem k set limits RestRule test after look is = absurd (omega arith)
+holds-limit problem k set limits RecoveryRule test after look is = absurd (omega arith)
+holds-limit problem k set limits Duty7Rule test after look is = as_limit problem k set limits Duty7Rule test look is
+holds-limit problem k set limits Duty14Rule test after look is = as_limit problem k set limits Duty14Rule test look is
+holds-limit problem k set limits Duty28Rule test after look is = as_limit problem k set limits Duty28Rule test look is
+holds-limit problem k set limits Flight28Rule test after look is = as_limit problem k set limits Flight28Rule test look is
+holds-limit problem k set limits FlightYearRule test after look is = as_limit problem k set limits FlightYearRule test look is
+holds-limit problem k set limits Flight12Rule test after look is = as_limit problem k set limits Flight12Rule test look is

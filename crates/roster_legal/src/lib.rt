@@ -2,23 +2,26 @@
 //!
 //! `first_broken` tells the first rule that a person breaks with a set, `locked` the one that is broken
 //! without any pairing, and `is_legal` whether the set is empty or none is broken. They look at the
-//! fixed duties of the person and at the duties of the set alone. In reading order:
+//! fixed duties of the person and at the duties of the set alone. A `Judge` answers so for many sets,
+//! in the memory of one list. In reading order:
 //!
 //! - `listing`: the duty list of a person with a set
 //! - `base`, `overlap`, `leave`: a rule each; `roster_restrules` has the rules of rest, and
 //!   `roster_cumulative` the limits
-//! - `judge`: the rules together
+//! - `rules`: the rules together
+//! - `judging`: sets judged, and many of them in the memory of one list
 //! - `laws`: what follows from the definitions
 #![tactic(auto)]
 
 mod base;
-mod judge;
+mod judging;
 mod laws;
 mod leave;
 mod listing;
 mod overlap;
+mod rules;
 
-pub use judge::{first_broken, is_legal, locked};
+pub use judging::{Judge, first_broken, is_legal, locked};
 pub use laws::{
     has_locks, has_verdicts, one_first_broken, one_list_of_locks, one_list_of_verdicts,
     part_of_legal_is_legal,

@@ -1,9 +1,11 @@
 -- Which rules come before one.
-use Rattle.std.proofs.Common.{◌≡◌, ℕ, suc, ◌<◌, List, [], ◌∷◌, Some, refl, sym, ap, ◌∙◌, subst, inl, inr, arith}
+use Rattle.std.proofs.Common.{◌≡◌, ℕ, suc, ◌+◌, ◌<◌, List, [], ◌∷◌, Some, map, length, get_or, refl, sym, ap, ◌∙◌, subst, inl, inr, arith}
 use Rattle.std.specs.Prelude.{slice_get}
 use Rattle.std.proofs.lemmas.Bool.{cases_eq}
+use Rattle.std.proofs.lemmas.List.{get_or-map, length-map}
+use Rattle.std.proofs.lemmas.List.FromFn.{get_or-range_with_len}
 use Rattle.std.proofs.lemmas.Option.{same_Some, slice_get_within}
-use Rattle.roster_model.specs.Rules.{Rule, BaseRule, OverlapRule, LeaveRule, RestRule, RecoveryRule, Duty7Rule, Duty14Rule, Duty28Rule, Flight28Rule, FlightYearRule, Flight12Rule, rank_of}
+use Rattle.roster_model.specs.Rules.{Rule, BaseRule, OverlapRule, LeaveRule, RestRule, RecoveryRule, Duty7Rule, Duty14Rule, Duty28Rule, Flight28Rule, FlightYearRule, Flight12Rule, rank_of, IsFirstFailing}
 
 abbrev pub by_rank : List Rule
 by_rank =
@@ -42,3 +44,27 @@ below-more Says a below here rule before =
 
 pub below-all : (Says : Rule → Type 0) → HoldBelow Says 11 → (rule : Rule) → Says rule
 below-all Says below rule = below rule (slice_get_within by_rank (rank_of rule) rule (at_rank rule))
+
+-- ---- the rules in their order, by other names
+
+-- The names of all rules, in the order in which they are judged.
+abbrev pub AreByRank : {X : Type 0} → (X → Rule) → List X → Type 0
+AreByRank rule_of names = map rule_of names ≡ by_rank
+
+rank_at : {X : Type 0} (rule_of : X → Rule) (names : List X) (i : ℕ) (d : X) → AreByRank rule_of names → i < length names → rank_of (rule_of (get_or names i d)) ≡ i
+rank_at rule_of names i d all inside =
+    let long : length by_rank ≡ length names = ap length (sym all) ∙ length-map names rule_of in
+    let name : rule_of (get_or names i d) ≡ get_or by_rank i (rule_of d) =
+    sym (get_or-map rule_of names i d (rule_of d) inside) ∙ ap (λ rules. get_or rules i (rule_of d)) all in
+    ap rank_of name ∙ sym (get_or-map rank_of by_rank i (rule_of d) 0 (omega arith)) ∙ get_or-range_with_len 0 11 i 0 (omega arith) ∙ omega arith
+
+-- what the next one says is so too,
+pub below-next : {X : Type 0} (Says : Rule → Type 0) (rule_of : X → Rule) (names : List X) (i : ℕ) (d : X) → AreByRank rule_of names → i < length names → HoldBelow Says i → Says (rule_of (get_or names i d)) → HoldBelow Says (i + 1)
+below-next Says rule_of names i d all inside below here rule before =
+    let rank = rank_at rule_of names i d all inside in
+    below-more Says (rule_of (get_or names i d)) (subst (HoldBelow Says) (sym rank) below) here rule (omega arith)
+
+-- or it is the first that isn't
+pub fails-first : {X : Type 0} (Says : Rule → Type 0) (rule_of : X → Rule) (names : List X) (i : ℕ) (d : X) → AreByRank rule_of names → i < length names → HoldBelow Says i → ¬ Says (rule_of (get_or names i d)) → IsFirstFailing Says (Some (rule_of (get_or names i d)))
+fails-first Says rule_of names i d all inside below fails =
+    (fails, subst (HoldBelow Says) (sym (rank_at rule_of names i d all inside)) below)

@@ -2,6 +2,7 @@
 use Rattle.std.specs.Prelude.{◌≡◌, ℕ, ◌/◌, ◌%◌, List, [], ◌∷◌, ◌++◌, Option, Some, None, map, slice_get, unwrap_or, codes}
 use Rattle.std.specs.List.{flat_map, join_with_byte, enumerate_from}
 use Rattle.std.specs.Fmt.{decimal, signed_decimal}
+use Rattle.roster_model.specs.declared.profile.TheConstants.{SHORT_RUN, MIDDLE_RUN, LONG_RUN}
 use Rattle.roster_model.specs.Calendar.{Days, Period}
 use Rattle.roster_model.specs.records.Crew.{Person}
 use Rattle.roster_model.specs.records.Duty.{Duty}
@@ -25,12 +26,12 @@ abbrev pub names_of : Problem → List ℕ → List (List ℕ)
 names_of problem [] = codes "-" ∷ []
 names_of problem (p ∷ set) = pairing_name problem p ∷ map (pairing_name problem) set
 
--- The numbers of a person's line, in minutes: the month's flight, the greatest duty of a judged run
--- of 7, 14 and 28 days, and the greatest flight of one of 28 days.
+-- The numbers of a person's line, in minutes: the month's flight, the greatest duty of a judged short,
+-- middle and long run of days, and the greatest flight of a long one.
 abbrev pub numbers_of : Days → List Duty → List ℕ
 numbers_of days list =
-    month_flight days list ∷ greatest_duty days list 7 ∷ greatest_duty days list 14
-    ∷ greatest_duty days list 28 ∷ greatest_flight days list 28 ∷ []
+    month_flight days list ∷ greatest_duty days list SHORT_RUN ∷ greatest_duty days list MIDDLE_RUN
+    ∷ greatest_duty days list LONG_RUN ∷ greatest_flight days list LONG_RUN ∷ []
 
 -- the line of the person at place k, with their set
 unfoldable pub crew_line : Problem → List ℕ → ℕ → Person → List ℕ

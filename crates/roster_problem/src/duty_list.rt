@@ -69,4 +69,13 @@ impl<'a> DutyList<'a> {
     {
         &self.duties[usize::from(self.positions[i])]
     }
+
+    /// Its memory, for the positions of another list.
+    pub fn into_memory(self) -> Vec<u16>
+        ensures { result.items ≡ [] }
+    {
+        let mut positions = self.positions;
+        positions.clear();
+        positions
+    }
 }

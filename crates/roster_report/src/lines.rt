@@ -17,6 +17,7 @@ use roster_cumulative::{greatest_duty, greatest_flight, month_flight};
 use roster_instants::{BaseDays, Period};
 use roster_legal::merge;
 use roster_model::limits::MOST_PAIRINGS;
+use roster_model::profile::{LONG_RUN, MIDDLE_RUN, SHORT_RUN};
 use roster_problem::{DutyList, Person, Problem, Rule, Set};
 use std::alloc::{AllocError, Global};
 
@@ -65,10 +66,10 @@ fn numbers_of(list: &DutyList, days: &BaseDays) -> [u64; NUMBERS]
 {
     [
         month_flight(days, list) as u64,
-        greatest_duty(days, list, 7) as u64,
-        greatest_duty(days, list, 14) as u64,
-        greatest_duty(days, list, 28) as u64,
-        greatest_flight(days, list, 28) as u64,
+        greatest_duty(days, list, SHORT_RUN) as u64,
+        greatest_duty(days, list, MIDDLE_RUN) as u64,
+        greatest_duty(days, list, LONG_RUN) as u64,
+        greatest_flight(days, list, LONG_RUN) as u64,
     ]
 }
 

@@ -6,7 +6,7 @@ ghost use Rattle.roster_model.specs.Record.{Record, Command, BaseRecord};
 ghost use Rattle.roster_model.specs.Faults.{code_of_kind};
 ghost use Rattle.roster_model.specs.Zone.{days_of_zone};
 ghost use Rattle.roster_model.specs.records.Base.{base_of};
-ghost use Rattle.roster_book.specs.Draft.{FindsDays, IsDraftOf, Reads, tables_of_draft};
+ghost use Rattle.roster_book.specs.Draft.{FindsDays, IsDraftOf, Reads, contents_of};
 
 use crate::code::Code;
 use crate::draft::Draft;
@@ -35,7 +35,7 @@ impl Draft {
     #[tactic(auto, unfolding(roster_model::specs::Faults::code_of_kind, roster_model::specs::records::Base::base_of))]
     pub(crate) fn read_base(&self, alloc: Global, fields: &ByteRecord) -> Result<Base, Refusal>
         ensures { (command : Command) (row : ℕ) (before : List Record)
-            → IsDraftOf command row before (tables_of_draft self.now)
+            → IsDraftOf command row before (contents_of self.now)
             → Reads (code_of_kind BaseRecord before (fields_of fields.now))
             (base_of before (fields_of fields.now)) result }
     {

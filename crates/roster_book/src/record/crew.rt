@@ -5,7 +5,7 @@ ghost use Rattle.csv.specs.Records.{fields_of};
 ghost use Rattle.roster_model.specs.Record.{Record, Command, CrewRecord, amount_of};
 ghost use Rattle.roster_model.specs.Faults.{code_of_kind};
 ghost use Rattle.roster_model.specs.records.Crew.{id_in, home_in, target_in, year_in, eleven_in, is_formed, is_limited, person_of};
-ghost use Rattle.roster_book.specs.Draft.{IsDraftOf, Judges, tables_of_draft};
+ghost use Rattle.roster_book.specs.Draft.{IsDraftOf, Judges, contents_of};
 
 use crate::code::Code;
 use crate::draft::Draft;
@@ -48,7 +48,7 @@ impl Draft {
     #[tactic(auto, unfolding(roster_model::specs::Faults::code_of_kind, roster_model::specs::records::Crew::person_of))]
     pub(crate) fn judge_person(&self, row: usize, fields: &ByteRecord) -> Result<Person, Code>
         ensures { (command : Command) (before : List Record)
-            → IsDraftOf command row before (tables_of_draft self.now)
+            → IsDraftOf command row before (contents_of self.now)
             → Judges (code_of_kind CrewRecord before (fields_of fields.now))
             (person_of before (fields_of fields.now)) result }
     {

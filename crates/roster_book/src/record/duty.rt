@@ -13,7 +13,7 @@ ghost use Rattle.roster_model.specs.records.Duty.{id_in, station_in, report_in, 
 ghost use Rattle.roster_model.specs.records.Duty as model;
 ghost use Rattle.roster_problem.specs.Sound.{IsHolder};
 ghost use Rattle.roster_problem.specs.View.{holder_of};
-ghost use Rattle.roster_book.specs.Draft.{HasRecords, IsDraftOf, Judges, tables_of_draft};
+ghost use Rattle.roster_book.specs.Draft.{HasRecords, IsDraftOf, Judges, contents_of, tables_of_draft};
 
 use crate::code::Code;
 use crate::draft::Draft;
@@ -106,7 +106,7 @@ impl Draft {
     #[tactic(auto, using(crate::proofs::SectorTable::flown_in_sequence, crate::proofs::SectorTable::flown_starts_well, crate::proofs::SectorTable::flown_count))]
     fn judge_of_pairing(&self, p: usize, duty: &Form) -> Result<(), Code>
         requires known { p < length self.now.pairings.items }
-        requires records { HasRecords (tables_of_draft self.now) }
+        requires records { HasRecords (contents_of self.now) }
         ensures told { (before : List Record) → tables_of_draft self.now ≡ tables_in before
             → Judges (first_unmet (model.conditions_of_pairing before p duty.now.station
             duty.now.report duty.now.release)) tt result }
@@ -133,7 +133,7 @@ impl Draft {
     #[tactic(auto, using(crate::proofs::SectorTable::flown_count))]
     fn judge_of_person(&self, k: usize, duty: &Form) -> Result<(), Code>
         requires known { k < length self.now.persons.items }
-        requires records { HasRecords (tables_of_draft self.now) }
+        requires records { HasRecords (contents_of self.now) }
         ensures told { (before : List Record) → tables_of_draft self.now ≡ tables_in before
             → Judges (first_unmet (model.conditions_of_person (is_busy (tables_in before)) before k
             duty.now.report duty.now.release)) tt result }
@@ -158,7 +158,7 @@ impl Draft {
     fn judge_held(&self, holder: Holder, duty: &Form) -> Result<(), Code>
         requires known { IsHolder (length self.now.pairings.items)
             (length self.now.persons.items) (holder_of holder) }
-        requires records { HasRecords (tables_of_draft self.now) }
+        requires records { HasRecords (contents_of self.now) }
         ensures told { (before : List Record) → tables_of_draft self.now ≡ tables_in before
             → Judges (first_unmet (model.conditions_held (is_busy (tables_in before)) before
             (Some (holder_of holder)) duty.now.station duty.now.report duty.now.release))
@@ -179,9 +179,9 @@ impl Draft {
         row: usize,
         fields: &ByteRecord,
     ) -> Result<Duty, Code>
-        requires { HasRecords (tables_of_draft self.now) }
+        requires { HasRecords (contents_of self.now) }
         ensures judged { (command : Command) (before : List Record)
-            → IsDraftOf command row before (tables_of_draft self.now)
+            → IsDraftOf command row before (contents_of self.now)
             → Judges (code_of_kind DutyRecord before (fields_of fields.now))
             (duty_of before (fields_of fields.now)) result }
         ensures bare { IfOk result (λ duty. duty.sectors ≡ []) }

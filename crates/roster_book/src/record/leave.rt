@@ -5,7 +5,7 @@ ghost use Rattle.csv.specs.Records.{fields_of};
 ghost use Rattle.roster_model.specs.Record.{Record, Command, LeaveRecord, minute_of};
 ghost use Rattle.roster_model.specs.Faults.{code_of_kind};
 ghost use Rattle.roster_model.specs.records.Leave.{from_in, to_in, is_formed, leave_of};
-ghost use Rattle.roster_book.specs.Draft.{HasRecords, IsDraftOf, Judges, tables_of_draft};
+ghost use Rattle.roster_book.specs.Draft.{HasRecords, IsDraftOf, Judges, contents_of};
 
 use crate::code::Code;
 use crate::draft::Draft;
@@ -37,9 +37,9 @@ impl Draft {
     /// The leave that a record of one gives, or what is wrong with it.
     #[tactic(auto, unfolding(roster_model::specs::Faults::code_of_kind, roster_model::specs::records::Leave::leave_of))]
     pub(crate) fn judge_leave(&self, fields: &ByteRecord) -> Result<Leave, Code>
-        requires { HasRecords (tables_of_draft self.now) }
+        requires { HasRecords (contents_of self.now) }
         ensures { (command : Command) (row : ℕ) (before : List Record)
-            → IsDraftOf command row before (tables_of_draft self.now)
+            → IsDraftOf command row before (contents_of self.now)
             → Judges (code_of_kind LeaveRecord before (fields_of fields.now))
             (leave_of before (fields_of fields.now)) result }
     {

@@ -5,7 +5,7 @@ ghost use Rattle.csv.specs.Records.{fields_of};
 ghost use Rattle.roster_model.specs.Record.{Record, Command, PairingRecord};
 ghost use Rattle.roster_model.specs.Faults.{code_of_kind};
 ghost use Rattle.roster_model.specs.records.Pairing.{id_in, is_formed, pairing_of};
-ghost use Rattle.roster_book.specs.Draft.{IsDraftOf, Judges, tables_of_draft};
+ghost use Rattle.roster_book.specs.Draft.{IsDraftOf, Judges, contents_of};
 
 use crate::code::Code;
 use crate::draft::Draft;
@@ -30,7 +30,7 @@ impl Draft {
     #[tactic(auto, unfolding(roster_model::specs::Faults::code_of_kind, roster_model::specs::records::Pairing::pairing_of))]
     pub(crate) fn judge_pairing(&self, row: usize, fields: &ByteRecord) -> Result<Pairing, Code>
         ensures { (command : Command) (before : List Record)
-            → IsDraftOf command row before (tables_of_draft self.now)
+            → IsDraftOf command row before (contents_of self.now)
             → Judges (code_of_kind PairingRecord before (fields_of fields.now))
             (pairing_of before (fields_of fields.now)) result }
     {

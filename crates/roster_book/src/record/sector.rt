@@ -6,7 +6,7 @@ ghost use Rattle.roster_model.specs.declared.limits.TheConstants.{MOST_SECTORS};
 ghost use Rattle.roster_model.specs.Record.{Record, Command, SectorRecord, minute_of};
 ghost use Rattle.roster_model.specs.Faults.{code_of_kind, kind_in};
 ghost use Rattle.roster_model.specs.records.Sector.{is_formed, is_operated, is_positioning, letter_in, off_in, on_in, sector_of};
-ghost use Rattle.roster_book.specs.Draft.{IsDraftOf, Takes, tables_of_draft};
+ghost use Rattle.roster_book.specs.Draft.{IsDraftOf, Takes, contents_of};
 ghost use Rattle.roster_book.specs.Flown.{fits_at, sector_count};
 ghost use Rattle.roster_book.specs.View.{code_of as view_of_code};
 
@@ -54,7 +54,7 @@ impl Draft {
     #[tactic(auto, using(crate::proofs::SectorTable::flown_position, crate::proofs::Sound::sectors_draft), unfolding(roster_model::specs::Faults::code_of_kind, roster_model::specs::records::Sector::sector_of))]
     fn judge_sector(&self, fields: &ByteRecord) -> Result<(usize, Sector), Code>
         ensures judged { (command : Command) (row : ℕ) (before : List Record)
-            → IsDraftOf command row before (tables_of_draft self.now)
+            → IsDraftOf command row before (contents_of self.now)
             → MatchResult result
             (λ given. (code_of_kind SectorRecord before (fields_of fields.now) ≡ None)
             × (sector_of before (fields_of fields.now)
@@ -85,9 +85,9 @@ impl Draft {
     /// Puts the sector that a record of one gives to its duty, or tells what is wrong with it.
     pub(crate) fn take_sector(&mut self, fields: &ByteRecord) -> Result<(), Refusal>
         ensures { (command : Command) (row : ℕ) (before : List Record)
-            → IsDraftOf command row before (tables_of_draft self.old)
+            → IsDraftOf command row before (contents_of self.old)
             → Some SectorRecord ≡ kind_in command (fields_of fields.now)
-            → Takes command row before (fields_of fields.now) (tables_of_draft self.new) result }
+            → Takes command row before (fields_of fields.now) (contents_of self.new) result }
     {
         let (place, sector) = self.judge_sector(fields)?;
         self.duties.push_sector(place, sector)?;

@@ -3,7 +3,7 @@ use Rattle.std.proofs.Common.{◌≡◌, ℕ, Bool, true, false, cond, List, [],
 use Rattle.std.specs.Prelude.{filter}
 use Rattle.std.proofs.lemmas.Bool.{cases_Bool, cond-true, cond-false, both_ways, false_from_ne_true}
 use Rattle.roster_model.specs.Problem.{Problem}
-use Rattle.roster_model.specs.records.Duty.{Duty, Holder, OfPairing, OfPerson}
+use Rattle.roster_model.specs.records.Duty.{Holder, OfPairing, OfPerson}
 use Rattle.roster_model.specs.Rules.{duty_list, is_among, is_listed}
 
 -- what passes p passes q

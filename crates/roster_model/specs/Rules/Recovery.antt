@@ -1,7 +1,8 @@
 -- Recovery: ORO.FTL.235(d), first two sentences, of Regulation (EU) No 83/2014 in this project's
--- profile. Flight time specification schemes provide periodic extended recovery rest periods, each of
--- at least 36 hours that include two local nights, and the time from the end of one to the start of
--- the next is never more than 168 hours. (Local night: 8 hours between 22:00 and 08:00, ORO.FTL.105.)
+-- profile. Flight time specification schemes provide recurrent extended recovery rest periods
+-- (here: recurrent rests), each of at least 36 hours that include two local nights, and the time from
+-- the end of one to the start of the next is never more than 168 hours. (Local night: 8 hours between
+-- 22:00 and 08:00, ORO.FTL.105.)
 use Rattle.std.specs.Prelude.{◌≡◌, ℕ, ◌+◌, ◌-◌, ◌<◌, ◌≤◌, Bool, nat_le, List, length, Some, slice_get, slice_index}
 use Rattle.std.specs.List.{count_by, range_with_len}
 use Rattle.roster_model.specs.declared.limits.TheConstants.{DAYS_BEFORE}
@@ -32,8 +33,9 @@ pub record HasRestAfter (days : Days) (list : List Duty) (k : ℕ) : Type 0 wher
   pub after : slice_get list (k + 1) ≡ Some next
   pub recurrent : IsRecurrent days last.release next.report
 
--- From the report of a duty a to the release of a duty b, which is a or comes later, there is no more
--- than the longest time, if no recurrent rest lies between them and b ends after the month begins.
+-- At most 168 hours (`BETWEEN_RECURRENT_RESTS`) lie from the report of a duty a to the release of a
+-- duty b, which is a or comes later, if no recurrent rest lies between them and b ends after the month
+-- begins.
 abbrev pub KeepsRecovery : Days → List Duty → Type 0
 KeepsRecovery days list = (i j : ℕ) (a b : Duty) → i ≤ j → slice_get list i ≡ Some a
     → slice_get list j ≡ Some b → ((k : ℕ) → i ≤ k → k < j → ¬ HasRestAfter days list k)

@@ -1,4 +1,4 @@
--- `base,ID,ZONE`: where pairings and persons begin and end.
+-- `base,ID,ZONE`: the home of persons, and where pairings begin.
 use Rattle.std.specs.Prelude.{ℕ, Bool, not, ◌&&◌, ◌==◌, List, [], ◌∷◌, length, Option, is_some, is_ok, nat_lt, unwrap_or, slice_get}
 use Rattle.std.specs.Result.{result_unwrap_or}
 use Rattle.roster_model.specs.declared.limits.TheConstants.{MOST_BASES}

@@ -1,4 +1,5 @@
--- `pairing,ID,BASE,PENALTY`: duties in a row for one person, from the base and back.
+-- `pairing,ID,BASE,PENALTY`: duties in a row for one person, of which the first reports at
+-- the base.
 use Rattle.std.specs.Prelude.{ℕ, Bool, not, ◌&&◌, ◌==◌, List, [], ◌∷◌, length, Option, is_some, nat_lt, unwrap_or}
 use Rattle.roster_model.specs.declared.limits.TheConstants.{MOST_PAIRINGS, MOST_PENALTY}
 use Rattle.roster_model.specs.Form.{is_identifier, is_number, is_amount, number_of}

@@ -1,8 +1,8 @@
 use Rattle.std.proofs.Common.{[], ◌∷◌, ◌++◌, arith}
 use Rattle.std.proofs.lemmas.Result.{IfErr-weaker, IfOk-weaker}
 use Rattle.csv.specs.Records.{fields_of}
-use Rattle.roster_book.specs.Draft.{tables_of_draft}
-use Rattle.roster_book.specs.Reading.{IsProblemOf, TellsFirst, records_left}
+use Rattle.roster_book.specs.Draft.{contents_of}
+use Rattle.roster_book.specs.Reading.{IsBookOf, TellsFirst, records_left}
 use Rattle.roster_book.specs.View.{command_of}
 use Rattle.roster_book.specs.declared.refusal.Refusal.TheVariants as refusals
 use Rattle.roster_book.proofs.Drafts.{HasRecords-draft}
@@ -39,7 +39,7 @@ returns-in-Err-clause-some_fault g c =
 
 pub finish-requires : goal.finish-requires
 finish-requires g c = record {
-  records = HasRecords-draft (command_of c.args.command) c.loop-row.row c.loop-row.invariant.0 (tables_of_draft c.loop-row.draft) c.loop-row.invariant.1.draft;
+  records = HasRecords-draft (command_of c.args.command) c.loop-row.row c.loop-row.invariant.0 (contents_of c.loop-row.draft) c.loop-row.invariant.1.draft;
 }
 
 pub returns-then-not-branch-2-clause-book : goal.returns-then-not-branch-2-clause-book
@@ -48,7 +48,7 @@ returns-then-not-branch-2-clause-book g c =
     let h = c.loop-row.invariant.1 in
     let command = command_of c.args.command in
     IfOk-weaker c.finish.result _ _
-    (λ problem held. seen-all _ _ seen (λ all. IsProblemOf command all problem) h.follows (c.in_ok-next_record-2.ensures.end c.if-not-branch-2.true) held)
+    (λ problem held. seen-all _ _ seen (λ all. IsBookOf command all problem) h.follows (c.in_ok-next_record-2.ensures.end c.if-not-branch-2.true) held)
     (c.finish.ensures.book command c.loop-row.row seen h.draft)
 
 pub returns-then-not-branch-2-clause-fault : goal.returns-then-not-branch-2-clause-fault
@@ -76,7 +76,7 @@ returns-then-not-branch-2-clause-some_fault g c =
 
 pub take-requires : goal.take-requires
 take-requires g c = record {
-  records = HasRecords-draft (command_of c.args.command) c.loop-row.row c.loop-row.invariant.0 (tables_of_draft c.loop-row.draft) c.loop-row.invariant.1.draft;
+  records = HasRecords-draft (command_of c.args.command) c.loop-row.row c.loop-row.invariant.0 (contents_of c.loop-row.draft) c.loop-row.invariant.1.draft;
 }
 
 pub returns-in-Err-take-clause-fault : goal.returns-in-Err-take-clause-fault

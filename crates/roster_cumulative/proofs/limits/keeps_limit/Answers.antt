@@ -1,4 +1,4 @@
-use Rattle.std.proofs.Common.{◌≡◌, ℕ, ◌≤◌, leb-true, get_or, sym, subst}
+use Rattle.std.proofs.Common.{ℕ, ◌≤◌, leb-true, get_or, sym, subst}
 use Rattle.std.proofs.lemmas.Bool.{le-leb}
 use Rattle.roster_cumulative.proofs.InRun.{greatest-bounds, greatest-within}
 use Rattle.roster_cumulative.proofs.limits.keeps_limit.Goals as goal

@@ -2,16 +2,18 @@ use Rattle.std.proofs.Common.{sym, arith}
 use Rattle.csv.specs.Records.{fields_of}
 use Rattle.roster_book.specs.View.{command_of}
 use Rattle.roster_book.proofs.Sound.{first_is_period}
-use Rattle.roster_book.proofs.Tables.{tables_in-first}
+use Rattle.roster_book.proofs.Tables.{no_assign, tables_in-first}
 use Rattle.roster_book.proofs.draft.Draft.begin.Goals as goal
 
 pub returns : goal.returns
 returns c =
     let none = c.in_ok-read_first.ensures.0 in
-    let tables = tables_in-first (fields_of c.args.fields.now) (first_is_period (command_of c.args.command) (fields_of c.args.fields.now) none) in
+    let period = first_is_period (command_of c.args.command) (fields_of c.args.fields.now) none in
+    let tables = tables_in-first (fields_of c.args.fields.now) period in
     record {
       begun = omega arith;
       row_is = omega arith;
-      tables_are = rw (c.new.ensures.items, c.new-2.ensures.items, c.new-3.ensures.items, c.new-4.ensures, c.new-5.ensures.items, c.in_ok-read_first.ensures.1) (sym tables);
+      tables_are = rw (c.new.ensures.items, c.new-2.ensures.items, c.new-3.ensures.items, c.new-4.ensures, c.new-5.ensures.items, c.new-6.ensures, c.in_ok-read_first.ensures.1) (sym tables);
+      assigns_are = rw c.new-7.ensures.items (sym (no_assign (fields_of c.args.fields.now) period));
       faultless = (none, tt);
     }

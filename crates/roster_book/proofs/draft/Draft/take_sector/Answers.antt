@@ -2,7 +2,7 @@ use Rattle.std.proofs.Common.{sym}
 use Rattle.std.proofs.lemmas.Result.{err_from_is_err_and}
 use Rattle.csv.specs.Records.{fields_of}
 use Rattle.roster_model.specs.Record.{SectorRecord}
-use Rattle.roster_book.specs.Draft.{tables_of_draft}
+use Rattle.roster_book.specs.Draft.{contents_of}
 use Rattle.roster_book.proofs.Drafts.{code_of-later, IsDraftOf-sector}
 use Rattle.roster_book.proofs.draft.Draft.take_sector.Goals as goal
 
@@ -20,4 +20,4 @@ pub returns : goal.returns
 returns c = λ command row before d k.
     let judged = c.in_ok-place.ensures.judged command row before d in
     rw c.in_ok-push_sector.ensures
-    (IsDraftOf-sector command row before (fields_of c.args.fields.now) (tables_of_draft c.args.self.now) c.in_ok-place.place c.in_ok-place.sector d k judged.0 judged.1)
+    (IsDraftOf-sector command row before (fields_of c.args.fields.now) (contents_of c.args.self.now) c.in_ok-place.place c.in_ok-place.sector d k judged.0 judged.1)

@@ -1,0 +1,122 @@
+-- What holds of the contents of some records without a fault.
+use Rattle.std.proofs.Common.{◌≡◌, ℕ, ◌+◌, ◌<◌, ◌≤◌, List, [], ◌∷◌, ◌++◌, length, map, eqb, Bool, true, false, ◌||◌, Option, Some, None, refl, arith, length-append}
+use Rattle.std.specs.Prelude.{All, IfSome}
+use Rattle.std.specs.List.{IsDistinct, list_any}
+use Rattle.std.proofs.lemmas.Bool.{eqb-true}
+use Rattle.std.proofs.lemmas.List.{length-map}
+use Rattle.std.proofs.lemmas.List.Elements.{All-head, All-nil, All-tail, All-weaker}
+use Rattle.std.proofs.lemmas.Map.Steps.{length-le_from_distinct_below}
+use Rattle.roster_model.specs.declared.limits.TheConstants.{MOST_SECTORS}
+use Rattle.roster_model.specs.Record.{Record, Kind}
+use Rattle.roster_model.specs.Calendar.{Period}
+use Rattle.roster_model.specs.Problem.{Problem, tables_in}
+use Rattle.roster_model.specs.Faults.{code_of_kind}
+use Rattle.roster_model.specs.records.Assign.{Assign, assigns_in}
+use Rattle.roster_model.specs.records.Duty.{Holder, OfPairing, OfPerson}
+use Rattle.roster_model.specs.records.Sector.{sectors_in}
+use Rattle.roster_problem.specs.Sound.{IsSound, IsHolder}
+use Rattle.roster_book.specs.Flown.{sector_count}
+use Rattle.roster_book.proofs.SectorTable.{sector_count_none}
+
+-- ---- what one more entry keeps
+
+pub longer : {X : Type 0} (n : ℕ) (xs : List X) (x : X) → n < length xs → n < length (xs ++ x ∷ [])
+longer {X = X} n xs x h = omega (arith, length-append {A = X})
+
+pub one_more : {X : Type 0} (xs : List X) (x : X) → length (xs ++ x ∷ []) ≡ length xs + 1
+one_more {X = X} xs x = omega (arith, length-append {A = X})
+
+pub holder_of_more : {pairings persons more most : ℕ} (holder : Holder) → pairings ≤ more → persons ≤ most → IsHolder pairings persons holder → IsHolder more most holder
+holder_of_more (OfPairing p) first second h = omega (arith, h)
+holder_of_more (OfPerson k) first second h = omega (arith, h)
+
+-- ---- assignments
+
+abbrev pub paired : List Assign → List ℕ
+paired assigns = map (λ assign. assign.pairing) assigns
+
+-- They assign each pairing once, and whom and what they name is there.
+pub record AreAssigned (pairings persons : ℕ) (assigns : List Assign) : Type 0 where
+  pub named : All (λ assign. assign.pairing < pairings) assigns
+  pub assignees : All (λ assign. IfSome assign.person (λ k. k < persons)) assigns
+  pub once : IsDistinct eqb (paired assigns)
+
+person_of_more : {persons most : ℕ} (person : Option ℕ) → persons ≤ most → IfSome person (λ k. k < persons) → IfSome person (λ k. k < most)
+person_of_more None more h = tt
+person_of_more (Some k) more h = omega (arith, h)
+
+pub assigned_of_more : {pairings persons : ℕ} (more most : ℕ) (assigns : List Assign) → pairings ≤ more → persons ≤ most → AreAssigned pairings persons assigns → AreAssigned more most assigns
+assigned_of_more {pairings = pairings} {persons = persons} more most assigns first second are = record {
+  named = All-weaker (λ assign. assign.pairing < pairings) (λ assign. assign.pairing < more) (λ assign l. omega arith) assigns are.named;
+  assignees = All-weaker (λ assign. IfSome assign.person (λ k. k < persons)) (λ assign. IfSome assign.person (λ k. k < most)) (λ assign. person_of_more assign.person second) assigns are.assignees;
+  once = are.once;
+}
+
+paired-below : (n : ℕ) (assigns : List Assign) (q : ℕ) → All (λ assign. assign.pairing < n) assigns → list_any (eqb q) (paired assigns) ≡ true → q < n
+paired-below n [] q named h = cc
+paired-below n (assign ∷ assigns) q named h =
+    let P : Bool → Type 0 = λ b. eqb q assign.pairing ≡ b → (b || list_any (eqb q) (paired assigns)) ≡ true → q < n in
+    elim (eqb q assign.pairing) as P [
+      | true ↦ λ e any. (let own = All-head (λ a. a.pairing < n) assign assigns named in let same : q ≡ assign.pairing = eqb-true _ _ e in omega arith)
+      | false ↦ λ e any. paired-below n assigns q (All-tail (λ a. a.pairing < n) assign assigns named) any
+    ] refl h
+
+-- they are no more than the pairings
+pub few_assigned : (pairings persons : ℕ) (assigns : List Assign) → AreAssigned pairings persons assigns → length assigns ≤ pairings
+few_assigned pairings persons assigns are =
+    let long = length-map assigns (λ (assign : Assign). assign.pairing) in
+    let few = length-le_from_distinct_below (paired assigns) pairings are.once (λ q h. paired-below pairings assigns q are.named h) in
+    omega arith
+
+-- ---- the contents
+
+-- how many records gave a weight
+abbrev pub weight_count : Option ℕ → ℕ
+weight_count None = 0
+weight_count (Some weight) = 1
+
+pub weight_once : (given : Option ℕ) → weight_count given ≤ 1
+weight_once None = omega arith
+weight_once (Some weight) = omega arith
+
+-- The contents of so many records, of which so many are sectors, are sound.
+pub record AreSound (count sectors : ℕ) (tables : Problem) (assigns : List Assign) : Type 0 where
+  pub sound : IsSound tables
+  pub room : sectors ≤ MOST_SECTORS
+  pub sectors_are : sector_count tables.duties ≡ sectors
+  pub assigned : AreAssigned (length tables.pairings) (length tables.persons) assigns
+  pub count_is : count ≤ 1 + weight_count tables.weight + length tables.bases + length tables.persons + length tables.pairings + length tables.duties + length tables.leaves + length tables.costs + length assigns + sectors
+
+pub sound-none : {period : Period} → AreSound 1 0 (record { period = period; weight = None; bases = []; persons = []; pairings = []; duties = []; leaves = []; costs = [] }) []
+unfolding IsDistinct
+sound-none = record {
+  sound = record {
+    bases = omega arith;
+    persons = omega arith;
+    pairings = omega arith;
+    duties = omega arith;
+    leaves = omega arith;
+    costs = omega arith;
+    weight = omega arith;
+    targets = All-nil _;
+    penalties = All-nil _;
+    units = All-nil _;
+    homes = All-nil _;
+    starts = All-nil _;
+    holders = All-nil _;
+    absences = All-nil _;
+    cost_persons = All-nil _;
+    cost_pairings = All-nil _;
+  };
+  room = omega arith;
+  sectors_are = sector_count_none;
+  assigned = record { named = All-nil _; assignees = All-nil _; once = tt };
+  count_is = omega arith;
+}
+
+-- what is known where a record of the kind is taken
+pub record IsTaken (count : ℕ) (kind : Kind) (before : List Record) (fields : Record) (tables : Problem) (assigns : List Assign) : Type 0 where
+  pub sound : AreSound count (length (sectors_in before)) tables assigns
+  pub tables_are : tables ≡ tables_in before
+  pub assigns_are : assigns ≡ assigns_in before
+  pub met : code_of_kind kind before fields ≡ None

@@ -1,0 +1,12 @@
+//! The book that was read.
+
+use roster_problem::{Places, Problem};
+
+/// The book that was read.
+#[derive(Debug, Drop)]
+pub struct Book {
+    /// What is to be rostered.
+    pub problem: Problem,
+    /// The roster that its assignments give: a pairing that none of them names is open.
+    pub assigned: Places,
+}

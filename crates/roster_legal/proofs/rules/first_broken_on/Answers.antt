@@ -1,0 +1,29 @@
+use Rattle.std.proofs.Common.{◌≡◌, refl, sym, subst, arith}
+use Rattle.std.proofs.lemmas.Bool.{both_ways}
+use Rattle.roster_model.proofs.RuleLemmas.{HoldBelow, below-next, below-all, fails-first}
+use Rattle.roster_model.specs.Rules.{Holds}
+use Rattle.roster_problem.specs.declared.rule.Rule.TheVariants.{Base}
+use Rattle.roster_problem.specs.declared.rule.TheConstants.Rule.{ALL}
+use Rattle.roster_problem.specs.View.{rule_of}
+use Rattle.roster_legal.specs.Looks.{LookAt}
+use Rattle.roster_legal.proofs.rules.first_broken_on.Goals as goal
+
+pub loop-rule-preserved : goal.loop-rule-preserved
+loop-rule-preserved c =
+    let says = Holds c.args.problem.now c.args.k c.args.set.now in
+    record {
+      limits = subst (LookAt c.args.problem.now c.args.k c.args.set.now) (sym c.holds.ensures.same) c.loop-rule.invariant.limits;
+      kept = below-next says rule_of ALL c.loop-rule.rule-index Base refl c.loop-rule-test.true c.loop-rule.invariant.kept (c.holds.ensures.value.0 c.if-not-holds.false);
+    }
+
+pub returns-then-not-holds : goal.returns-then-not-holds
+returns-then-not-holds c =
+    let says = Holds c.args.problem.now c.args.k c.args.set.now in
+    fails-first says rule_of ALL c.loop-rule.rule-index Base refl c.loop-rule-test.true c.loop-rule.invariant.kept
+    (λ holds. both_ways _ c.if-not-holds.true (c.holds.ensures.value.1 holds))
+
+pub returns : goal.returns
+returns c =
+    let says = Holds c.args.problem.now c.args.k c.args.set.now in
+    let all : c.loop-rule.rule-index ≡ 11 = omega arith in
+    below-all says (subst (HoldBelow says) all c.loop-rule.invariant.kept)
