@@ -1,8 +1,9 @@
 -- A base, a person or a pairing more keeps the contents sound.
 use Rattle.std.proofs.Common.{ℕ, ◌+◌, ◌<◌, ◌≤◌, List, [], ◌∷◌, ◌++◌, length, arith}
+use Rattle.std.proofs.lemmas.Bool.{and_parts}
 use Rattle.std.proofs.lemmas.List.Elements.{All-push, All-weaker}
-use Rattle.roster_model.specs.declared.limits.TheConstants.{MOST_BASES, MOST_PERSONS, MOST_PAIRINGS, MOST_PENALTY}
-use Rattle.roster_model.specs.Form.{number_of}
+use Rattle.roster_model.specs.declared.limits.TheConstants.{MOST_BASES, MOST_PERSONS, MOST_PAIRINGS, MOST_MINUTES, MOST_PENALTY}
+use Rattle.roster_model.specs.Form.{is_amount, number_of}
 use Rattle.roster_model.specs.Record.{Record, BaseRecord, CrewRecord, PairingRecord}
 use Rattle.roster_model.specs.Problem.{Problem}
 use Rattle.roster_model.specs.Faults.{code_of_kind}
@@ -49,11 +50,13 @@ sound-person count before fields t assigns k =
     let few' : length (t.persons ++ made ∷ []) ≤ MOST_PERSONS = omega arith in
     let home : made.base < length t.bases = rw k.tables_are (place-below _ _ (bases_in before) met.1.1.1.1.0) in
     let homes = All-push (λ person. person.base < length t.bases) t.persons made s.homes home in
+    let limited = (and_parts (is_amount MOST_MINUTES (number_of (crew.target_in fields))) _ met.1.1.0).0 in
+    let targets = All-push (λ person. person.target ≤ MOST_MINUTES) t.persons made s.targets (amount-below MOST_MINUTES (number_of (crew.target_in fields)) limited) in
     let holders = All-weaker (λ d. IsHolder (length t.pairings) (length t.persons) d.holder) (λ d. IsHolder (length t.pairings) (length (t.persons ++ made ∷ [])) d.holder) (λ d. holder_of_more d.holder (omega arith) (omega arith)) t.duties s.holders in
     let absences = All-weaker (λ leave. leave.person < length t.persons) (λ leave. leave.person < length (t.persons ++ made ∷ [])) (λ leave. longer leave.person t.persons made) t.leaves s.absences in
     let priced = All-weaker (λ cost. cost.person < length t.persons) (λ cost. cost.person < length (t.persons ++ made ∷ [])) (λ cost. longer cost.person t.persons made) t.costs s.cost_persons in
     record {
-      sound = assumption (few', homes, holders, absences, priced, s);
+      sound = assumption (few', homes, targets, holders, absences, priced, s);
       room = k.sound.room;
       assigned = assigned_of_more _ _ assigns (omega arith) (omega arith) k.sound.assigned;
       sectors_are = k.sound.sectors_are;

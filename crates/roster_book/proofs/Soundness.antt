@@ -98,6 +98,7 @@ sound-none = record {
     leaves = omega arith;
     costs = omega arith;
     weight = omega arith;
+    targets = All-nil _;
     penalties = All-nil _;
     units = All-nil _;
     homes = All-nil _;

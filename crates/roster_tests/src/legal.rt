@@ -47,7 +47,7 @@ fn long_book(alloc: Global) -> Result<Vec<u8>, AllocError> {
 
 /// The pairings at whose places the list has the number 0.
 #[tactic(auto, using(roster_model::proofs::SetLemmas::places_of_number))]
-fn set_of(problem: &Problem, places: &[u16]) -> Option<Set>
+pub fn set_of(problem: &Problem, places: &[u16]) -> Option<Set>
     ensures { IfSome result (λ set. All (λ p. p < length problem.now.pairings) set) }
 {
     if places.len() != problem.pairings().len() {
