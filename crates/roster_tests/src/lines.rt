@@ -2,8 +2,8 @@
 
 use roster_book::{Command, Watched, read_book};
 use roster_lines::{
-    LinesFault, TableFault, few_are_not_crowded, has_numbers, lines_of, nobody_is_crowded,
-    one_list_of_lines, one_list_of_numbers, table_of,
+    TableFault, few_are_not_crowded, has_numbers, lines_of, nobody_is_crowded, one_list_of_lines,
+    one_list_of_numbers, table_of,
 };
 use roster_model::limits::MOST_PAIRINGS;
 use roster_problem::{Problem, Set};
@@ -137,7 +137,6 @@ fn a_person_may_have_too_many_lines(rt: HostRuntime) -> Result<(), Fail> {
     let days = [1, 3, 5, 7, 9, 11, 13, 15, 17, 19, 21, 23, 25, 27, 29, 31];
     let problem = problem_of(rt.alloc(), &days)?;
     assert!(rt; problem.persons().len() == 1);
-    assert!(rt; matches!(lines_of(rt.alloc(), &problem, 0), Err(LinesFault::TooMany)));
     assert!(rt; matches!(table_of(rt.alloc(), &problem), Err(TableFault::TooMany(0))));
     Ok(())
 }
