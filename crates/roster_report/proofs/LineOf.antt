@@ -48,6 +48,10 @@ enumerate_from-take_more xs k x at =
     let same = get_or_from_slice_get xs k x x at in
     rw (take_more xs k x within, same) (enumerate_from-push 0 k (take k xs) x (omega (arith, length-take-le k xs (omega arith))))
 
+-- three texts, one after another
+pub three-texts : (first second third a b c : List ℕ) → first ≡ a → second ≡ first ++ b → third ≡ second ++ c → third ≡ a ++ b ++ c
+three-texts first second third a b c e f g = rw (g, f, e) refl
+
 -- four texts, one after another
 pub four-texts : (first second third fourth a b c d : List ℕ) → first ≡ a → second ≡ first ++ b → third ≡ second ++ c → fourth ≡ third ++ d → fourth ≡ a ++ b ++ c ++ d
 four-texts first second third fourth a b c d e f g h = rw (h, g, f, e) refl

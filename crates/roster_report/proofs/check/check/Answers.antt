@@ -1,0 +1,26 @@
+use Rattle.std.proofs.Common.{ap, ◌∙◌, List, [], ◌∷◌, ℕ, ◌++◌, ℤ, codes, map}
+use Rattle.std.specs.Prelude.{Option, option_map}
+use Rattle.std.specs.Fmt.{signed_decimal}
+use Rattle.roster_model.specs.Calendar.{Period}
+use Rattle.roster_model.specs.Rules.{Rule}
+use Rattle.roster_model.specs.Texts.{check_text, line_of, period_text, verdict_lines}
+use Rattle.roster_problem.specs.View.{rule_of}
+use Rattle.roster_report.proofs.LineOf.{three-texts}
+use Rattle.roster_report.proofs.check.check.Goals as goal
+
+pub returns : goal.returns
+unfolding check_text
+returns c =
+    let problem = c.args.problem.now in
+    let heading = c.in_ok-push_heading.ensures ∙ ap (λ (t : List ℕ). t ++ line_of (codes "CHECK" ∷ period_text c.period.result ∷ [])) c.new-text.ensures.items ∙ ap (λ (p : Period). line_of (codes "CHECK" ∷ period_text p ∷ [])) c.period.ensures in
+    let cost = c.in_ok-push_cost.ensures ∙ ap (λ (z : ℤ). c.push_heading.new.out.items ++ line_of (codes "COST" ∷ signed_decimal z ∷ [])) c.roster_cost.ensures in
+    let locks : List (Option Rule) = map (option_map rule_of) c.in_ok-locks.locks.items in
+    let verdicts : List (Option Rule) = map (option_map rule_of) c.in_ok-verdicts.verdicts.items in
+    let persons = c.in_ok-push_verdicts.ensures in
+    record {
+      locks = locks;
+      locked = c.in_ok-locks.ensures;
+      verdicts = verdicts;
+      judged = c.in_ok-verdicts.ensures;
+      written = three-texts _ _ _ _ _ _ heading cost persons;
+    }
