@@ -1,5 +1,5 @@
 -- A base, a person or a pairing more keeps the contents sound.
-use Rattle.std.proofs.Common.{ℕ, ◌+◌, ◌<◌, ◌≤◌, List, [], ◌∷◌, ◌++◌, length, arith}
+use Rattle.std.proofs.Common.{ℕ, Bool, ◌&&◌, ◌+◌, ◌<◌, ◌≤◌, List, [], ◌∷◌, ◌++◌, length, arith}
 use Rattle.std.proofs.lemmas.Bool.{and_parts}
 use Rattle.std.proofs.lemmas.List.Elements.{All-push, All-weaker}
 use Rattle.roster_model.specs.declared.limits.TheConstants.{MOST_BASES, MOST_PERSONS, MOST_PAIRINGS, MOST_MINUTES, MOST_PENALTY}
@@ -50,7 +50,9 @@ sound-person count before fields t assigns k =
     let few' : length (t.persons ++ made ∷ []) ≤ MOST_PERSONS = omega arith in
     let home : made.base < length t.bases = rw k.tables_are (place-below _ _ (bases_in before) met.1.1.1.1.0) in
     let homes = All-push (λ person. person.base < length t.bases) t.persons made s.homes home in
-    let limited = (and_parts (is_amount MOST_MINUTES (number_of (crew.target_in fields))) _ met.1.1.0).0 in
+    let few_minutes : List ℕ → Bool = λ digits. is_amount MOST_MINUTES (number_of digits) in
+    let carried = and_parts (few_minutes (crew.target_in fields) && few_minutes (crew.year_in fields)) (few_minutes (crew.eleven_in fields)) met.1.1.0 in
+    let limited = (and_parts (few_minutes (crew.target_in fields)) (few_minutes (crew.year_in fields)) carried.0).0 in
     let targets = All-push (λ person. person.target ≤ MOST_MINUTES) t.persons made s.targets (amount-below MOST_MINUTES (number_of (crew.target_in fields)) limited) in
     let holders = All-weaker (λ d. IsHolder (length t.pairings) (length t.persons) d.holder) (λ d. IsHolder (length t.pairings) (length (t.persons ++ made ∷ [])) d.holder) (λ d. holder_of_more d.holder (omega arith) (omega arith)) t.duties s.holders in
     let absences = All-weaker (λ leave. leave.person < length t.persons) (λ leave. leave.person < length (t.persons ++ made ∷ [])) (λ leave. longer leave.person t.persons made) t.leaves s.absences in

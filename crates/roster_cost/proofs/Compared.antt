@@ -1,5 +1,5 @@
 -- The code's comparison of keys is the order of keys.
-use Rattle.std.proofs.Common.{◌≡◌, ℕ, Bool, true, false, not, cond, ◌&&◌, ◌||◌, List, ℤ, arith, int_lt, int_eq, nat_cmp, int_cmp, is_eq, is_le, is_lt, Ordering, Less, Equal, Greater, refl, sym, ap, ap₂, ◌∙◌, inl, inr}
+use Rattle.std.proofs.Common.{◌≡◌, ℕ, Bool, true, false, not, cond, ◌&&◌, ◌||◌, List, ℤ, arith, int_lt, int_eq, nat_cmp, is_eq, is_le, is_lt, Ordering, Less, Equal, Greater, refl, ap, ap₂, ◌∙◌}
 use Rattle.std.specs.Prelude.{◌↔◌}
 use Rattle.std.specs.Ordering.{ordering_reverse, ordering_then}
 use Rattle.std.specs.Cmp.{IsTotalOrder}

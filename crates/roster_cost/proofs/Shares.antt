@@ -1,9 +1,9 @@
 -- What a roster costs, person by person.
-use Rattle.std.proofs.Common.{◌≡◌, ℕ, zero, suc, ◌+◌, ◌<◌, ◌≤◌, Bool, true, false, cond, eqb, eq-eqb, ltb, List, [], ◌∷◌, length, ℤ, pos, ◌+ℤ◌, refl, sym, ap, ◌∙◌, subst, inl, inr, arith}
+use Rattle.std.proofs.Common.{◌≡◌, ℕ, zero, suc, ◌+◌, ◌<◌, ◌≤◌, Bool, true, false, cond, eqb, eq-eqb, ltb, List, [], ◌∷◌, length, ℤ, pos, ◌+ℤ◌, refl, sym, ap, ◌∙◌, inl, inr, arith}
 use Rattle.std.specs.List.{range_with_len}
-use Rattle.std.proofs.lemmas.Bool.{cases_eq, cases_lt, lt-ltb, le-ltb, ne_eqb}
+use Rattle.std.proofs.lemmas.Bool.{cases_eq, lt-ltb, le-ltb, ne_eqb}
 use Rattle.std.proofs.lemmas.Int.{ints}
-use Rattle.roster_model.specs.Costs.{cost_of, line_cost, missed_target, missed_targets, open_penalties, placed_units, total}
+use Rattle.roster_model.specs.Costs.{cost_of, line_cost, missed_target, open_penalties, placed_units, total}
 use Rattle.roster_model.specs.Places.{open_number, places_with, set_of}
 use Rattle.roster_model.specs.Problem.{Problem, units_of}
 use Rattle.roster_model.proofs.CostLemmas.{total-nil, total-cons, total-both}

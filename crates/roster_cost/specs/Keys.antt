@@ -1,5 +1,5 @@
 -- How the code compares keys.
-use Rattle.std.specs.Prelude.{ℕ, Bool, List, nat_eq}
+use Rattle.std.specs.Prelude.{Bool, nat_eq}
 use Rattle.std.specs.Cmp.Lexicographic.{pointwise, slice_cmp}
 use Rattle.std.specs.Ordering.{int_cmp, int_eq, nat_cmp, on, then_cmp, eq_of_both}
 use Rattle.std.specs.declared.cmp.Ordering.{Ordering}
