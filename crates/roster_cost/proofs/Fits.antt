@@ -1,28 +1,19 @@
--- What lines and rosters cost fits a signed word of 64 bits, by the limits of a book.
+-- What rosters cost fits a signed word of 64 bits, by the limits of a book.
 use Rattle.std.proofs.Common.{ℕ, suc, ◌+◌, ◌*◌, ◌^◌, ◌<◌, ◌≤◌, List, [], ◌∷◌, length, ℤ, pos, negsuc, ◌+ℤ◌, arith}
 use Rattle.std.specs.Prelude.{All, unsigned_abs}
 use Rattle.std.specs.List.Sorted.{IsStrictlyIncreasing}
 use Rattle.std.proofs.lemmas.Int.{ints}
 use Rattle.roster_model.specs.declared.limits.TheConstants.{MOST_DUTIES, MOST_MINUTES, MOST_MONTH_MINUTES, MOST_PAIRINGS, MOST_PENALTY, MOST_PERSONS, MOST_UNITS, MOST_WEIGHT}
-use Rattle.roster_model.specs.Costs.{distance, total}
+use Rattle.roster_model.specs.Costs.{total}
 use Rattle.roster_model.specs.Problem.{Problem, units_of}
 use Rattle.roster_model.proofs.CostLemmas.{total-nil, total-cons, units-limited}
 use Rattle.roster_model.proofs.SetLemmas.{length_within}
 use Rattle.roster_problem.specs.Sound.{IsSound}
-use Rattle.roster_cost.specs.Amounts.{IsWithin, most_flight, most_line_cost, most_units}
+use Rattle.roster_cost.specs.Amounts.{IsWithin, most_units}
 
--- ---- the sums that are kept in a word
+-- ---- a roster
 
-pub flight_fits : most_flight < 2 ^ 63
-flight_fits = omega arith
-
-pub line_fits : most_line_cost < 2 ^ 63
-line_fits = omega arith
-
--- all persons' flight is no more than each duty has at most, since a duty is on one list
-pub most_missed : ℕ
-most_missed = MOST_WEIGHT * (MOST_DUTIES * MOST_MONTH_MINUTES + MOST_PERSONS * MOST_MINUTES)
-
+-- All persons' flight is no more than each duty has at most, since a duty is on one list.
 pub roster_fits : MOST_PAIRINGS * MOST_PENALTY + most_units + MOST_WEIGHT * (MOST_DUTIES * MOST_MONTH_MINUTES + MOST_PERSONS * MOST_MINUTES) < 2 ^ 63
 roster_fits = omega arith
 
@@ -31,9 +22,6 @@ roster_fits = omega arith
 pub within_from_abs : (z : ℤ) (most : ℕ) → unsigned_abs z ≤ most → IsWithin most z
 within_from_abs (pos n) most h = let small : n ≤ most = h in (omega (arith, ints), omega (arith, ints))
 within_from_abs (negsuc n) most h = let small : suc n ≤ most = h in (omega (arith, ints), omega (arith, ints))
-
-pub within_sum : (a b : ℕ) (y z : ℤ) → IsWithin a y → IsWithin b z → IsWithin (a + b) (y +ℤ z)
-within_sum a b y z first second = (omega (arith, ints, first.0, second.0), omega (arith, ints, first.1, second.1))
 
 pub within_more : (a b : ℕ) (z : ℤ) → IsWithin a z → a ≤ b → IsWithin b z
 within_more a b z h l = (omega (arith, ints, h.0), omega (arith, ints, h.1))
@@ -55,11 +43,3 @@ units-of_set problem k set sound rises places =
     let few = length_within set (length problem.pairings) rises places in
     let all = sound.pairings in
     within_more (length set * MOST_UNITS) most_units _ (total-within (units_of problem k) MOST_UNITS (λ p. units-within problem k p sound) set) (omega (arith, few, all))
-
--- ---- missed targets
-
-product-le : (a b m n : ℕ) → a ≤ m → b ≤ n → a * b ≤ m * n
-product-le a b m n first second = grind arith
-
-pub missed-most : (weight flight target : ℕ) → weight ≤ MOST_WEIGHT → target ≤ MOST_MINUTES → weight * distance flight target ≤ MOST_WEIGHT * (flight + MOST_MINUTES)
-missed-most weight flight target light near = product-le weight (distance flight target) MOST_WEIGHT (flight + MOST_MINUTES) light (omega arith)
