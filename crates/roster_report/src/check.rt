@@ -51,6 +51,7 @@ fn check(alloc: Global, problem: &Problem, places: &[u16]) -> Result<Vec<u8>, Al
     let mut text = Vec::new(alloc);
     push_heading(alloc, &mut text, b"CHECK", problem.period())?;
     push_cost(alloc, &mut text, roster_cost(problem, places))?;
-    push_verdicts(&mut text, problem, &locks, &verdicts)?;
+    let (locked, broken) = (locks.as_slice(), verdicts.as_slice());
+    push_verdicts(&mut text, problem, locked, broken)?;
     Ok(text)
 }

@@ -1,4 +1,4 @@
-use Rattle.std.proofs.Common.{ap, ◌∙◌, List, [], ◌∷◌, ℕ, ◌++◌, ℤ, codes, map, rules}
+use Rattle.std.proofs.Common.{◌≡◌, ap, ◌∙◌, List, [], ◌∷◌, ℕ, ◌++◌, ℤ, codes, map, rules}
 use Rattle.std.specs.Prelude.{Option, option_map}
 use Rattle.std.specs.Int.{w64}
 use Rattle.std.specs.Int.RustNames.{FitsSigned}
@@ -20,7 +20,9 @@ returns c =
     let cost = c.in_ok-push_cost.ensures ∙ ap (λ (z : ℤ). c.push_heading.new.out.items ++ line_of (codes "COST" ∷ signed_decimal z ∷ [])) (to_z-of_z w64 c.roster_cost.result fits ∙ c.roster_cost.ensures) in
     let locks : List (Option Rule) = map (option_map rule_of) c.in_ok-locks.locks.items in
     let verdicts : List (Option Rule) = map (option_map rule_of) c.in_ok-verdicts.verdicts.items in
-    let persons = c.in_ok-push_verdicts.ensures in
+    let given : c.as_slice-locked.result.now ≡ c.in_ok-locks.locks.items = c.as_slice-locked.ensures.value in
+    let told : c.as_slice-broken.result.now ≡ c.in_ok-verdicts.verdicts.items = c.as_slice-broken.ensures.value in
+    let persons = rw (given, told) at c.in_ok-push_verdicts.ensures in
     record {
       locks = locks;
       locked = c.in_ok-locks.ensures;
