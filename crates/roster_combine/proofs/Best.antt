@@ -1,6 +1,6 @@
 -- Every problem has a best roster: the search of the code, told of what a rule says and not of what a
 -- test answers. Whether a list is legal is decided under a double negation alone.
-use Rattle.std.proofs.Common.{◌≡◌, ℕ, zero, suc, ◌+◌, ◌<◌, ◌⊎◌, true, List, [], ◌∷◌, ◌++◌, length, get_or, take, replicate, ap, ap₂, refl, sym, ◌∙◌, subst, inl, inr, arith}
+use Rattle.std.proofs.Common.{◌≡◌, ℕ, zero, suc, ◌+◌, ◌<◌, ◌⊎◌, List, [], ◌∷◌, ◌++◌, length, get_or, take, replicate, ap₂, refl, sym, ◌∙◌, inl, inr, arith}
 use Rattle.std.proofs.lemmas.Bool.{cases_Bool, cases_lt}
 use Rattle.std.proofs.lemmas.List.{take_more, take_all, length-append}
 use Rattle.roster_model.specs.Problem.{Problem}

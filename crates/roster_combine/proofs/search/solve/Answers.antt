@@ -1,4 +1,4 @@
-use Rattle.std.proofs.Common.{◌≡◌, sym, ap, ◌∙◌, subst, arith}
+use Rattle.std.proofs.Common.{sym, ap, ◌∙◌, subst, arith}
 use Rattle.roster_model.specs.Costs.{cost_of}
 use Rattle.roster_model.specs.Rosters.{IsBest}
 use Rattle.roster_combine.specs.Walk.{AgreeBefore}

@@ -1,4 +1,4 @@
-use Rattle.std.proofs.Common.{◌≡◌, ℕ, not, List, ℤ, SFits, w64, to_z, of_z, ap, ap₂, ◌∙◌, rules}
+use Rattle.std.proofs.Common.{ℕ, not, List, ℤ, SFits, w64, to_z, of_z, ap, ap₂, ◌∙◌, rules}
 use Rattle.std.proofs.lemmas.Int.{to_z-of_z}
 use Rattle.roster_model.specs.Rosters.{Key, key_le}
 use Rattle.roster_combine.proofs.incumbent.Incumbent.comes_after.Goals as goal
