@@ -8,7 +8,7 @@ use Rattle.std.proofs.lemmas.Bool.{cases_lt, false≢true}
 use Rattle.std.proofs.lemmas.List.{get_or_past}
 use Rattle.std.proofs.lemmas.Option.{get_or_from_slice_get, slice_get_within}
 use Rattle.roster_model.specs.Calendar.{Days, IsDayOf, IsTable, common}
-use Rattle.roster_model.proofs.WindowLemmas.{mid-rises}
+use Rattle.roster_model.proofs.WindowLemmas.{mids-in_order}
 
 -- what the time from `from` to `to` shares with day j; days that the window lacks are empty
 abbrev pub shares : Days → ℕ → ℕ → ℕ → ℕ
@@ -51,7 +51,7 @@ pub midnights_rise : (days : Days) → IsTable days → (i start end : ℕ) → 
 midnights_rise days table i start end at_start at_end =
     let long = table.mid in
     let inside = slice_get_within days.mid (i + 1) end at_end in
-    let rises = mid-later days table i (i + 1) (omega arith) (omega arith) in
+    let rises = mids-in_order days table i (i + 1) (omega arith) (omega arith) in
     rw (get_or_from_slice_get days.mid i start 0 at_start, get_or_from_slice_get days.mid (i + 1) end 0 at_end) at rises
 
 -- what is added to a day, by its midnights as they are read
@@ -70,7 +70,7 @@ pub past_time : (days : Days) → IsTable days → (from to i j : ℕ) → to �
 past_time days table from to i j after from_i =
     elim (cases_lt j (length days.eight)) [
       | inl within ↦
-          let later = mid-later days table i j from_i (omega arith) in
+          let later = mids-in_order days table i j from_i (omega arith) in
           begun_after from to _ _ (omega arith)
       | inr past ↦ past_window days table from to j past
     ]
@@ -79,7 +79,7 @@ before_its_day : (days : Days) → IsTable days → (from to i j : ℕ) → IsDa
 before_its_day days table from to i j day before =
     let long = table.mid in
     let inside = slice_get_within days.mid (i + 1) day.ends day.next in
-    let later = mid-later days table (j + 1) i (omega arith) (omega arith) in
+    let later = mids-in_order days table (j + 1) i (omega arith) (omega arith) in
     let begins = get_or_from_slice_get days.mid i day.begins 0 day.first in
     let early = day.from in
     over_before from to _ _ (omega arith)

@@ -1,16 +1,11 @@
 -- The steps in which a zone text is judged, and the day that holds an instant.
-use Rattle.std.proofs.Common.{◌≡◌, ◌∙◌, sym, ap, subst, ℕ, ◌+◌, ◌-◌, ◌<◌, ◌≤◌, nat_lt, Bool, true, false, not, cond, inl, inr, List, length, get_or, Option, Some, None, Ok, Err, MatchOption, arith}
-use Rattle.std.specs.List.{position, position_or_len, slice_get}
+use Rattle.std.proofs.Common.{◌≡◌, ◌∙◌, sym, subst, ℕ, ◌+◌, ◌-◌, ◌<◌, ◌≤◌, true, false, List, length, get_or, Option, Some, None, Ok, Err, MatchOption, arith}
+use Rattle.std.specs.List.Sorted.{IsPartitionPoint}
 use Rattle.std.specs.Option.{SomeIff}
-use Rattle.std.proofs.lemmas.Bool.{cases_lt, not-true}
-use Rattle.std.proofs.lemmas.List.Sums.{prefix_len_passes}
-use Rattle.std.proofs.lemmas.Bool.Decides.{nat_tests}
-use Rattle.std.proofs.lemmas.List.Quantifiers.{position-Some}
 use Rattle.std.proofs.lemmas.Option.{slice_get-get_or, slice_get_within, get_or_from_slice_get}
 use Rattle.jiff_tz.specs.PosixReader.{read_whole}
 use Rattle.jiff_tz.specs.PosixText.{TzText}
-use Rattle.roster_model.proofs.WindowLemmas.{mid-rises}
-use Rattle.roster_model.specs.Calendar.{Period, Days, IsTable, IsDayOf, first_day, days_of_window, days_of_month}
+use Rattle.roster_model.specs.Calendar.{Period, Days, IsDayOf, first_day, days_of_window, days_of_month}
 use Rattle.roster_model.specs.Zone.{NotRead, NotMinutes, NotRising, days_of_zone, days_by_rule, has_minutes, rises, table_of, instants_at}
 
 -- a text that is no zone
@@ -45,68 +40,43 @@ table_made period zone first n month_days mid eight ten is_first is_n is_month i
 
 -- ---- the day that holds an instant
 
--- the i-th of a list that holds x there
-at_place : (xs : List ℕ) (i x : ℕ) → slice_get xs i ≡ Some x → (i < length xs) × (get_or xs i 0 ≡ x)
-at_place xs i x h = (slice_get_within xs i x h, get_or_from_slice_get xs i x 0 h)
+-- so many of the instants have come by one
+abbrev pub HaveCome : List ℕ → ℕ → ℕ → Type 0
+HaveCome instants t n = IsPartitionPoint (λ at. at ≤ t) (λ at. t < at) instants n
 
-after_test : (t x : ℕ) → nat_lt t x ≡ true → t < x
-after_test t x h = grind (arith, nat_tests)
-
-not_after : (t x : ℕ) → nat_lt t x ≡ false → x ≤ t
-not_after t x h = grind (arith, nat_tests)
-
-by_position : (n k : ℕ) → None ≡ cond (nat_lt n k) (Some n) None → k ≤ n
-by_position n k h = grind (arith, nat_tests)
-
--- where no element passes a test, the i-th doesn't
-position-none : (p : ℕ → Bool) (xs : List ℕ) → None ≡ position p xs → (i : ℕ) → i < length xs → p (get_or xs i 0) ≡ false
-position-none p xs none i within =
-    let long = by_position (position_or_len p xs) (length xs) none in
-    not-true (p (get_or xs i 0)) (prefix_len_passes (λ x. not (p x)) xs i 0 (omega arith))
-
--- no midnight comes after the instant
-pub past_window : (days : Days) (t : ℕ) → None ≡ position (λ mid. nat_lt t mid) days.mid → (i : ℕ) → ¬ (IsDayOf days t i)
-past_window days t none i day =
-    let end = at_place days.mid (i + 1) day.ends day.next in
-    let after = not_after t (get_or days.mid (i + 1) 0) (position-none (λ mid. nat_lt t mid) days.mid none (i + 1) end.0) in
+-- if all midnights have, it comes after the window,
+pub past_window : (days : Days) (t n : ℕ) → HaveCome days.mid t n → length days.mid ≤ n → (i : ℕ) → ¬ (IsDayOf days t i)
+past_window days t n come all i day =
+    let inside = slice_get_within days.mid (i + 1) day.ends day.next in
+    let end = get_or_from_slice_get days.mid (i + 1) day.ends 0 day.next in
+    let by = come.0 (i + 1) 0 (omega arith) (omega arith) in
     let before = day.before in
-    absurd (omega arith)
+    absurd (omega (arith, end, by))
 
--- the first that does begins the window
-pub before_window : (days : Days) (t : ℕ) → IsTable days → Some 0 ≡ position (λ mid. nat_lt t mid) days.mid → (i : ℕ) → ¬ (IsDayOf days t i)
-before_window days t table first i day =
-    let found = position-Some (λ mid. nat_lt t mid) days.mid 0 0 (sym first) in
-    let begin = at_place days.mid i day.begins day.first in
-    let end = at_place days.mid (i + 1) day.ends day.next in
-    let mid = table.mid in
-    let low = after_test t (get_or days.mid 0 0) found.1 in
+-- if none has, before it,
+before_window : (days : Days) (t n : ℕ) → HaveCome days.mid t n → n ≡ 0 → (i : ℕ) → ¬ (IsDayOf days t i)
+before_window days t n come none i day =
+    let inside = slice_get_within days.mid i day.begins day.first in
+    let begin = get_or_from_slice_get days.mid i day.begins 0 day.first in
+    let after = come.1 i 0 (omega arith) inside in
     let from = day.from in
-    elim (cases_lt 0 i) [
-      | inl later ↦ let rise = mid-rises days table 0 i later (let within = end.0 in omega arith) in absurd (omega (arith, begin.1))
-      | inr same ↦ let first_day : i ≡ 0 = omega arith in let there : get_or days.mid i 0 ≡ get_or days.mid 0 0 = rw first_day in absurd (omega (arith, begin.1))
-    ]
+    absurd (omega (arith, begin, after))
 
--- or ends the day
-pub within_window : (days : Days) (t next : ℕ) → Some next ≡ position (λ mid. nat_lt t mid) days.mid → 1 ≤ next → IsDayOf days t (next - 1)
-within_window days t next first some =
-    let found = position-Some (λ mid. nat_lt t mid) days.mid next 0 (sym first) in
-    let back : next - 1 + 1 ≡ next = omega arith in
-    let end : slice_get days.mid (next - 1 + 1) ≡ Some (get_or days.mid next 0) = rw back (slice_get-get_or days.mid next 0 found.0) in
+-- and else the last that has begins its day
+within_window : (days : Days) (t n : ℕ) → HaveCome days.mid t n → n < length days.mid → 1 ≤ n → IsDayOf days t (n - 1)
+within_window days t n come inside some =
+    let next : n - 1 + 1 ≡ n = omega arith in
     record {
-      begins = get_or days.mid (next - 1) 0;
-      ends = get_or days.mid next 0;
-      first = slice_get-get_or days.mid (next - 1) 0 (let within = found.0 in omega arith);
-      next = end;
-      from = not_after t (get_or days.mid (next - 1) 0) (found.2 (next - 1) (omega arith));
-      before = after_test t (get_or days.mid next 0) found.1;
+      begins = get_or days.mid (n - 1) 0;
+      ends = get_or days.mid n 0;
+      first = slice_get-get_or days.mid (n - 1) 0 (omega arith);
+      next = rw next (slice_get-get_or days.mid n 0 inside);
+      from = come.0 (n - 1) 0 (omega arith) (omega arith);
+      before = come.1 n 0 (omega arith) inside;
     }
 
--- so the midnight that comes next tells the day
-pub day_before : (days : Days) (t next : ℕ) (r : Option ℕ) → IsTable days → Some next ≡ position (λ mid. nat_lt t mid) days.mid
-    → SomeIff r (1 ≤ next) (next - 1) → MatchOption r ((i : ℕ) → ¬ (IsDayOf days t i)) (λ i. IsDayOf days t i)
-day_before days t next None table first none =
-    let least : next ≡ 0 = omega (arith, none) in
-    before_window days t table (ap (λ n. Some n) (sym least) ∙ first)
-day_before days t next (Some i) table first some =
+pub day_begun : (days : Days) (t n : ℕ) (r : Option ℕ) → HaveCome days.mid t n → n < length days.mid → SomeIff r (1 ≤ n) (n - 1) → MatchOption r ((i : ℕ) → ¬ (IsDayOf days t i)) (λ i. IsDayOf days t i)
+day_begun days t n None come inside none = before_window days t n come (omega (arith, none))
+day_begun days t n (Some i) come inside some =
     let P : ℕ → Type 0 = λ k. IsDayOf days t k in
-    subst P (sym some.1) (within_window days t next first some.0)
+    subst P (sym some.1) (within_window days t n come inside some.0)

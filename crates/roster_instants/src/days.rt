@@ -1,7 +1,7 @@
 //! The local days of a base round a month.
 
-ghost use Rattle.std.specs.Prelude.{◌≡◌, ◌+◌, ◌<◌, ◌≤◌, ℕ, true, pos, Some, Ok, IfOk, IfErr, MatchOption, nat_lt, position, length, slice_get};
-ghost use Rattle.std.specs.List.Sorted.{IsPartitionPoint, IsStrictlyIncreasing};
+ghost use Rattle.std.specs.Prelude.{◌≡◌, ◌+◌, ◌<◌, ◌≤◌, ℕ, true, pos, Some, Ok, IfOk, IfErr, MatchOption, length, slice_get};
+ghost use Rattle.std.specs.List.Sorted.{IsNonDecreasing, IsPartitionPoint, IsStrictlyIncreasing};
 ghost use Rattle.jiff_core.specs.Date.{IsYmd};
 ghost use Rattle.roster_model.specs.Calendar.{IsTable, IsDayOf, days_of_month, days_of_window, first_day};
 ghost use Rattle.roster_model.specs.Zone.{days_of_zone, has_minutes, rises, table_of};
@@ -168,7 +168,7 @@ impl BaseDays {
         ensures bound { result ≤ length self.now.eight }
         ensures table { IsTable self.now }
     {
-        self.eight.partition_point(|eight| *eight <= instant)
+        come_by(&self.eight, instant)
     }
 
     /// The day, from 0, that holds the instant, if one of the window does.
@@ -176,16 +176,22 @@ impl BaseDays {
         ensures { MatchOption result ((i : ℕ) → ¬ (IsDayOf self.now instant i))
             (λ i. IsDayOf self.now instant i) }
     {
-        self.next_mid(instant)?.checked_sub(1)
+        let begun = come_by(&self.mid, instant);
+        if begun > self.days() {
+            return None;
+        }
+        begun.checked_sub(1)
     }
+}
 
-    /// The first of the midnights that comes after the instant, if one does.
-    fn next_mid(&self, instant: Minute) -> Option<usize>
-        ensures value { result ≡ position (λ mid. nat_lt instant mid) self.now.mid }
-        ensures table { IsTable self.now }
-    {
-        self.mid.iter().position(|mid| instant < *mid)
-    }
+/// How many of the instants, none of which is before an earlier one, have come by the one given; they
+/// are the first ones.
+fn come_by(instants: &[Minute], instant: Minute) -> usize
+    requires { IsNonDecreasing instants.now }
+    ensures value { IsPartitionPoint (λ at. at ≤ instant) (λ at. instant < at) instants.now result }
+    ensures bound { result ≤ length instants.now }
+{
+    instants.partition_point(|at| *at <= instant)
 }
 
 /// The number of a window's first day, from 0 for 1970-01-01, and how many days it has.

@@ -137,12 +137,16 @@ mid-later days table i (suc n) within =
     let day = day-rises days table (i + n) (omega arith) in
     rw next (omega (arith, day.0, day.1, day.2))
 
+-- no later midnight comes before an earlier one,
+pub mids-in_order : (days : Days) → IsTable days → (i j : ℕ) → i ≤ j → j ≤ length days.eight → get_or days.mid i 0 ≤ get_or days.mid j 0
+mids-in_order days table i j order within =
+    let there : i + (j - i) ≡ j = omega arith in
+    rw there at (mid-later days table i (j - i) (omega arith))
+
 -- so a day has ended where a later one begins,
 mid-reached : (days : Days) → IsTable days → (i j : ℕ) → i < j → j ≤ length days.eight → get_or days.mid (i + 1) 0 ≤ get_or days.mid j 0
 mid-reached days table i j before within =
-    let rest = mid-later days table (i + 1) (j - (i + 1)) (omega arith) in
-    let there : i + 1 + (j - (i + 1)) ≡ j = omega arith in
-    rw there at rest
+    mids-in_order days table (i + 1) j (omega arith) within
 
 -- a later day begins later,
 pub mid-rises : (days : Days) → IsTable days → (i j : ℕ) → i < j → j ≤ length days.eight → get_or days.mid i 0 < get_or days.mid j 0

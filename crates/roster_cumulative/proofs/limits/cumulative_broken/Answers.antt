@@ -1,4 +1,4 @@
-use Rattle.std.proofs.Common.{◌≡◌, ◌+◌, ◌∙◌, Some, None, get_or, refl, sym, subst, arith}
+use Rattle.std.proofs.Common.{◌+◌, ◌∙◌, Some, None, get_or, refl, sym, subst, arith}
 use Rattle.std.proofs.lemmas.Bool.{both_ways}
 use Rattle.roster_model.proofs.RuleLemmas.{HoldBelow, below-next, below-all, fails-first}
 use Rattle.roster_model.specs.Rules.{IsFirstFailing}
@@ -28,7 +28,5 @@ returns-then-not-holds c =
 pub returns : goal.returns
 returns c =
     let l = c.loop-rule.limits in
-    let i = c.loop-rule.rule-index in
-    let all : i ≡ 11 = omega arith in
     subst (λ (l : Limited). IsFirstFailing (IsWithin l) None) (c.loop-rule.invariant.same ∙ c.new-limits.ensures)
-    (below-all (IsWithin l) (subst (HoldBelow (IsWithin l)) all c.loop-rule.invariant.kept))
+    (below-all (IsWithin l) (λ rule before. c.loop-rule.invariant.kept rule (omega arith)))

@@ -1,6 +1,6 @@
-use Rattle.std.proofs.Common.{◌≡◌, refl, sym, subst, arith}
+use Rattle.std.proofs.Common.{refl, sym, subst, arith}
 use Rattle.std.proofs.lemmas.Bool.{both_ways}
-use Rattle.roster_model.proofs.RuleLemmas.{HoldBelow, below-next, below-all, fails-first}
+use Rattle.roster_model.proofs.RuleLemmas.{below-next, below-all, fails-first}
 use Rattle.roster_model.specs.Rules.{Holds}
 use Rattle.roster_problem.specs.declared.rule.Rule.TheVariants.{Base}
 use Rattle.roster_problem.specs.declared.rule.TheConstants.Rule.{ALL}
@@ -25,5 +25,4 @@ returns-then-not-holds c =
 pub returns : goal.returns
 returns c =
     let says = Holds c.args.problem.now c.args.k c.args.set.now in
-    let all : c.loop-rule.rule-index ≡ 11 = omega arith in
-    below-all says (subst (HoldBelow says) all c.loop-rule.invariant.kept)
+    below-all says (λ rule before. c.loop-rule.invariant.kept rule (omega arith))
