@@ -9,7 +9,7 @@ use Rattle.roster_model.specs.records.Duty.{Duty, Sector}
 use Rattle.roster_model.specs.Sums.{flight_between, flown_between, in_month, duty_flight}
 use Rattle.roster_problem.specs.Sectors.{AreSectors}
 use Rattle.roster_cumulative.proofs.Flown.{flight_between-le}
-use Rattle.roster_cumulative.proofs.OnDay.{mid-later}
+use Rattle.roster_model.proofs.WindowLemmas.{mids-in_order}
 
 -- nothing lies within an instant, and two parts are the whole
 pub record IsDivided (minutes : ℕ → ℕ → ℕ) : Type 0 where
@@ -51,7 +51,7 @@ in_days days table minutes is first (suc n) last at within =
     let day = λ (i : ℕ). minutes (get_or days.mid i 0) (get_or days.mid (i + 1) 0) in
     let before = in_days days table minutes is first n (first + n) refl (omega arith) in
     let both = is.parts (get_or days.mid first 0) (get_or days.mid (first + n) 0) (get_or days.mid (first + n + 1) 0)
-    (mid-later days table first (first + n) (omega arith) (omega arith)) (mid-later days table (first + n) (first + n + 1) (omega arith) (omega arith)) in
+    (mids-in_order days table first (first + n) (omega arith) (omega arith)) (mids-in_order days table (first + n) (first + n + 1) (omega arith) (omega arith)) in
     sum_by-range_more day first n (first + n) refl ∙ ap (λ m. m + day (first + n)) before ∙ both ∙ ap (λ k. minutes (get_or days.mid first 0) (get_or days.mid k 0)) next
 
 -- so the days of the month have what lies between its beginning and its end

@@ -38,14 +38,6 @@ le_by_rank a b Greater above h = absurd (false≢true h)
 pub le_from_cmp : (a b : ℕ) → is_le (int_cmp (pos a) (pos b)) ≡ true → a ≤ b
 le_from_cmp a b h = le_by_rank a b (int_cmp (pos a) (pos b)) (int_ranks (pos a) (pos b)) h
 
--- no later midnight is before an earlier one
-pub mid-later : (days : Days) → IsTable days → (i j : ℕ) → i ≤ j → j ≤ length days.eight → get_or days.mid i 0 ≤ get_or days.mid j 0
-mid-later days table i j before within =
-    elim (cases_lt i j) [
-      | inl less ↦ let rises = mid-rises days table i j less within in omega arith
-      | inr other ↦ let same : i ≡ j = omega arith in rw same (omega arith)
-    ]
-
 -- the midnights of a day, as they are read, follow one another
 pub midnights_rise : (days : Days) → IsTable days → (i start end : ℕ) → slice_get days.mid i ≡ Some start → slice_get days.mid (i + 1) ≡ Some end → start ≤ end
 midnights_rise days table i start end at_start at_end =

@@ -5,7 +5,7 @@ use Rattle.roster_model.specs.Calendar.{month_end}
 use Rattle.roster_model.specs.Sums.{duty_flight, flight_between}
 use Rattle.roster_model.specs.declared.limits.TheConstants.{DAYS_BEFORE, MOST_MONTH_MINUTES}
 use Rattle.roster_cumulative.proofs.Divided.{duty_flight-between}
-use Rattle.roster_cumulative.proofs.OnDay.{mid-later}
+use Rattle.roster_model.proofs.WindowLemmas.{mids-in_order}
 use Rattle.roster_cumulative.proofs.sums.duty_flight.Goals as goal
 
 pub flight_between-requires : goal.flight_between-requires
@@ -14,7 +14,7 @@ flight_between-requires c =
     let long = c.month_end.ensures.table.eight in
     let starts = get_or_from_slice_get days.mid DAYS_BEFORE _ 0 c.month_start.ensures in
     let ends = get_or_from_slice_get days.mid (DAYS_BEFORE + days.month_days) _ 0 c.month_end.ensures.value in
-    omega (arith, starts, ends, mid-later days c.month_end.ensures.table DAYS_BEFORE (DAYS_BEFORE + days.month_days) (omega arith) (omega arith))
+    omega (arith, starts, ends, mids-in_order days c.month_end.ensures.table DAYS_BEFORE (DAYS_BEFORE + days.month_days) (omega arith) (omega arith))
 
 is_flight : (c : goal.After-flight_between) → duty_flight c.args.days.now c.args.duty.now ≡ c.flight_between.result
 is_flight c =
