@@ -132,7 +132,7 @@ some_report has Check problem assigned none =
       record { locks = locks.0; locked = locks.1; verdicts = verdicts.0; judged = verdicts.1; written = refl },
     )))
 
-no_fault : (command : Command) (records : List Record) → first_fault command records ≡ None → ((fault : Fault) → ¬ IsProblemFault command (problem_of records) fault) → (fault : Fault) → ¬ IsFirstFault command records fault
+pub no_fault : (command : Command) (records : List Record) → first_fault command records ≡ None → ((fault : Fault) → ¬ IsProblemFault command (problem_of records) fault) → (fault : Fault) → ¬ IsFirstFault command records fault
 no_fault command records is later fault (inl told) =
     let both : Some fault ≡ None = sym told ∙ is in
     absurd cc

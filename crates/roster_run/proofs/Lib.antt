@@ -1,1 +1,2 @@
 pub mod IsAnswer
+pub mod BookAnswers

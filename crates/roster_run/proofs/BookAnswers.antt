@@ -1,0 +1,71 @@
+-- What is answered to a book, where it was answered to its problem.
+use Rattle.std.proofs.Common.{◌≡◌, ◌⊎◌, ℕ, ◌<◌, List, Option, Some, None, refl, sym, ap, ◌∙◌, subst, inl, inr}
+use Rattle.std.specs.Prelude.{IfSome, slice_get}
+use Rattle.roster_book.specs.Reading.{IsBookOf}
+use Rattle.roster_book.specs.declared.book.Book.{Book}
+use Rattle.roster_model.specs.Answer.{IsAnswer, IsCrowdedFault, IsFirstFault, IsProblemFault, IsRefusal, IsReport, Reports}
+use Rattle.roster_model.specs.Code.{TooManyLines, number_of_code}
+use Rattle.roster_model.specs.Faults.{Fault, first_fault}
+use Rattle.roster_model.specs.Lines.{IsCrowded, IsFirstCrowded}
+use Rattle.roster_model.specs.Problem.{Problem, problem_of}
+use Rattle.roster_model.specs.Record.{Command, Record, Solve}
+use Rattle.roster_model.specs.records.Assign.{assigned_in}
+use Rattle.roster_model.specs.records.Crew.{Person}
+use Rattle.roster_report.specs.Writing.{Writes, WritesPart}
+use Rattle.roster_run.specs.Run.{IsFaultLine, IsProblemAnswer, IsProblemRefusal, IsProblemReport}
+use Rattle.roster_run.proofs.IsAnswer.{no_fault}
+
+-- ---- what is written
+
+pub Writes-weaker : (P Q : List ℕ → Type 0) (old new : Option (List ℕ)) → ((text : List ℕ) → P text → Q text) → Writes P old new → Writes Q old new
+Writes-weaker P Q old new more w = (w.0, more w.0 w.1, w.2)
+
+pub WritesPart-weaker : (P Q : List ℕ → Type 0) (old new : Option (List ℕ)) → ((text : List ℕ) → P text → Q text) → WritesPart P old new → WritesPart Q old new
+WritesPart-weaker P Q old new more w = (w.0, more w.0 w.1, w.2)
+
+pub IfSome-weaker : {X : Type 0} (P Q : X → Type 0) (told : Option X) → ((x : X) → P x → Q x) → IfSome told P → IfSome told Q
+IfSome-weaker P Q None more h = tt
+IfSome-weaker P Q (Some x) more h = more x h
+
+-- ---- from a problem to its book
+
+pub report_of_book : (command : Command) (records : List Record) (book : Book) → IsBookOf command records book → (text : List ℕ) → IsProblemReport command book.problem book.assigned text → IsReport command records text
+report_of_book command records book is text p =
+    let problem = is.problem_is in
+    record {
+      faultless = no_fault command records is.faultless (subst (λ tables. (fault : Fault) → ¬ IsProblemFault command tables fault) problem p.faultless);
+      reports = subst (λ tables. Reports command tables (assigned_in records) text) problem (subst (λ places. Reports command book.problem places text) is.assigned_is p.reports);
+    }
+
+pub refusal_of_book : (command : Command) (records : List Record) (book : Book) → IsBookOf command records book → (text : List ℕ) → IsProblemRefusal command book.problem text → IsRefusal command records text
+refusal_of_book command records book is text p = record {
+  fault = p.fault;
+  first = inr (record { faultless = is.faultless; later = subst (λ tables. IsProblemFault command tables p.fault) is.problem_is p.told });
+  written = p.written;
+}
+
+pub answer_of_book : (command : Command) (records : List Record) (book : Book) → IsBookOf command records book → (text : List ℕ) → IsProblemAnswer command book.problem book.assigned text → IsAnswer command records text
+answer_of_book command records book is text (inl p) = inl (refusal_of_book command records book is text p)
+answer_of_book command records book is text (inr p) = inr (report_of_book command records book is text p)
+
+-- ---- the line of a fault
+
+pub refusal_of_record : (command : Command) (records : List Record) (row code : ℕ) → first_fault command records ≡ Some (record { row = row; code = code }) → (text : List ℕ) → IsFaultLine row code text → IsRefusal command records text
+refusal_of_record command records row code first text line = record {
+  fault = record { row = row; code = code };
+  first = inl first;
+  written = line;
+}
+
+pub refusal_of_crowd : (problem : Problem) (k : ℕ) (person : Person) (code : ℕ) → IsFirstCrowded problem k → slice_get problem.persons k ≡ Some person → code ≡ number_of_code TooManyLines → (text : List ℕ) → IsFaultLine person.row code text → IsProblemRefusal Solve problem text
+refusal_of_crowd problem k person code crowded there number text line = record {
+  fault = record { row = person.row; code = code };
+  told = record {
+    k = k;
+    person = person;
+    there = there;
+    crowded = crowded;
+    told = ap (λ (n : ℕ). let fault : Fault = record { row = person.row; code = n } in fault) number;
+  };
+  written = line;
+}
