@@ -102,14 +102,6 @@ IsTableOf-push costs table room cost is same person pairing none within = record
   ];
 }
 
--- the same units, and so a table of the same costs
-pub IsTableOf-same : (costs : List Cost) (table room : List (Option ℤ)) → IsTableOf costs table → ((i : ℕ) → get_or room i None ≡ get_or table i None) → IsTableOf costs room
-IsTableOf-same costs table room is same = record {
-  persons = is.persons;
-  pairings = is.pairings;
-  each = λ k p l. same (k * MOST_PAIRINGS + p) ∙ is.each k p l;
-}
-
 -- ---- the amounts
 
 -- where no units are beyond their limit, those of a pair aren't
