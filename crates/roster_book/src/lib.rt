@@ -1,7 +1,8 @@
 //! From bytes to the problem of a book, or to its first fault, on `csv`.
 //!
 //! `read_book` reads records until their end or their first fault, and answers the problem of the
-//! book or that fault. Values are those of `roster_problem`, given again here. In reading order:
+//! book with the roster that its assignments give, or that fault. Values are those of
+//! `roster_problem`, given again here. In reading order:
 //!
 //! - `command`: what the program is asked to do
 //! - `code`: what may be wrong with a record

@@ -101,11 +101,3 @@ IsTableOf-push costs table room cost is same person pairing none within = record
         ∙ same (k * MOST_PAIRINGS + p) ∙ is.each k p l ∙ sym (given_other costs cost k p (other_cost cost k p apart))
   ];
 }
-
--- the same units, and so a table of the same costs
-pub IsTableOf-same : (costs : List Cost) (table room : List (Option ℤ)) → IsTableOf costs table → ((i : ℕ) → get_or room i None ≡ get_or table i None) → IsTableOf costs room
-IsTableOf-same costs table room is same = record {
-  persons = is.persons;
-  pairings = is.pairings;
-  each = λ k p l. same (k * MOST_PAIRINGS + p) ∙ is.each k p l;
-}

@@ -1,6 +1,6 @@
 //! Costs by person and pairing.
 
-ghost use Rattle.std.specs.Prelude.{◌≡◌, ◌<◌, ◌++◌, ◌∷◌, [], ℕ, None, OnOk, length, slice_index_or};
+ghost use Rattle.std.specs.Prelude.{◌≡◌, ◌*◌, ◌<◌, ◌++◌, ◌∷◌, [], ℕ, None, OnErr, OnOk, length, slice_index_or};
 ghost use Rattle.roster_model.specs.records.Cost.{units_given};
 
 use crate::cost::Cost;
@@ -66,7 +66,8 @@ impl Costs {
         requires person { cost.person < MOST_PERSONS }
         requires pairing { cost.pairing < MOST_PAIRINGS }
         requires once { units_given self.old cost.person cost.pairing ≡ None }
-        ensures { OnOk result (self.new ≡ self.old ++ cost ∷ []) }
+        ensures behind { OnOk result (self.new ≡ self.old ++ cost ∷ []) }
+        ensures same { OnErr result (self.new ≡ self.old) }
     {
         let place = cost.person * MOST_PAIRINGS + cost.pairing;
         let units = cost.units;
@@ -79,7 +80,7 @@ impl Costs {
 
 // Makes the table long enough to have the place. What it has doesn't change.
 fn make_room(table: &mut Vec<Option<i32>>, place: usize) -> Result<(), AllocError>
-    requires { place < u32.MAX }
+    requires { place < MOST_PERSONS * MOST_PAIRINGS }
     ensures same { (i : ℕ) → slice_index_or table.new.items i None
         ≡ slice_index_or table.old.items i None }
     ensures room { OnOk result (place < length table.new.items) }

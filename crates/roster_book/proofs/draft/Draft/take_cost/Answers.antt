@@ -30,4 +30,4 @@ returns-in_err-push c = λ command row before d k.
 pub returns : goal.returns
 returns c = λ command row before d k.
     let judged = c.in_ok-cost.ensures.judged command row before d in
-    rw (c.in_ok-push.ensures, judged.1) (IsDraftOf-append command row CostRecord before (fields_of c.args.fields.now) (contents_of c.args.self.now) d (sym k) judged.0)
+    rw (c.in_ok-push.ensures.behind, judged.1) (IsDraftOf-append command row CostRecord before (fields_of c.args.fields.now) (contents_of c.args.self.now) d (sym k) judged.0)
