@@ -1,6 +1,6 @@
 -- What is answered to a book, where it was answered to its problem.
 use Rattle.std.proofs.Common.{◌≡◌, ◌⊎◌, ℕ, ◌<◌, List, Option, Some, None, refl, sym, ap, ◌∙◌, subst, inl, inr}
-use Rattle.std.specs.Prelude.{IfSome, slice_get}
+use Rattle.std.specs.Prelude.{IfSome, IsErrOf, OnOk, Result, Ok, Err, slice_get}
 use Rattle.roster_book.specs.Reading.{IsBookOf}
 use Rattle.roster_book.specs.declared.book.Book.{Book}
 use Rattle.roster_model.specs.Answer.{IsAnswer, IsCrowdedFault, IsFirstFault, IsProblemFault, IsRefusal, IsReport, Reports}
@@ -12,7 +12,10 @@ use Rattle.roster_model.specs.Record.{Command, Record, Solve}
 use Rattle.roster_model.specs.records.Assign.{assigned_in}
 use Rattle.roster_model.specs.records.Crew.{Person}
 use Rattle.roster_report.specs.Writing.{Writes, WritesPart}
-use Rattle.roster_run.specs.Run.{IsFaultLine, IsProblemAnswer, IsProblemRefusal, IsProblemReport}
+use Rattle.roster_report.specs.declared.fault.TextFault.{TextFault}
+use Rattle.roster_report.specs.declared.fault.TextFault.TheVariants as faults
+use Rattle.roster_run.specs.Run.{IsFaultLine, IsProblemAnswer, IsProblemRefusal, IsProblemReport, status_of}
+use Rattle.roster_run.specs.declared.status.Status.TheVariants as statuses
 use Rattle.roster_run.proofs.IsAnswer.{no_fault}
 
 -- ---- what is written
@@ -69,3 +72,23 @@ refusal_of_crowd problem k person code crowded there number text line = record {
   };
   written = line;
 }
+
+-- ---- how a run ends that wrote a report
+
+pub written_where_answered : (result : Result Unit TextFault) (Written : Type 0) → status_of result ≡ statuses.Answered → OnOk result Written → Written
+written_where_answered (Ok done) Written answered written = written
+written_where_answered (Err faults.Memory) Written answered written =
+    let apart : statuses.Memory ≡ statuses.Answered = answered in
+    absurd cc
+written_where_answered (Err faults.Device) Written answered written =
+    let apart : statuses.WriteFailed ≡ statuses.Answered = answered in
+    absurd cc
+
+pub part_where_failed : (result : Result Unit TextFault) (Part : Type 0) → status_of result ≡ statuses.WriteFailed → (IsErrOf result faults.Device → Part) → Part
+part_where_failed (Ok done) Part failed part =
+    let apart : statuses.Answered ≡ statuses.WriteFailed = failed in
+    absurd cc
+part_where_failed (Err faults.Memory) Part failed part =
+    let apart : statuses.Memory ≡ statuses.WriteFailed = failed in
+    absurd cc
+part_where_failed (Err faults.Device) Part failed part = part refl

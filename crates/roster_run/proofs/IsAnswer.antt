@@ -36,11 +36,7 @@ same_crowded_fault problem a b p q =
     let person : p.person ≡ q.person = same_Some p.person q.person (sym p.there ∙ ap (slice_get problem.persons) same ∙ q.there) in
     p.told ∙ ap (λ (person : Person). fault_at person.row TooManyLines) person ∙ sym q.told
 
-same_-- any person
-somebody : Person
-somebody = record { id = []; base = 0; target = 0; year = 0; eleven = 0; row = 0 }
-
-problem_fault : (command : Command) (problem : Problem) (a b : Fault) → IsProblemFault command problem a → IsProblemFault command problem b → a ≡ b
+same_problem_fault : (command : Command) (problem : Problem) (a b : Fault) → IsProblemFault command problem a → IsProblemFault command problem b → a ≡ b
 same_problem_fault Solve problem a b p q = same_crowded_fault problem a b p q
 same_problem_fault Check problem a b p q = absurd p
 
@@ -103,6 +99,10 @@ crowded_before problem (suc n) none =
           none (inr (λ k within crowded.
           none (inl (k, within, crowded, λ j earlier. few j (omega arith)))))
     ])
+
+-- any person
+somebody : Person
+somebody = record { id = []; base = 0; target = 0; year = 0; eleven = 0; row = 0 }
 
 problem_fault : (command : Command) (problem : Problem) → ¬ ¬ (((fault : Fault) × IsProblemFault command problem fault) ⊎ ((fault : Fault) → ¬ IsProblemFault command problem fault))
 problem_fault Solve problem none =
