@@ -1,13 +1,13 @@
 -- Every problem has a best roster: the search of the code, told of what a rule says and not of what a
 -- test answers. Whether a list is legal is decided under a double negation alone.
-use Rattle.std.proofs.Common.{◌≡◌, ℕ, zero, suc, ◌+◌, ◌<◌, ◌⊎◌, true, List, [], ◌∷◌, ◌++◌, length, get_or, take, replicate, ap, ap₂, refl, sym, ◌∙◌, subst, inl, inr, arith}
+use Rattle.std.proofs.Common.{◌≡◌, ℕ, zero, suc, ◌+◌, ◌<◌, ◌⊎◌, List, [], ◌∷◌, ◌++◌, length, get_or, take, replicate, ap₂, refl, sym, ◌∙◌, inl, inr, arith}
 use Rattle.std.proofs.lemmas.Bool.{cases_Bool, cases_lt}
 use Rattle.std.proofs.lemmas.List.{take_more, take_all, length-append}
 use Rattle.roster_model.specs.Problem.{Problem}
 use Rattle.roster_model.specs.Costs.{cost_of}
 use Rattle.roster_model.specs.Rosters.{IsLegalRoster, IsBest, Key, key_of, key_le}
 use Rattle.roster_combine.specs.Settled.{IsHeld, Settles}
-use Rattle.roster_combine.proofs.Settles.{Settles-nothing, Settles-then, Settles-taken, Settles-left, Settles-illegal}
+use Rattle.roster_combine.proofs.Settles.{Settles-nothing, Settles-then, Settles-taken, Settles-left, Settles-illegal, Settles-all}
 use Rattle.roster_combine.proofs.AllOpen.{all_open_legal}
 
 -- there can't but be a key that settles the region
@@ -75,18 +75,9 @@ settle_front problem (suc n) front whole old held =
     (λ mid keeps none. none (mid, Settles-nothing problem NoOther mid keeps (λ _ no. no)))
     (λ others legal begins. inl (begins, let most = legal.numbers (length front) 0 (omega (arith, within, legal.covers)) in omega (arith, most)))
 
--- the roster whose key settles all lists
-best_from : (problem : Problem) (old new : Key) → Settles problem (BeginsWith []) old new → IsBest problem new.places
-best_from problem old new settled =
-    let key : new ≡ key_of problem new.places = ap (λ z. let k : Key = record { cost = z; places = new.places } in k) settled.held.cost in
-    record {
-      is_legal = settled.held.legal;
-      least = λ others legal. subst (λ k. key_le k (key_of problem others) ≡ true) key (settled.least others legal refl);
-    }
-
 pub best_exists : (problem : Problem) → ¬ ¬ ((places : List ℕ) × IsBest problem places)
 best_exists problem none =
     let start : List ℕ = replicate (length problem.pairings) (length problem.persons) in
     let held : IsHeld problem (key_of problem start) = record { legal = all_open_legal problem; cost = refl } in
     settle_front problem (length problem.pairings) [] (omega arith) (key_of problem start) held
-    (λ found. none (found.0.places, best_from problem (key_of problem start) found.0 found.1))
+    (λ found. none (found.0.places, Settles-all problem (BeginsWith []) (key_of problem start) found.0 found.1 (λ others. refl)))

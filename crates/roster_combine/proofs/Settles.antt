@@ -3,7 +3,7 @@ use Rattle.std.proofs.Common.{◌≡◌, ℕ, ◌+◌, ◌<◌, ◌⊎◌, true,
 use Rattle.std.proofs.lemmas.List.{take_more, take_more_set, take-take}
 use Rattle.roster_model.specs.Problem.{Problem}
 use Rattle.roster_model.specs.Costs.{cost_of}
-use Rattle.roster_model.specs.Rosters.{IsLegalRoster, Key, key_of, key_le}
+use Rattle.roster_model.specs.Rosters.{IsBest, IsLegalRoster, Key, key_of, key_le}
 use Rattle.roster_combine.specs.Settled.{IsHeld, Settles}
 use Rattle.roster_model.proofs.KeyLemmas.{key_le-refl, key_le-trans, key_le-other}
 
@@ -34,6 +34,15 @@ Settles-then problem First Second Both old mid new first second covers = record 
         | inr now ↦ second.least others legal now
       ];
 }
+
+-- where the region has all lists, the key is that of the best roster
+pub Settles-all : (problem : Problem) (Region : List ℕ → Type 0) (old new : Key) → Settles problem Region old new → ((others : List ℕ) → Region others) → IsBest problem new.places
+Settles-all problem Region old new settled all =
+    let key : new ≡ key_of problem new.places = ap (λ z. let k : Key = record { cost = z; places = new.places } in k) settled.held.cost in
+    record {
+      is_legal = settled.held.legal;
+      least = λ others legal. subst (λ k. key_le k (key_of problem others) ≡ true) key (settled.least others legal (all others));
+    }
 
 -- one legal roster that comes before the one held
 pub Settles-taken : (problem : Problem) (old : Key) (cost : ℤ) (places taken : List ℕ) → cost ≡ cost_of problem places → taken ≡ places → IsLegalRoster problem places → key_le old (record { cost = cost; places = places }) ≡ false → Settles problem (λ others. others ≡ places) old (record { cost = cost; places = taken })

@@ -1,22 +1,21 @@
 -- What a walk of lines settles: at its end one roster, and else one line after another of the next
 -- person.
-use Rattle.std.proofs.Common.{◌≡◌, ℕ, ◌+◌, ◌<◌, ◌≤◌, ◌⊎◌, true, List, [], length, map, get_or, Some, refl, sym, ap, ◌∙◌, subst, inl, inr, arith}
-use Rattle.std.specs.Prelude.{All, slice_get, slice_index_or}
+use Rattle.std.proofs.Common.{◌≡◌, ℕ, ◌+◌, ◌<◌, ◌⊎◌, true, List, [], length, get_or, Some, refl, sym, ◌∙◌, subst, inl, inr, arith}
+use Rattle.std.specs.Prelude.{All, slice_get}
 use Rattle.std.proofs.lemmas.Bool.{cases_lt}
 use Rattle.std.proofs.lemmas.List.{length-map}
-use Rattle.std.proofs.lemmas.List.Elements.{All-weaker}
 use Rattle.std.proofs.lemmas.Option.{same_Some, slice_get_within, slice_get-get_or, slice_get-map, get_or_from_slice_get}
 use Rattle.roster_model.specs.Problem.{Problem}
 use Rattle.roster_model.specs.Rules.{is_among}
 use Rattle.roster_model.specs.Places.{set_of, open_number}
 use Rattle.roster_model.specs.Lines.{AreLines, IsLine}
 use Rattle.roster_model.specs.Rosters.{IsLegalRoster, Key}
-use Rattle.roster_model.proofs.PlacesParts.{in_set_of_number, number_from_set_of, same_number, same_places}
+use Rattle.roster_model.proofs.PlacesParts.{number_from_set_of, same_number, same_places}
 use Rattle.roster_model.proofs.SetLemmas.{All-from_is_among, All-is_among, Ascends-set_of, places_of_number, rising_from_Ascends}
 use Rattle.roster_lines.specs.Entries.{Entry, sets_of}
 use Rattle.roster_lines.specs.Person.{lines_at, IsTableOf}
 use Rattle.roster_combine.specs.Settled.{IsHeld, Settles}
-use Rattle.roster_combine.specs.Walk.{AgreeBefore, IsPut, IsWalkedTo}
+use Rattle.roster_combine.specs.Walk.{AgreeBefore, IsWalkedTo}
 use Rattle.roster_combine.proofs.Put.{GivesLine, Throughout, given_set, kept_set}
 use Rattle.roster_combine.proofs.Settles.{Settles-nothing, Settles-then, Settles-within}
 

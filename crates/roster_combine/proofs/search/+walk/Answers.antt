@@ -1,16 +1,13 @@
-use Rattle.std.proofs.Common.{◌≡◌, ℕ, ◌+◌, ◌<◌, ◌≤◌, List, length, refl, sym, ap, ◌∙◌, subst, arith}
+use Rattle.std.proofs.Common.{◌≡◌, ℕ, ◌+◌, ◌<◌, ◌≤◌, length, refl, sym, ap, ◌∙◌, subst, arith}
 use Rattle.std.proofs.lemmas.Bool.{both_ways}
 use Rattle.std.proofs.lemmas.List.{length-map}
 use Rattle.std.specs.Prelude.{All}
-use Rattle.roster_model.specs.Problem.{Problem}
 use Rattle.roster_model.specs.Places.{open_number}
-use Rattle.roster_model.specs.Lines.{IsLine}
-use Rattle.roster_model.specs.Rosters.{Key}
 use Rattle.roster_lines.specs.Entries.{sets_of}
 use Rattle.roster_lines.specs.Person.{lines_at}
 use Rattle.roster_combine.specs.Settled.{Settles}
 use Rattle.roster_combine.specs.Walk.{AgreeBefore, IsPut, IsWalkedTo}
-use Rattle.roster_combine.proofs.Put.{GivesLine, Throughout, given_again, put_back, walked_on}
+use Rattle.roster_combine.proofs.Put.{Throughout, given_again, put_back, walked_on}
 use Rattle.roster_combine.proofs.Walk.{Tried, line_in_table, lines_in_table, settled_at_end, tried_all, tried_given, tried_left, tried_none}
 use Rattle.roster_combine.proofs.search.+walk.Goals as goal
 use Rattle.roster_combine.proofs.search.+walk.Goals.{then-has_throughout, else-has_throughout}
