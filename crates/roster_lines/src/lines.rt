@@ -88,8 +88,8 @@ impl Lines {
         self.lines[i].cost
     }
 
-    /// What line `i` goes on from, which isn't the empty one: the number of an earlier line, and the
-    /// pairing that it has behind that line's.
+    /// Of line `i`, which isn't the empty one, the number of the line that it goes on from, and its last
+    /// pairing.
     pub fn parent_and_last(&self, i: usize) -> (usize, usize)
         requires inside { i < length self.now }
         requires later { 0 < i }
