@@ -1,14 +1,16 @@
 -- The nodes of a listing: what may stand behind a line.
-use Rattle.std.proofs.Common.{◌≡◌, ℕ, ◌+◌, ◌<◌, true, ◌⊎◌, ◌&&◌, List, [], ◌∷◌, ◌++◌, length, refl, sym, ap, ◌∙◌, subst, inl, inr, arith}
+use Rattle.std.proofs.Common.{◌≡◌, ℕ, ◌+◌, ◌<◌, true, false, ◌⊎◌, ◌&&◌, List, [], ◌∷◌, ◌++◌, length, pos, refl, sym, ap, ◌∙◌, subst, inl, inr, arith}
 use Rattle.std.specs.Prelude.{All}
-use Rattle.std.proofs.lemmas.Bool.{and_from, and_parts, eqb-true, or_cases, or_left, or_right, false≢true}
+use Rattle.std.proofs.lemmas.Bool.{and_from, and_parts, eqb-true, or_cases, or_left, or_right, false≢true, false_from_ne_true}
 use Rattle.std.proofs.lemmas.List.{length_push, nil_from_length}
 use Rattle.std.proofs.lemmas.List.Elements.{All-nil, All-cons, All-head, All-push}
+use Rattle.roster_model.specs.Costs.{flight_of, total}
 use Rattle.roster_model.specs.Lines.{IsLine}
-use Rattle.roster_model.specs.Problem.{Problem}
+use Rattle.roster_model.specs.Problem.{Problem, units_of}
 use Rattle.roster_model.specs.Rules.{is_among, IsLegal}
+use Rattle.roster_model.proofs.CostLemmas.{total-nil}
 use Rattle.roster_model.proofs.SetLemmas.{Ascends, Ascends-from_rising, Ascends-push, rising_from_Ascends, is_among-append, is_among-here, All-is_among, All-from_is_among}
-use Rattle.roster_lines.specs.declared.extend.Node.{Node}
+use Rattle.roster_lines.specs.declared.node.Node.{Node}
 use Rattle.roster_lines.specs.Listing.{AreAlone, ArePartsLegal, AreTogether, IsNode, IsRow}
 
 -- ---- the front of a set, and what is behind
@@ -41,6 +43,11 @@ IsLine-empty problem k = record {
   places = All-nil (λ p. p < length problem.pairings);
   legal = inl refl;
 }
+
+-- what is behind the pairings of a set isn't one of them
+pub none_behind : (p : ℕ) (set : List ℕ) → All (λ q. q < p) set → is_among set p ≡ false
+none_behind p set before =
+    false_from_ne_true _ (λ h. let here : p < p = All-is_among (λ q. q < p) set p before h in omega arith)
 
 -- a candidate behind its node, where the two are legal
 pub IsLine-with : (problem : Problem) (k : ℕ) (node : Node) (p : ℕ) → IsNode problem k node → is_among node.candidates p ≡ true → IsLegal problem k (node.set ++ p ∷ []) → IsLine problem k (node.set ++ p ∷ [])
@@ -99,13 +106,15 @@ module _ (problem : Problem) (k : ℕ) (legal : ArePartsLegal problem k) where
   no_line_behind front p none rest line = none (IsLine-up_to front p rest line)
 
   -- the node of a candidate
-  pub IsNode-below : (node below : Node) (p : ℕ) (row : List ℕ) → IsNode problem k node → is_among node.candidates p ≡ true → IsRow problem k p row → below.set ≡ node.set ++ p ∷ [] → below.depth ≡ node.depth + 1 → ((q : ℕ) → is_among below.candidates q ≡ (is_among node.candidates q && is_among row q)) → IsLine problem k below.set → IsNode problem k below
-  IsNode-below node below p row is here is_row set depth both line =
+  pub IsNode-below : (node below : Node) (p : ℕ) (row : List ℕ) → IsNode problem k node → is_among node.candidates p ≡ true → IsRow problem k p row → below.set ≡ node.set ++ p ∷ [] → below.depth ≡ node.depth + 1 → ((q : ℕ) → is_among below.candidates q ≡ (is_among node.candidates q && is_among row q)) → below.units ≡ total (units_of problem k) below.set → below.flight ≡ flight_of problem k below.set → IsLine problem k below.set → IsNode problem k below
+  IsNode-below node below p row is here is_row set depth both units flight line =
       let parts = λ (q : ℕ) (h : is_among below.candidates q ≡ true). and_parts (is_among node.candidates q) (is_among row q) (sym (both q) ∙ h) in
       let long : length below.set ≡ length node.set + 1 = ap length set ∙ length_push node.set p in
       record {
         line = line;
         depth = depth ∙ ap (λ n. n + 1) is.depth ∙ sym long;
+        units = units;
+        flight = flight;
         places = λ q h. is.places q (parts q h).0;
         behind = λ q h.
             let pair = (is_row q).0 (parts q h).1 in
@@ -121,10 +130,12 @@ module _ (problem : Problem) (k : ℕ) (legal : ArePartsLegal problem k) where
       }
 
   -- the node of the empty line
-  pub IsNode-root : (alone : List ℕ) → AreAlone problem k alone → IsNode problem k (record { set = []; number = 0; depth = 0; candidates = alone })
-  IsNode-root alone is = record {
+  pub IsNode-root : (alone : List ℕ) (flight : ℕ) → AreAlone problem k alone → flight ≡ flight_of problem k [] → IsNode problem k (record { set = []; number = 0; depth = 0; candidates = alone; units = pos 0; flight = flight })
+  IsNode-root alone flight is flown = record {
     line = IsLine-empty problem k;
     depth = refl;
+    units = sym (total-nil (units_of problem k));
+    flight = flown;
     places = λ p h. ((is p).0 h).0;
     behind = λ p h. All-nil (λ q. q < p);
     known = λ few p h. ((is p).0 h).1;

@@ -9,7 +9,7 @@ use Rattle.roster_model.specs.Lines.{AreLines, AreOrdered, IsCrowded, IsLine}
 use Rattle.roster_model.specs.Problem.{Problem}
 use Rattle.roster_model.proofs.PlacesOrder.{places_le-refl}
 use Rattle.roster_lines.specs.Entries.{Entry, sets_of}
-use Rattle.roster_lines.specs.Person.{IsTableOf}
+use Rattle.roster_lines.specs.Person.{AreCosted, IsTableOf}
 use Rattle.roster_lines.proofs.Cuts.{one_place, ordered_at, still_before}
 use Rattle.roster_lines.proofs.TreeLemmas.{length-sets_of}
 
@@ -82,7 +82,7 @@ nobody_crowded problem table k is person =
     let lines = is.sets.each k (sets_of (get_or table k none)) (slice_get-map sets_of table k ∙ rw there refl) in
     not_crowded problem k _ lines (omega (arith, length-sets_of (get_or table k none), is.few k none inside))
 
-pub IsTableOf-each : (problem : Problem) (table : List (List Entry)) → length table ≡ length problem.persons → ((j : ℕ) (lines : List Entry) → slice_get table j ≡ Some lines → AreLines problem j (sets_of lines) × (length lines ≤ MOST_LINES)) → IsTableOf problem table
+pub IsTableOf-each : (problem : Problem) (table : List (List Entry)) → length table ≡ length problem.persons → ((j : ℕ) (lines : List Entry) → slice_get table j ≡ Some lines → AreLines problem j (sets_of lines) × AreCosted problem j lines × (length lines ≤ MOST_LINES)) → IsTableOf problem table
 IsTableOf-each problem table covers each =
     let none : List Entry = [] in
     record {
@@ -94,5 +94,6 @@ IsTableOf-each problem table covers each =
             let same = same_Some _ _ (sym (slice_get-map sets_of table k ∙ rw there refl) ∙ at) in
             subst (AreLines problem k) same (each k (get_or table k none) there).0;
       };
-      few = λ k d inside. (each k (get_or table k d) (slice_get-get_or table k d inside)).1;
+      costs = λ k lines at. (each k lines at).1;
+      few = λ k d inside. (each k (get_or table k d) (slice_get-get_or table k d inside)).2;
     }

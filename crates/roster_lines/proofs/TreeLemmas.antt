@@ -1,18 +1,18 @@
 -- The entries of some lines, one line after another.
-use Rattle.std.proofs.Common.{◌≡◌, ℕ, zero, suc, ◌+◌, ◌<◌, false, List, [], ◌∷◌, ◌++◌, length, get_or, Some, refl, sym, ap, ◌∙◌, subst, inl, inr, arith}
-use Rattle.std.specs.Prelude.{All, slice_get}
+use Rattle.std.proofs.Common.{◌≡◌, ℕ, zero, suc, ◌+◌, ◌<◌, false, List, [], ◌∷◌, ◌++◌, length, get_or, map, Some, refl, sym, ap, ◌∙◌, subst, inl, inr, arith, append-nil}
+use Rattle.std.specs.Prelude.{All, option_map, slice_get}
 use Rattle.std.specs.List.Sorted.{IsStrictlyIncreasing}
 use Rattle.std.proofs.lemmas.Bool.{cases_lt}
-use Rattle.std.proofs.lemmas.List.{map-append, length-map, length_push, get_or_append_left, get_or_push}
+use Rattle.std.proofs.lemmas.List.{append_assoc, map-append, length-map, length_push, get_or_append_left, get_or_push}
 use Rattle.std.proofs.lemmas.List.Elements.{All-cons, All-nil, All-push}
 use Rattle.std.proofs.lemmas.List.Quantifiers.{all_pairs_push}
-use Rattle.std.proofs.lemmas.Option.{none-some, same_Some, slice_get_within, slice_get-get_or, get_or_from_slice_get}
+use Rattle.std.proofs.lemmas.Option.{none-some, same_Some, slice_get_within, slice_get-get_or, slice_get-map, get_or_from_slice_get}
 use Rattle.roster_model.specs.declared.limits.TheConstants.{MOST_LINES, MOST_PAIRINGS}
 use Rattle.roster_model.specs.Lines.{AreOrdered}
 use Rattle.roster_model.specs.Places.{places_le}
 use Rattle.roster_model.proofs.SetLemmas.{Ascends-from_rising, Ascends-push, rising_from_Ascends}
 use Rattle.roster_lines.specs.declared.lines.Line.{Line}
-use Rattle.roster_lines.specs.Entries.{Entry, entry_of, longer, set_at, sets_of}
+use Rattle.roster_lines.specs.Entries.{Entry, costs_of, entry_of, longer, set_at, sets_of}
 use Rattle.roster_lines.specs.Tree.{entries_from, entries_in, next_set, IsTree}
 
 -- ---- one entry more
@@ -42,7 +42,7 @@ length-entries_from : (entries : List Entry) (lines : List Line) → length (ent
 unfolding entries_from
 length-entries_from entries [] = omega arith
 length-entries_from entries (line ∷ lines) =
-    let entry : Entry = entry_of (next_set entries line) in
+    let entry : Entry = entry_of (next_set entries line) line.cost in
     let more : length (entries ++ entry ∷ []) ≡ length entries + 1 = length_push entries entry in
     let rest = length-entries_from (entries ++ entry ∷ []) lines in
     omega (arith, rest)
@@ -51,7 +51,7 @@ set_at-kept : (entries : List Entry) (lines : List Line) (i : ℕ) → i < lengt
 unfolding entries_from
 set_at-kept entries [] i inside = refl
 set_at-kept entries (line ∷ lines) i inside =
-    let entry : Entry = entry_of (next_set entries line) in
+    let entry : Entry = entry_of (next_set entries line) line.cost in
     set_at-kept (entries ++ entry ∷ []) lines i (omega (arith, length_push entries entry)) ∙ set_at-push entries entry i inside
 
 pub next_set-some : (entries : List Entry) (line : Line) → 0 < length entries → next_set entries line ≡ longer entries line.parent line.last
@@ -62,7 +62,7 @@ set_at-line : (entries : List Entry) (lines : List Line) (i j : ℕ) (line : Lin
 unfolding entries_from
 set_at-line entries [] i j line at place some before = absurd (none-some _ at)
 set_at-line entries (first ∷ lines) zero j line at place some before =
-    let entry : Entry = entry_of (next_set entries first) in
+    let entry : Entry = entry_of (next_set entries first) first.cost in
     let long : length (entries ++ entry ∷ []) ≡ length entries + 1 = length_push entries entry in
     let here : length entries ≡ j = omega arith in
     let same : first ≡ line = same_Some first line at in
@@ -75,14 +75,23 @@ set_at-line entries (first ∷ lines) zero j line at place some before =
     ∙ next_set-some entries line (omega arith)
     ∙ ap (λ set. set ++ line.last ∷ []) (sym parent)
 set_at-line entries (first ∷ lines) (suc i) j line at place some before =
-    let entry : Entry = entry_of (next_set entries first) in
+    let entry : Entry = entry_of (next_set entries first) first.cost in
     let long : length (entries ++ entry ∷ []) ≡ length entries + 1 = length_push entries entry in
     set_at-line (entries ++ entry ∷ []) lines i j line at (omega arith) some before
 
-entries_from-push : (entries : List Entry) (lines : List Line) (line : Line) → entries_from entries (lines ++ line ∷ []) ≡ entries_from entries lines ++ entry_of (next_set (entries_from entries lines) line) ∷ []
+entries_from-push : (entries : List Entry) (lines : List Line) (line : Line) → entries_from entries (lines ++ line ∷ []) ≡ entries_from entries lines ++ entry_of (next_set (entries_from entries lines) line) line.cost ∷ []
 unfolding entries_from
 entries_from-push entries [] line = refl
-entries_from-push entries (first ∷ lines) line = entries_from-push (entries ++ entry_of (next_set entries first) ∷ []) lines line
+entries_from-push entries (first ∷ lines) line = entries_from-push (entries ++ entry_of (next_set entries first) first.cost ∷ []) lines line
+
+costs_from : (entries : List Entry) (lines : List Line) → costs_of (entries_from entries lines) ≡ costs_of entries ++ map (λ (l : Line). l.cost) lines
+unfolding entries_from
+costs_from entries [] = sym (append-nil (costs_of entries))
+costs_from entries (line ∷ lines) =
+    let entry : Entry = entry_of (next_set entries line) line.cost in
+    costs_from (entries ++ entry ∷ []) lines
+    ∙ ap (λ costs. costs ++ map (λ (l : Line). l.cost) lines) (map-append (λ (e : Entry). e.cost) entries (entry ∷ []))
+    ∙ append_assoc (costs_of entries) (line.cost ∷ []) (map (λ (l : Line). l.cost) lines)
 
 -- ---- all lines
 
@@ -93,18 +102,23 @@ length-entries_in lines = let long = length-entries_from [] lines in omega (arit
 pub set_at_first : (lines : List Line) → set_at (entries_in lines) 0 ≡ []
 unfolding entries_in entries_from
 set_at_first [] = refl
-set_at_first (line ∷ lines) = set_at-kept (entry_of [] ∷ []) lines 0 (omega arith)
+set_at_first (line ∷ lines) = set_at-kept (entry_of [] line.cost ∷ []) lines 0 (omega arith)
+
+pub cost_in : (lines : List Line) (i : ℕ) (line : Line) → slice_get lines i ≡ Some line → slice_get (costs_of (entries_in lines)) i ≡ Some line.cost
+unfolding entries_in
+cost_in lines i line at =
+    ap (λ costs. slice_get costs i) (costs_from [] lines) ∙ slice_get-map (λ (l : Line). l.cost) lines i ∙ ap (option_map (λ (l : Line). l.cost)) at
 
 -- the set of a line is its parent's with its last pairing behind
 pub set_at_later : (lines : List Line) (i : ℕ) (line : Line) → slice_get lines i ≡ Some line → 0 < i → line.parent < i → set_at (entries_in lines) i ≡ longer (entries_in lines) line.parent line.last
 unfolding entries_in
 set_at_later lines i line at later before = set_at-line [] lines i i line at (omega arith) later before
 
-pub entries_in-push : (lines : List Line) (line : Line) → 0 < length lines → entries_in (lines ++ line ∷ []) ≡ entries_in lines ++ entry_of (longer (entries_in lines) line.parent line.last) ∷ []
+pub entries_in-push : (lines : List Line) (line : Line) → 0 < length lines → entries_in (lines ++ line ∷ []) ≡ entries_in lines ++ entry_of (longer (entries_in lines) line.parent line.last) line.cost ∷ []
 unfolding entries_in
 entries_in-push lines line some =
     entries_from-push [] lines line
-    ∙ ap (λ set. entries_from [] lines ++ entry_of set ∷ []) (next_set-some (entries_from [] lines) line (let long = length-entries_from [] lines in omega (arith, long)))
+    ∙ ap (λ set. entries_from [] lines ++ entry_of set line.cost ∷ []) (next_set-some (entries_from [] lines) line (let long = length-entries_from [] lines in omega (arith, long)))
 
 -- ---- the tree
 
@@ -112,7 +126,7 @@ parents-first : (line : Line) (i : ℕ) (l : Line) → slice_get (line ∷ []) i
 parents-first line zero l at later = absurd (omega arith)
 parents-first line (suc i) l at later = absurd (none-some _ at)
 
-pub entries_in-first : (line : Line) → entries_in (line ∷ []) ≡ entry_of [] ∷ []
+pub entries_in-first : (line : Line) → entries_in (line ∷ []) ≡ entry_of [] line.cost ∷ []
 unfolding entries_in entries_from
 entries_in-first line = refl
 
@@ -149,7 +163,7 @@ IsTree-push lines line tree room parent last later before =
     let set : List ℕ = longer entries line.parent line.last in
     let long : length (sets_of entries) ≡ length lines = length-sets_of entries ∙ length-entries_in lines in
     let sets : sets_of (entries_in (lines ++ line ∷ [])) ≡ sets_of entries ++ set ∷ [] =
-    ap sets_of (entries_in-push lines line (omega arith)) ∙ sets_of-push entries (entry_of set) in
+    ap sets_of (entries_in-push lines line (omega arith)) ∙ sets_of-push entries (entry_of set line.cost) in
     let up = Ascends-from_rising (set_at entries line.parent) (tree.ascending line.parent [] (omega arith)) in
     record {
       parents = each-push (λ i (l : Line). 0 < i → l.parent < i) lines line tree.parents (λ later. parent);

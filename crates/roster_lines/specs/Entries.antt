@@ -1,17 +1,22 @@
 -- Lines as contracts see them.
-use Rattle.std.specs.Prelude.{◌≡◌, ℕ, ◌<◌, ◌≤◌, true, false, List, [], ◌∷◌, ◌++◌, Some, length, map, slice_get, slice_index_or}
+use Rattle.std.specs.Prelude.{◌≡◌, ℕ, ℤ, ◌<◌, ◌≤◌, true, false, List, [], ◌∷◌, ◌++◌, Some, length, map, slice_get, slice_index_or}
 use Rattle.roster_model.specs.Places.{places_le}
 
--- a line's set
+-- a line's set, and what it costs
 pub record Entry : Type 0 where
   pub set : List ℕ
+  pub cost : ℤ
 
-abbrev pub entry_of : List ℕ → Entry
-entry_of set = record { set = set }
+abbrev pub entry_of : List ℕ → ℤ → Entry
+entry_of set cost = record { set = set; cost = cost }
 
 -- the sets of some lines
 abbrev pub sets_of : List Entry → List (List ℕ)
 sets_of entries = map (λ entry. entry.set) entries
+
+-- what they cost
+abbrev pub costs_of : List Entry → List ℤ
+costs_of entries = map (λ entry. entry.cost) entries
 
 -- the set of line i
 abbrev pub set_at : List Entry → ℕ → List ℕ

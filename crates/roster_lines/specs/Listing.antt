@@ -1,12 +1,14 @@
 -- What is kept while the lines of a person are listed.
-use Rattle.std.specs.Prelude.{◌≡◌, ℕ, ◌<◌, ◌↔◌, true, false, List, [], ◌∷◌, ◌++◌, Some, length, slice_get, All}
+use Rattle.std.specs.Prelude.{◌≡◌, ℕ, ◌<◌, ◌≤◌, ◌↔◌, true, false, List, [], ◌∷◌, ◌++◌, Some, length, slice_get, All}
+use Rattle.roster_model.specs.Costs.{flight_of, total}
 use Rattle.roster_model.specs.Lines.{AreSomeLines, IsCrowded, IsLine}
-use Rattle.roster_model.specs.Problem.{Problem}
+use Rattle.roster_model.specs.Problem.{Problem, units_of}
 use Rattle.roster_model.specs.Places.{places_le}
 use Rattle.roster_model.specs.Rules.{is_among, IsLegal}
+use Rattle.roster_cost.specs.Amounts.{minutes_of_pairing, most_flight}
 use Rattle.roster_lines.specs.declared.extend.LinesFault.{LinesFault}
 use Rattle.roster_lines.specs.declared.extend.LinesFault.TheVariants.{TooMany, Memory}
-use Rattle.roster_lines.specs.declared.extend.Node.{Node}
+use Rattle.roster_lines.specs.declared.node.Node.{Node}
 use Rattle.roster_lines.specs.declared.pairs.Pairs.{Pairs}
 
 -- why the lines of person k aren't listed
@@ -19,6 +21,10 @@ abbrev pub ArePartsLegal : Problem → ℕ → Type 0
 ArePartsLegal problem k =
     (set part : List ℕ) → ((p : ℕ) → is_among part p ≡ true → is_among set p ≡ true)
     → IsLegal problem k set → IsLegal problem k part
+
+-- no set gives person k more flight than there is by the limits of a book
+abbrev pub IsFlightWithin : Problem → ℕ → Type 0
+IsFlightWithin problem k = (set : List ℕ) → flight_of problem k set ≤ most_flight
 
 -- pairing q is a later one than p, and the two are legal together
 abbrev pub AreTogether : Problem → ℕ → ℕ → ℕ → Type 0
@@ -33,11 +39,17 @@ AreAlone problem k alone =
 abbrev pub IsRow : Problem → ℕ → ℕ → List ℕ → Type 0
 IsRow problem k p row = (q : ℕ) → (is_among row q ≡ true) ↔ AreTogether problem k p q
 
--- those that are legal alone, and the row of each pairing
+-- the flight of each pairing with person k
+pub record AreFlights (problem : Problem) (k : ℕ) (flights : List ℕ) : Type 0 where
+  pub covers : length flights ≡ length problem.pairings
+  pub each : (p minutes : ℕ) → slice_get flights p ≡ Some minutes → minutes ≡ minutes_of_pairing problem k p
+
+-- those that are legal alone, and the row and the flight of each pairing
 pub record ArePairs (problem : Problem) (k : ℕ) (pairs : Pairs) : Type 0 where
   pub alone : AreAlone problem k pairs.alone
   pub covers : length pairs.rows.items ≡ length problem.pairings
   pub rows : (p : ℕ) (row : List ℕ) → slice_get pairs.rows.items p ≡ Some row → IsRow problem k p row
+  pub flights : AreFlights problem k pairs.flights.items
 
 -- the sets are the lines of person k that stand before the mark
 pub record IsUpTo (problem : Problem) (k : ℕ) (mark : List ℕ) (sets : List (List ℕ)) : Type 0 where
@@ -45,11 +57,13 @@ pub record IsUpTo (problem : Problem) (k : ℕ) (mark : List ℕ) (sets : List (
   pub before : All (λ set. places_le mark set ≡ false) sets
   pub every : (set : List ℕ) → IsLine problem k set → places_le mark set ≡ false → (i : ℕ) × (slice_get sets i ≡ Some set)
 
--- The node is a line, and its candidates are pairings that may stand behind it: all that are behind it in
--- some line. Where it has one pairing or none, each of them makes a line with it.
+-- The node is a line with its units and flight, and its candidates are pairings that may stand behind it:
+-- all that are behind it in some line. Where it has one pairing or none, each of them makes a line with it.
 pub record IsNode (problem : Problem) (k : ℕ) (node : Node) : Type 0 where
   pub line : IsLine problem k node.set
   pub depth : node.depth ≡ length node.set
+  pub units : node.units ≡ total (units_of problem k) node.set
+  pub flight : node.flight ≡ flight_of problem k node.set
   pub places : (p : ℕ) → is_among node.candidates p ≡ true → p < length problem.pairings
   pub behind : (p : ℕ) → is_among node.candidates p ≡ true → All (λ q. q < p) node.set
   pub known : node.depth < 2 → (p : ℕ) → is_among node.candidates p ≡ true → IsLegal problem k (node.set ++ p ∷ [])

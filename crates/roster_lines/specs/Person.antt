@@ -1,15 +1,21 @@
--- The lines of all persons.
-use Rattle.std.specs.Prelude.{ℕ, ◌≤◌, List, [], length, map, slice_index_or, All}
+-- What lines cost, and the lines of all persons.
+use Rattle.std.specs.Prelude.{◌≡◌, ℕ, ◌≤◌, List, [], Some, length, map, slice_get, slice_index_or, All}
 use Rattle.roster_model.specs.declared.limits.TheConstants.{MOST_LINES}
+use Rattle.roster_model.specs.Costs.{line_cost}
 use Rattle.roster_model.specs.Lines.{AreTables}
 use Rattle.roster_model.specs.Problem.{Problem}
 use Rattle.roster_lines.specs.Entries.{Entry, sets_of}
+
+-- what each costs is what its set does with person k
+abbrev pub AreCosted : Problem → ℕ → List Entry → Type 0
+AreCosted problem k lines = All (λ entry. entry.cost ≡ line_cost problem k entry.set) lines
 
 -- the lines of person k
 abbrev pub lines_at : List (List Entry) → ℕ → List Entry
 lines_at table k = slice_index_or table k []
 
--- the table has the lines of each person, nobody's more than there may be
+-- the table has the lines of each person with what they cost, nobody's more than there may be
 pub record IsTableOf (problem : Problem) (table : List (List Entry)) : Type 0 where
   pub sets : AreTables problem (map sets_of table)
+  pub costs : (k : ℕ) (lines : List Entry) → slice_get table k ≡ Some lines → AreCosted problem k lines
   pub few : All (λ lines. length lines ≤ MOST_LINES) table

@@ -14,7 +14,7 @@ next_set (first ∷ entries) line = longer (first ∷ entries) line.parent line.
 -- the entries with those of more lines
 unfoldable pub entries_from : List Entry → List Line → List Entry
 entries_from entries [] = entries
-entries_from entries (line ∷ lines) = entries_from (entries ++ entry_of (next_set entries line) ∷ []) lines
+entries_from entries (line ∷ lines) = entries_from (entries ++ entry_of (next_set entries line) line.cost ∷ []) lines
 
 unfoldable pub entries_in : List Line → List Entry
 entries_in lines = entries_from [] lines

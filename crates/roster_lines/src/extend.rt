@@ -4,9 +4,11 @@ ghost use Rattle.std.specs.Prelude.{◌≡◌, ◌<◌, ◌≤◌, ◌++◌, ◌
 ghost use Rattle.roster_model.specs.Lines.{AreLines, IsLine};
 ghost use Rattle.roster_model.specs.Rules.{is_among};
 ghost use Rattle.roster_lines.specs.Entries.{sets_of};
-ghost use Rattle.roster_lines.specs.Listing.{ArePairs, ArePartsLegal, IsFaultOf, IsNode, IsUpTo};
+ghost use Rattle.roster_lines.specs.Listing.{ArePairs, ArePartsLegal, IsFaultOf, IsFlightWithin, IsNode, IsUpTo};
+ghost use Rattle.roster_lines.specs.Person.{AreCosted};
 
 use crate::lines::Lines;
+use crate::node::Node;
 use crate::pairs::{Pairs, pairs_of};
 use roster_legal::{Judge, part_of_legal_is_legal};
 use roster_model::limits::{MOST_LINES, MOST_PAIRINGS};
@@ -36,32 +38,19 @@ impl From<AllocError> for LinesFault {
     }
 }
 
-/// A line by its number, with the pairings that may stand behind its own.
-#[derive(Debug, Drop)]
-struct Node {
-    set: Set,
-    number: usize,
-    depth: usize,
-    candidates: Set,
-}
-
-/// All lines of person `k`, in their order.
+/// All lines of person `k`, in their order, with what they cost.
 pub fn lines_of(alloc: Global, problem: &Problem, k: usize) -> Result<Lines, LinesFault>
     requires { k < length problem.now.persons }
     ensures lines { IfOk result (λ lines. AreLines problem.now k (sets_of lines)) }
+    ensures costs { IfOk result (AreCosted problem.now k) }
     ensures few { IfOk result (λ lines. length lines ≤ MOST_LINES) }
     ensures fault { IfErr result (IsFaultOf problem.now k) }
 {
     parts_are_legal(problem);
     let mut judge = Judge::new(alloc, problem);
     let pairs = pairs_of(alloc, &mut judge, problem, k)?;
-    let mut lines = Lines::empty(alloc)?;
-    let root = Node {
-        set: Set::empty(),
-        number: 0,
-        depth: 0,
-        candidates: pairs.alone,
-    };
+    let root = Node::root(problem, k, pairs.alone);
+    let mut lines = Lines::empty(alloc, root.cost(problem, k))?;
     extend(&mut judge, problem, k, &pairs, &root, &mut lines)?;
     Ok(lines)
 }
@@ -78,12 +67,15 @@ fn extend(
     requires judge { judge.old ≡ problem.now }
     requires person { k < length problem.now.persons }
     requires parts { ArePartsLegal problem.now k }
+    requires flown { IsFlightWithin problem.now k }
     requires pairs { ArePairs problem.now k pairs.now }
     requires node { IsNode problem.now k node.now }
     requires number { slice_get (sets_of lines.old) node.now.number ≡ Some node.now.set }
     requires before { IsUpTo problem.now k (node.now.set ++ 0 ∷ []) (sets_of lines.old) }
+    requires costs { AreCosted problem.now k lines.old }
     ensures lines { OnOk result (IsUpTo problem.now k
         (node.now.set ++ length problem.now.pairings ∷ []) (sets_of lines.new)) }
+    ensures costs { OnOk result (AreCosted problem.now k lines.new) }
     ensures kept { OnOk result ((i : ℕ) (set : List ℕ)
         → slice_get (sets_of lines.old) i ≡ Some set
         → slice_get (sets_of lines.new) i ≡ Some set) }
@@ -96,12 +88,8 @@ fn extend(
             if lines.is_full() {
                 return Err(LinesFault::TooMany);
             }
-            let below = Node {
-                set,
-                number: lines.push(node.number, p)?,
-                depth: node.depth + 1,
-                candidates: node.candidates.and(&pairs.rows[p]),
-            };
+            let below = node.below(problem, k, pairs, p, set, lines.width());
+            lines.push(node.number, p, below.cost(problem, k))?;
             extend(judge, problem, k, pairs, &below, lines)?;
         }
         from = p + 1;

@@ -1,11 +1,12 @@
-//! Every line of each person: the legal sets of pairings, in order.
+//! Every line of each person: the legal sets of pairings, in order, and what each costs.
 //!
 //! `lines_of` lists the lines of one person, and `table_of` those of each. A line takes 16 bytes, since
-//! it says its last pairing and which line stands behind the earlier ones. In reading order:
+//! it says its cost, its last pairing and which line stands behind the earlier ones. In reading order:
 //!
 //! - `order`: which of two sets comes first
 //! - `lines`: the lines of a person, and how one of them is found
 //! - `pairs`: which pairings are legal alone, and which of those together
+//! - `node`: a line that others go on from
 //! - `extend`: `lines_of`, from each line to those that go on from it
 //! - `table`: the lines of all persons
 //! - `laws`: what follows from the definitions
@@ -14,6 +15,7 @@
 mod extend;
 mod laws;
 mod lines;
+mod node;
 mod order;
 mod pairs;
 mod table;

@@ -1,9 +1,9 @@
 //! The lines of a person.
 
-ghost use Rattle.std.specs.Prelude.{◌≡◌, ◌<◌, ◌≤◌, ◌↔◌, ◌++◌, ◌∷◌, ℕ, false, true, [], List, All, IfOk, IsTrue, Some, length, slice_get};
+ghost use Rattle.std.specs.Prelude.{◌≡◌, ◌<◌, ◌≤◌, ◌↔◌, ◌++◌, ◌∷◌, ℕ, false, true, [], List, All, IfOk, IsTrue, OnOk, Some, length, slice_get};
 ghost use Rattle.roster_model.specs.Lines.{AreOrdered};
 ghost use Rattle.roster_model.specs.Places.{places_le};
-ghost use Rattle.roster_lines.specs.Entries.{entry_of, longer, set_at, sets_of, IsCut};
+ghost use Rattle.roster_lines.specs.Entries.{costs_of, entry_of, longer, set_at, sets_of, IsCut};
 
 use crate::order::is_at_most;
 use roster_model::limits::{MOST_LINES, MOST_PAIRINGS};
@@ -11,18 +11,19 @@ use roster_problem::Set;
 use std::alloc::{AllocError, Global};
 use std::marker::Model;
 
-/// A line: the set of an earlier one, its parent, with one more pairing behind.
+/// A line: the set of an earlier one, its parent, with one more pairing behind, and what that costs.
 #[derive(Clone, Copy, Debug)]
 struct Line {
+    cost: i64,
     parent: u32,
     last: u16,
 }
 
 // There may be millions of lines.
-const _: () = prove!(size_of::<Line>() <= 24);
+const _: () = prove!(size_of::<Line>() <= 16);
 
 /// The lines of a person in their order, each once, from the empty one on. Contracts see them as a list
-/// of entries, each with a line's set.
+/// of entries, each with a line's set and cost.
 #[derive(Debug, Drop)]
 pub struct Lines {
     lines: Vec<Line>,
@@ -42,11 +43,16 @@ impl Model for Lines {
 }
 
 impl Lines {
-    /// The empty line alone.
-    pub(crate) fn empty(alloc: Global) -> Result<Lines, AllocError>
-        ensures { IfOk result (λ lines. lines ≡ entry_of [] ∷ []) }
+    /// The empty line alone, with its cost.
+    pub(crate) fn empty(alloc: Global, cost: i64) -> Result<Lines, AllocError>
+        ensures { IfOk result (λ lines. lines ≡ entry_of [] cost ∷ []) }
     {
-        let lines = vec![in alloc; Line { parent: 0, last: 0 }]?;
+        let first = Line {
+            cost,
+            parent: 0,
+            last: 0,
+        };
+        let lines = vec![in alloc; first]?;
         Ok(Lines { lines })
     }
 
@@ -72,6 +78,26 @@ impl Lines {
             at = line.parent as usize;
         }
         set
+    }
+
+    /// What line `i` costs.
+    pub fn cost(&self, i: usize) -> i64
+        requires { i < length self.now }
+        ensures { slice_get (costs_of self.now) i ≡ Some result }
+    {
+        self.lines[i].cost
+    }
+
+    /// Of line `i`, which isn't the empty one, the number of the line that it goes on from, and its last
+    /// pairing.
+    pub fn parent_and_last(&self, i: usize) -> (usize, usize)
+        requires inside { i < length self.now }
+        requires later { 0 < i }
+        ensures earlier { result.0 < i }
+        ensures set { set_at self.now i ≡ longer self.now result.0 result.1 }
+    {
+        let line = self.lines[i];
+        (line.parent as usize, usize::from(line.last))
     }
 
     /// The number of the line with this set, if there is one.
@@ -131,23 +157,23 @@ impl Lines {
         self.lines.len() == MOST_LINES
     }
 
-    /// Appends the line whose set is that of line `parent` with the pairing at place `last` behind, and
-    /// tells its number.
-    pub(crate) fn push(&mut self, parent: usize, last: usize) -> Result<usize, AllocError>
+    /// Appends the line whose set is that of line `parent` with the pairing at place `last` behind, with
+    /// its cost.
+    pub(crate) fn push(&mut self, parent: usize, last: usize, cost: i64) -> Result<(), AllocError>
         requires room { length self.old < MOST_LINES }
         requires parent { parent < length self.old }
         requires last { last < MOST_PAIRINGS }
         requires later { All (λ p. p < last) (set_at self.old parent) }
         requires ordered { All (λ set. places_le (longer self.old parent last) set ≡ false)
             (sets_of self.old) }
-        ensures { IfOk result (λ number. (number ≡ length self.old)
-            × (self.new ≡ self.old ++ entry_of (longer self.old parent last) ∷ [])) }
+        ensures { OnOk result
+            (self.new ≡ self.old ++ entry_of (longer self.old parent last) cost ∷ []) }
     {
-        let number = self.lines.len();
         self.lines.push(Line {
+            cost,
             parent: parent as u32,
             last: last as u16,
         })?;
-        Ok(number)
+        Ok(())
     }
 }

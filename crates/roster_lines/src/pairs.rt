@@ -1,17 +1,20 @@
-//! Which pairings are legal for a person alone, and which of those together.
+//! Which pairings are legal for a person alone, which of those together, and what each brings of flight.
 
 ghost use Rattle.std.specs.Prelude.{◌≡◌, ◌<◌, IfOk, length};
-ghost use Rattle.roster_lines.specs.Listing.{AreAlone, ArePairs, ArePartsLegal, IsRow};
+ghost use Rattle.roster_lines.specs.Listing.{AreAlone, AreFlights, ArePairs, ArePartsLegal, IsRow};
 
+use roster_cost::pairing_flight;
 use roster_legal::Judge;
 use roster_problem::{Problem, Set};
 use std::alloc::{AllocError, Global};
 
-/// For a person, the pairings that are legal alone, and for each the later ones that are legal with it.
+/// For a person, the pairings that are legal alone, and for each pairing the later ones that are legal
+/// with it and its minutes of flight in the month.
 #[derive(Debug, Drop)]
 pub(crate) struct Pairs {
     pub(crate) alone: Set,
     pub(crate) rows: Vec<Set>,
+    pub(crate) flights: Vec<u64>,
 }
 
 /// Judges each pairing alone, and then each two of those that are legal.
@@ -32,7 +35,24 @@ pub(crate) fn pairs_of(
     for p in 0..problem.pairings().len() {
         rows.push(row_of(judge, problem, k, &alone, p)?)?;
     }
-    Ok(Pairs { alone, rows })
+    let flights = flights_of(alloc, problem, k)?;
+    Ok(Pairs {
+        alone,
+        rows,
+        flights,
+    })
+}
+
+// The flight of each pairing.
+fn flights_of(alloc: Global, problem: &Problem, k: usize) -> Result<Vec<u64>, AllocError>
+    requires { k < length problem.now.persons }
+    ensures { IfOk result (λ flights. AreFlights problem.now k flights.items) }
+{
+    let mut flights = Vec::new(alloc);
+    for p in 0..problem.pairings().len() {
+        flights.push(pairing_flight(problem, k, p))?;
+    }
+    Ok(flights)
 }
 
 // The pairings that are legal alone.

@@ -1,7 +1,7 @@
 //! The lines of all persons.
 
 ghost use Rattle.std.specs.Prelude.{◌≡◌, ◌<◌, ◌≤◌, ◌↔◌, ℕ, IfErr, IfOk, List, Some, length, slice_get};
-ghost use Rattle.roster_lines.specs.Entries.{sets_of};
+ghost use Rattle.roster_lines.specs.Entries.{costs_of, sets_of};
 ghost use Rattle.roster_lines.specs.Person.{lines_at, IsTableOf};
 ghost use Rattle.roster_lines.specs.TableFaults.{IsTableFaultOf};
 
@@ -46,7 +46,7 @@ impl<T: Drop> From<AllocFailed<T>> for TableFault {
     }
 }
 
-/// The lines of each person, in book order.
+/// The lines of each person with what they cost, in book order.
 #[derive(Debug, Drop)]
 pub struct Table {
     persons: Vec<Lines>,
@@ -102,6 +102,15 @@ impl Table {
         ensures { slice_get (sets_of (lines_at self.now k)) i ≡ Some result }
     {
         self.lines(k).set(i)
+    }
+
+    /// What line `i` of person `k` costs.
+    pub fn cost(&self, k: usize, i: usize) -> i64
+        requires person { k < length self.now }
+        requires line { i < length (lines_at self.now k) }
+        ensures { slice_get (costs_of (lines_at self.now k)) i ≡ Some result }
+    {
+        self.lines(k).cost(i)
     }
 
     /// The number of the line of person `k` with this set, if there is one.

@@ -14,6 +14,25 @@ use std::test::Fail;
 /// Five pairings on one day, and five on the next.
 const TWO_DAYS: [u8; 10] = [4, 4, 4, 4, 4, 5, 5, 5, 5, 5];
 
+/// A has a target of 500 minutes, and B none, but a fixed duty with 60 minutes of flight. P1 flies 480
+/// minutes, and P2 240. Each minute that a target is missed by costs 2.
+const COSTS: &[u8] = b"period,2024-03
+weight,2
+base,BAS,UTC0
+crew,A,BAS,500,0,0
+crew,B,BAS,0,0,0
+pairing,P1,BAS,100
+pairing,P2,BAS,50
+duty,Q1,P,P1,BAS,2024-03-04T06:00Z,2024-03-04T14:00Z
+sector,Q1,O,2024-03-04T06:00Z,2024-03-04T14:00Z
+duty,Q2,P,P2,BAS,2024-03-12T06:00Z,2024-03-12T14:00Z
+sector,Q2,O,2024-03-12T08:00Z,2024-03-12T12:00Z
+duty,Q3,C,B,BAS,2024-03-20T06:00Z,2024-03-20T10:00Z
+sector,Q3,O,2024-03-20T07:00Z,2024-03-20T08:00Z
+cost,A,P1,7
+cost,A,P2,-30
+";
+
 /// Two digits of a number.
 fn digits(n: usize) -> [u8; 2] {
     [b'0' + (n / 10 % 10) as u8, b'0' + (n % 10) as u8]
@@ -116,6 +135,37 @@ fn lines_of_a_least_pairing_stand_together(rt: HostRuntime) -> Result<(), Fail> 
     ] {
         assert!(rt; lines.run_of(p) == run);
     }
+    Ok(())
+}
+
+#[test]
+fn lines_cost_their_units_and_the_missed_target(rt: HostRuntime) -> Result<(), Fail> {
+    let mut reader = Watched::new(COSTS);
+    let problem = read_book(rt.alloc(), &mut reader, Command::Solve)?.problem;
+    assert!(rt; problem.persons().len() == 2);
+    let table = table_of(rt.alloc(), &problem)?;
+    assert!(rt; table.width(0) == 4 && table.width(1) == 4);
+    assert!(rt; table.cost(0, 0) == 1000);
+    assert!(rt; table.cost(0, 1) == 47);
+    assert!(rt; table.cost(0, 2) == 417);
+    assert!(rt; table.cost(0, 3) == 490);
+    assert!(rt; table.cost(1, 0) == 120);
+    assert!(rt; table.cost(1, 1) == 1080);
+    assert!(rt; table.cost(1, 2) == 1560);
+    assert!(rt; table.cost(1, 3) == 600);
+    Ok(())
+}
+
+#[test]
+fn lines_go_on_from_earlier_ones(rt: HostRuntime) -> Result<(), Fail> {
+    let problem = problem_of(rt.alloc(), &TWO_DAYS)?;
+    assert!(rt; problem.persons().len() == 1);
+    let lines = lines_of(rt.alloc(), &problem, 0)?;
+    assert!(rt; lines.width() == 36);
+    assert!(rt; lines.cost(0) == 0 && lines.cost(35) == 0);
+    assert!(rt; lines.parent_and_last(1) == (0, 0));
+    assert!(rt; lines.parent_and_last(2) == (1, 5));
+    assert!(rt; lines.parent_and_last(35) == (0, 9));
     Ok(())
 }
 

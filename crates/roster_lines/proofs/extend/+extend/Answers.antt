@@ -1,15 +1,16 @@
-use Rattle.std.proofs.Common.{◌≡◌, ℕ, ◌+◌, ◌<◌, false, [], ◌∷◌, ◌++◌, length, refl, sym, ap, subst, ◌∙◌, arith}
+use Rattle.std.proofs.Common.{◌≡◌, ℕ, ◌+◌, ◌<◌, false, [], ◌∷◌, ◌++◌, length, SFits, w64, sym, ap, subst, ◌∙◌, arith, rules}
 use Rattle.std.specs.Prelude.{All, slice_get}
-use Rattle.std.proofs.lemmas.Option.{slice_get_read, slice_get_within, get_or_from_slice_get}
+use Rattle.std.proofs.lemmas.Int.{to_z-of_z}
+use Rattle.std.proofs.lemmas.Option.{slice_get_within, get_or_from_slice_get}
+use Rattle.roster_model.specs.Costs.{line_cost}
 use Rattle.roster_model.specs.Lines.{IsLine}
 use Rattle.roster_model.specs.Places.{places_le}
 use Rattle.roster_model.proofs.SetLemmas.{length_within}
-use Rattle.roster_lines.specs.declared.extend.Node.{Node}
 use Rattle.roster_lines.specs.Entries.{sets_of}
 use Rattle.roster_lines.specs.Listing.{IsUpTo}
-use Rattle.roster_lines.proofs.Listed.{IsNode-below}
+use Rattle.roster_lines.specs.Person.{AreCosted}
 use Rattle.roster_lines.proofs.Marks.{get_push_new, get_push_old, IsCrowded-push, IsUpTo-push, IsUpTo-return}
-use Rattle.roster_lines.proofs.Nodes.{line_there, no_line_there, longer_set, past_candidate, sets_pushed, up_to_candidate}
+use Rattle.roster_lines.proofs.Nodes.{costs_pushed, line_there, no_line_there, longer_set, past_candidate, sets_pushed, up_to_candidate}
 use Rattle.roster_lines.proofs.TreeLemmas.{length-sets_of}
 use Rattle.roster_lines.proofs.extend.+extend.Goals.{in-Some-2+else-is_full+in_ok-push+in_ok-extend, in_default-2}
 use Rattle.roster_lines.proofs.extend.+extend.Goals as goal
@@ -62,18 +63,11 @@ push-requires-clause-ordered t c =
     let number = c.loop-p.invariant.kept node.number node.set c.requires.number in
     subst (λ mark. All (λ s. places_le mark s ≡ false) (sets_of lines)) (sym (longer_set lines node.number p node.set number)) up.before
 
-pub overflow_add-below : goal.overflow_add-below
-overflow_add-below t c =
-    let problem = c.args.problem.now in
-    let k : ℕ = c.args.k in
-    let node = c.args.node.now in
-    let p : ℕ = c.in-Some.p in
-    let lines = c.loop-p.lines in
-    let here = c.in-Some.ensures.place.2 in
-    let few = length_within node.set p c.requires.node.line.ascending (c.requires.node.behind p here) in
-    let depth = c.requires.node.depth in
-    let below = c.in-Some.ensures.place.1 in
-    omega arith
+pub below-below-requires-clause-set : goal.below-below-requires-clause-set
+below-below-requires-clause-set t c = (line_there c.args.problem.now c.args.k c.args.node.now c.in-Some.p c.in_ok-set.field-0 c.in-Some-2.set c.in-Some-2.is c.in_ok-set.ensures.line).0
+
+pub below-below-requires-clause-line : goal.below-below-requires-clause-line
+below-below-requires-clause-line t c = (line_there c.args.problem.now c.args.k c.args.node.now c.in-Some.p c.in_ok-set.field-0 c.in-Some-2.set c.in-Some-2.is c.in_ok-set.ensures.line).1
 
 pub extend-requires : goal.extend-requires
 extend-requires t c =
@@ -86,13 +80,15 @@ extend-requires t c =
     let up = up_to_candidate problem k node (sets_of lines) c.loop-p.from p c.requires.node c.loop-p.invariant.lines c.in-Some.ensures.place.0 c.in-Some.ensures.least in
     let found = line_there problem k node p c.in_ok-set.field-0 c.in-Some-2.set c.in-Some-2.is c.in_ok-set.ensures.line in
     let number = c.loop-p.invariant.kept node.number node.set c.requires.number in
-    let below : Node = record { set = c.in-Some-2.set; number = c.in_ok-push.field-0; depth = node.depth + 1; candidates = c.and.result } in
+    let below = c.below-below.result in
+    let made : below.set ≡ node.set ++ p ∷ [] = c.below-below.ensures.set ∙ found.0 in
     let few = length_within node.set p c.requires.node.line.ascending (c.requires.node.behind p here) in
     let depth = c.requires.node.depth in
-    let inside : p < length c.args.pairs.now.rows.items = omega (arith, c.requires.pairs.covers, c.requires.node.places p here) in
-    let there = slice_get_read c.args.pairs.now.rows.items (length c.args.pairs.now.rows.items) p c.index.result.now refl inside c.index.ensures in
-    let pushed = sets_pushed lines c.push.new.self node.number p node.set below.set c.in_ok-push.ensures.1 number found.0 in
-    let last : c.in_ok-push.field-0 ≡ length (sets_of lines) = c.in_ok-push.ensures.0 ∙ sym (length-sets_of lines) in (
+    let deeper = c.below-below.ensures.depth in
+    let fits : SFits w64 c.cost.result = search rules in
+    let cost = to_z-of_z w64 c.cost.result fits ∙ c.cost.ensures ∙ ap (line_cost problem k) made in
+    let pushed = sets_pushed lines c.push.new.self node.number p _ node.set below.set c.in_ok-push.ensures number made in
+    let last : below.number ≡ length (sets_of lines) = c.below-below.ensures.number ∙ c.width.ensures.value ∙ sym (length-sets_of lines) in (
       omega (arith, c.in-Some.ensures.place.1),
       (
         c.in_ok-set.ensures.judge,
@@ -101,12 +97,18 @@ extend-requires t c =
           (
             c.requires.parts,
             (
-              c.requires.pairs,
+              c.requires.flown,
               (
-                IsNode-below problem k c.requires.parts node below p c.index.result.now c.requires.node here (c.requires.pairs.rows p c.index.result.now there) found.0 refl c.and.ensures found.1,
+                c.requires.pairs,
                 (
-                  ap (slice_get (sets_of c.push.new.self)) last ∙ ap (λ s. slice_get s (length (sets_of lines))) pushed ∙ get_push_new (sets_of lines) below.set,
-                  subst (IsUpTo problem k (below.set ++ 0 ∷ [])) (sym pushed) (IsUpTo-push problem k (sets_of lines) below.set (subst (λ mark. IsUpTo problem k mark (sets_of lines)) (sym found.0) up) found.1),
+                  c.below-below.ensures.node,
+                  (
+                    ap (slice_get (sets_of c.push.new.self)) last ∙ ap (λ s. slice_get s (length (sets_of lines))) pushed ∙ get_push_new (sets_of lines) below.set,
+                    (
+                      subst (IsUpTo problem k (below.set ++ 0 ∷ [])) (sym pushed) (IsUpTo-push problem k (sets_of lines) below.set (subst (λ mark. IsUpTo problem k mark (sets_of lines)) (sym made) up) c.below-below.ensures.node.line),
+                      costs_pushed problem k lines c.push.new.self node.number p _ node.set c.in_ok-push.ensures number cost c.loop-p.invariant.costs,
+                    ),
+                  ),
                 ),
               ),
             ),
@@ -129,15 +131,17 @@ loop-p-preserved t c =
       | in-Some-2+else-is_full+in_ok-push+in_ok-extend w ↦
           let found = line_there problem k node p c.in_ok-set.field-0 w.in-Some-2.set w.in-Some-2.is c.in_ok-set.ensures.line in
           let number = c.loop-p.invariant.kept node.number node.set c.requires.number in
-          let pushed = sets_pushed lines w.push.new.self node.number p node.set w.in-Some-2.set w.in_ok-push.ensures.1 number found.0 in
+          let made : w.below-below.result.set ≡ node.set ++ p ∷ [] = w.below-below.ensures.set ∙ found.0 in
+          let pushed = sets_pushed lines w.push.new.self node.number p _ node.set w.below-below.result.set w.in_ok-push.ensures number made in
           let same = ap sets_of (sym w.lines-is) in
           record {
             judge = w.judge-is ∙ w.in_ok-extend.ensures.judge;
             within = omega arith;
-            lines = subst (IsUpTo problem k (node.set ++ (p + 1) ∷ [])) same (IsUpTo-return problem k (sets_of w.extend.new.lines) node.set p (subst (λ s. IsUpTo problem k (s ++ length problem.pairings ∷ []) (sets_of w.extend.new.lines)) found.0 w.in_ok-extend.ensures.lines));
+            lines = subst (IsUpTo problem k (node.set ++ (p + 1) ∷ [])) same (IsUpTo-return problem k (sets_of w.extend.new.lines) node.set p (subst (λ s. IsUpTo problem k (s ++ length problem.pairings ∷ []) (sets_of w.extend.new.lines)) made w.in_ok-extend.ensures.lines));
+            costs = subst (AreCosted problem k) (sym w.lines-is) w.in_ok-extend.ensures.costs;
             kept = λ i s at.
                 ap (λ sets. slice_get sets i) (sym same)
-                ∙ w.in_ok-extend.ensures.kept i s (ap (λ sets. slice_get sets i) pushed ∙ get_push_old (sets_of lines) w.in-Some-2.set s i (c.loop-p.invariant.kept i s at));
+                ∙ w.in_ok-extend.ensures.kept i s (ap (λ sets. slice_get sets i) pushed ∙ get_push_old (sets_of lines) w.below-below.result.set s i (c.loop-p.invariant.kept i s at));
           }
       | in_default-2 w ↦
           let same = ap sets_of (sym w.lines-is) in
@@ -145,6 +149,7 @@ loop-p-preserved t c =
             judge = w.judge-is ∙ c.in_ok-set.ensures.judge;
             within = omega arith;
             lines = subst (IsUpTo problem k (node.set ++ (p + 1) ∷ [])) same (past_candidate problem k node (sets_of lines) p c.requires.parts up (no_line_there problem k node p c.in_ok-set.field-0 w.in_default-2.is c.in_ok-set.ensures.line));
+            costs = subst (AreCosted problem k) (sym w.lines-is) c.loop-p.invariant.costs;
             kept = λ i s at. ap (λ sets. slice_get sets i) (sym same) ∙ c.loop-p.invariant.kept i s at;
           }
     ]

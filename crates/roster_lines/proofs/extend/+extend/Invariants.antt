@@ -3,6 +3,7 @@ use Rattle.std.specs.Prelude.{slice_get}
 use Rattle.roster_model.specs.declared.limits.TheConstants.{MOST_PAIRINGS}
 use Rattle.roster_lines.specs.Entries.{sets_of}
 use Rattle.roster_lines.specs.Listing.{IsUpTo}
+use Rattle.roster_lines.specs.Person.{AreCosted}
 use Rattle.roster_lines.proofs.extend.+extend.Given as goal
 
 abbrev pub decreases-extend : goal.decreases-extend
@@ -14,6 +15,7 @@ invariant-loop-p l = record {
   judge : l.judge ≡ l.problem;
   within : l.from ≤ length l.problem.pairings;
   lines : IsUpTo l.problem l.k (l.node.set ++ l.from ∷ []) (sets_of l.lines);
+  costs : AreCosted l.problem l.k l.lines;
   kept : (i : ℕ) (set : List ℕ) → slice_get (sets_of l.initial.lines) i ≡ Some set → slice_get (sets_of l.lines) i ≡ Some set;
 }
 

@@ -3,7 +3,7 @@ use Rattle.std.specs.Prelude.{All}
 use Rattle.std.proofs.lemmas.Bool.{both_ways, false≢true}
 use Rattle.std.proofs.lemmas.List.Elements.{All-cons, All-nil}
 use Rattle.roster_model.specs.declared.limits.TheConstants.{MOST_PAIRINGS}
-use Rattle.roster_model.specs.Rules.{is_among, IsLegal}
+use Rattle.roster_model.specs.Rules.{is_among}
 use Rattle.roster_model.proofs.SetLemmas.{All-is_among}
 use Rattle.roster_problem.specs.Set.{with_place}
 use Rattle.roster_lines.specs.Listing.{AreTogether, IsRow}

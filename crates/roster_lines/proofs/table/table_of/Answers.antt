@@ -6,6 +6,7 @@ use Rattle.roster_model.specs.declared.limits.TheConstants.{MOST_LINES}
 use Rattle.roster_model.specs.Lines.{AreLines}
 use Rattle.roster_lines.specs.Entries.{Entry, sets_of}
 use Rattle.roster_lines.specs.Listing.{IsFaultOf}
+use Rattle.roster_lines.specs.Person.{AreCosted}
 use Rattle.roster_lines.proofs.Lists.{IsTableOf-each, not_crowded}
 use Rattle.roster_lines.proofs.TreeLemmas.{each-push, length-sets_of}
 use Rattle.roster_lines.proofs.table.table_of.Goals as goal
@@ -21,7 +22,7 @@ returns-in-Err-TooMany-clause-fault c =
           let none : List Entry = [] in
           let lines : List Entry = get_or c.loop-k.persons.items j none in
           let here = c.loop-k.invariant.lines j lines (slice_get-get_or c.loop-k.persons.items j none (omega (arith, c.loop-k.invariant.long))) in
-          not_crowded problem j (sets_of lines) here.0 (omega (arith, here.1, length-sets_of lines));
+          not_crowded problem j (sets_of lines) here.0 (omega (arith, here.2, length-sets_of lines));
     }
 
 pub loop-k-preserved : goal.loop-k-preserved
@@ -33,8 +34,8 @@ loop-k-preserved c =
     record {
       long = ap length items ∙ length_push old _ ∙ ap (λ n. n + 1) long;
       lines = λ j lines at.
-          each-push (λ j (lines : List Entry). AreLines problem j (sets_of lines) × (length lines ≤ MOST_LINES)) old _ c.loop-k.invariant.lines
-          (subst (λ j. AreLines problem j (sets_of c.in-Ok.lines)) (sym long) c.in-Ok.ensures.lines, c.in-Ok.ensures.few)
+          each-push (λ j (lines : List Entry). AreLines problem j (sets_of lines) × AreCosted problem j lines × (length lines ≤ MOST_LINES)) old _ c.loop-k.invariant.lines
+          (subst (λ j. AreLines problem j (sets_of c.in-Ok.lines)) (sym long) c.in-Ok.ensures.lines, subst (λ j. AreCosted problem j c.in-Ok.lines) (sym long) c.in-Ok.ensures.costs, c.in-Ok.ensures.few)
           j lines (ap (λ xs. slice_get xs j) (sym items) ∙ at);
     }
 

@@ -1,5 +1,6 @@
-use Rattle.std.proofs.Common.{◌≡◌, ◌<◌, false, [], ◌∷◌, ◌++◌, length, sym, ap, subst, ◌∙◌, arith}
+use Rattle.std.proofs.Common.{◌≡◌, ◌<◌, false, [], ◌∷◌, ◌++◌, length, w64, sym, ap, subst, ◌∙◌, arith}
 use Rattle.std.specs.Prelude.{All}
+use Rattle.std.proofs.lemmas.Int.{to_z-of_z}
 use Rattle.roster_model.specs.Places.{places_le}
 use Rattle.roster_lines.specs.Entries.{entry_of, longer, set_at, sets_of}
 use Rattle.roster_lines.specs.Tree.{entries_in, IsTree}
@@ -23,9 +24,7 @@ returns c =
     let parent = c.args.parent in
     let last = c.args.last in
     let long : length c.args.self.now ≡ length lines = ap length (sym c.self.view_is) ∙ length-entries_in lines in
-    let items = c.self.inside.lines.ok.0 in (
-      omega (arith, c.len-number.ensures),
-      ap entries_in c.in_ok-push.ensures.items
-          ∙ entries_in-push lines _ (omega (arith, c.requires.parent))
-          ∙ ap (λ entries. entries ++ entry_of (longer entries parent last) ∷ []) c.self.view_is,
-    )
+    ap entries_in c.in_ok-push.ensures.items
+    ∙ entries_in-push lines _ (omega (arith, c.requires.parent))
+    ∙ ap (λ cost. entries_in lines ++ entry_of (longer (entries_in lines) parent last) cost ∷ []) (to_z-of_z w64 c.args.cost c.ranges.cost)
+    ∙ ap (λ entries. entries ++ entry_of (longer entries parent last) c.args.cost ∷ []) c.self.view_is
