@@ -20,6 +20,8 @@ pub const BOOK: &[u8] =
 pub const REPORT: &[u8] =
     b"ROSTER 2024-03\nCOST 0\nCREW A 0 480 480 480 0 P1\nCREW B 0 0 0 0 0 -\nOPEN -\n";
 
+const CHECK: &[u8] = b"CHECK 2024-03\nCOST 100\nCREW A OK\nCREW B OK\n";
+
 /// What a run over memory writes. That its clause is proved shows that a reader and a writer over
 /// memory meet all that `run` supposes of them.
 fn text_of(
@@ -50,7 +52,7 @@ fn the_report_of_the_best_roster_is_written(rt: HostRuntime) -> Result<(), Fail>
 #[test]
 fn what_a_check_says_is_written(rt: HostRuntime) -> Result<(), Fail> {
     let text = text_of(rt.alloc(), Command::Check, BOOK)?.ok_or("a text")?;
-    assert!(rt; text.as_slice() == b"CHECK 2024-03\nCOST 100\nCREW A OK\nCREW B OK\n");
+    assert!(rt; text.as_slice() == CHECK);
     Ok(())
 }
 
