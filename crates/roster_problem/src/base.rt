@@ -4,7 +4,7 @@ use crate::name::Name;
 use roster_instants::BaseDays;
 use std::marker::Model;
 
-/// Where pairings and persons begin and end.
+/// The home of persons, and where pairings begin.
 #[derive(Debug, Drop)]
 pub struct Base {
     /// Its own among the bases.

@@ -3,7 +3,7 @@
 use crate::name::Name;
 use std::marker::Model;
 
-/// A pairing: duties in a row for one person, from its base and back.
+/// A pairing: duties in a row for one person, of which the first reports at the base.
 #[derive(Debug, Drop)]
 pub struct Pairing {
     /// Its own among the pairings.
