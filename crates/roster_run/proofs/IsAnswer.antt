@@ -109,13 +109,16 @@ problem_fault Solve problem none =
     crowded_before problem (length problem.persons) (λ persons.
     elim persons [
       | inl found ↦
-          none (inl (_, record {
-            k = found.0;
-            person = get_or problem.persons found.0 somebody;
-            there = slice_get-get_or problem.persons found.0 somebody found.1;
-            crowded = record { person = found.1; crowded = found.2; first = found.3 };
-            told = refl;
-          }))
+          none (inl (
+            _,
+            record {
+              k = found.0;
+              person = get_or problem.persons found.0 somebody;
+              there = slice_get-get_or problem.persons found.0 somebody found.1;
+              crowded = record { person = found.1; crowded = found.2; first = found.3 };
+              told = refl;
+            },
+          ))
       | inr few ↦ none (inr (λ fault told. few told.k told.crowded.person told.crowded.crowded))
     ])
 problem_fault Check problem none = none (inr (λ fault told. absurd told))

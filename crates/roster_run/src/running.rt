@@ -92,12 +92,7 @@ fn refuse<W: Write>(alloc: Global, row: usize, code: u8, writer: &mut Watched<W>
 }
 
 /// Writes what the command answers to a book in which no record has a fault.
-fn answer<W: Write>(
-    alloc: Global,
-    command: Command,
-    book: &Book,
-    writer: &mut Watched<W>,
-) -> Status
+fn answer<W: Write>(alloc: Global, command: Command, book: &Book, writer: &mut Watched<W>) -> Status
     requires open { has_failed writer.old ≡ false }
     requires covers { length book.now.assigned ≡ length book.now.problem.pairings }
     requires numbers { All (λ x. x ≤ length book.now.problem.persons) book.now.assigned }
@@ -141,7 +136,12 @@ fn answer_best<W: Write>(alloc: Global, problem: &Problem, writer: &mut Watched<
     match solve(alloc, problem) {
         Ok(roster) => told(write_report(alloc, problem, &roster, writer)),
         Err(SolveFault::TooMany(k)) => {
-            refuse(alloc, problem.person(k).row, Code::TooManyLines.number(), writer)
+            refuse(
+                alloc,
+                problem.person(k).row,
+                Code::TooManyLines.number(),
+                writer,
+            )
         }
         Err(SolveFault::Memory) => Status::Memory,
     }

@@ -24,11 +24,7 @@ const CHECK: &[u8] = b"CHECK 2024-03\nCOST 100\nCREW A OK\nCREW B OK\n";
 
 /// What a run over memory writes. That its clause is proved shows that a reader and a writer over
 /// memory meet all that `run` supposes of them.
-fn text_of(
-    alloc: Global,
-    command: Command,
-    book: &[u8],
-) -> Result<Option<Vec<u8>>, AllocError>
+fn text_of(alloc: Global, command: Command, book: &[u8]) -> Result<Option<Vec<u8>>, AllocError>
     ensures { IfOk result (λ text. IfSome text (λ text.
         IsAnswer (command_of command) (records_of book.now) text.items)) }
 {

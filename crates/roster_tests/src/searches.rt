@@ -6,18 +6,22 @@ use std::alloc::Global;
 use std::test::Fail;
 
 /// Three pairings at one time for two persons. The last one is the cheapest to leave open.
-const AT_ONE_TIME: &[u8] = b"period,2024-03\nbase,BAS,UTC0\ncrew,A,BAS,0,0,0\ncrew,B,BAS,0,0,0\npairing,P1,BAS,100\npairing,P2,BAS,50\npairing,P3,BAS,10\nduty,Q1,P,P1,BAS,2024-03-04T06:00Z,2024-03-04T14:00Z\nduty,Q2,P,P2,BAS,2024-03-04T08:00Z,2024-03-04T12:00Z\nduty,Q3,P,P3,BAS,2024-03-04T10:00Z,2024-03-04T11:00Z\n";
+const AT_ONE_TIME: &[u8] =
+    b"period,2024-03\nbase,BAS,UTC0\ncrew,A,BAS,0,0,0\ncrew,B,BAS,0,0,0\npairing,P1,BAS,100\npairing,P2,BAS,50\npairing,P3,BAS,10\nduty,Q1,P,P1,BAS,2024-03-04T06:00Z,2024-03-04T14:00Z\nduty,Q2,P,P2,BAS,2024-03-04T08:00Z,2024-03-04T12:00Z\nduty,Q3,P,P3,BAS,2024-03-04T10:00Z,2024-03-04T11:00Z\n";
 
 /// The second person is paid for the first of two pairings on different days, and the first one has
 /// to be paid for the second.
-const PAID: &[u8] = b"period,2024-03\nbase,BAS,UTC0\ncrew,A,BAS,0,0,0\ncrew,B,BAS,0,0,0\npairing,P1,BAS,100\npairing,P2,BAS,50\nduty,Q1,P,P1,BAS,2024-03-04T06:00Z,2024-03-04T14:00Z\nduty,Q2,P,P2,BAS,2024-03-06T06:00Z,2024-03-06T14:00Z\ncost,B,P1,-7\ncost,A,P2,3\n";
+const PAID: &[u8] =
+    b"period,2024-03\nbase,BAS,UTC0\ncrew,A,BAS,0,0,0\ncrew,B,BAS,0,0,0\npairing,P1,BAS,100\npairing,P2,BAS,50\nduty,Q1,P,P1,BAS,2024-03-04T06:00Z,2024-03-04T14:00Z\nduty,Q2,P,P2,BAS,2024-03-06T06:00Z,2024-03-06T14:00Z\ncost,B,P1,-7\ncost,A,P2,3\n";
 
 /// Two persons of two bases, each with a pairing of their own base, and a third pairing of the second
 /// base an hour after the one before.
-const TWO_BASES: &[u8] = b"period,2024-03\nbase,BAS,UTC0\nbase,GVA,UTC0\ncrew,A,BAS,0,0,0\ncrew,B,GVA,0,0,0\npairing,P1,BAS,100\npairing,P2,GVA,50\npairing,P3,GVA,60\nduty,Q1,P,P1,BAS,2024-03-04T06:00Z,2024-03-04T14:00Z\nduty,Q2,P,P2,GVA,2024-03-04T06:00Z,2024-03-04T14:00Z\nduty,Q3,P,P3,GVA,2024-03-04T15:00Z,2024-03-04T16:00Z\n";
+const TWO_BASES: &[u8] =
+    b"period,2024-03\nbase,BAS,UTC0\nbase,GVA,UTC0\ncrew,A,BAS,0,0,0\ncrew,B,GVA,0,0,0\npairing,P1,BAS,100\npairing,P2,GVA,50\npairing,P3,GVA,60\nduty,Q1,P,P1,BAS,2024-03-04T06:00Z,2024-03-04T14:00Z\nduty,Q2,P,P2,GVA,2024-03-04T06:00Z,2024-03-04T14:00Z\nduty,Q3,P,P3,GVA,2024-03-04T15:00Z,2024-03-04T16:00Z\n";
 
 /// A pairing, and nobody to fly it.
-const NOBODY: &[u8] = b"period,2024-03\nbase,BAS,UTC0\npairing,P1,BAS,100\nduty,Q1,P,P1,BAS,2024-03-04T06:00Z,2024-03-04T14:00Z\n";
+const NOBODY: &[u8] =
+    b"period,2024-03\nbase,BAS,UTC0\npairing,P1,BAS,100\nduty,Q1,P,P1,BAS,2024-03-04T06:00Z,2024-03-04T14:00Z\n";
 
 /// Whether both find this roster, at this cost.
 fn find(alloc: Global, book: &[u8], places: &[u16], cost: i64) -> Result<bool, Fail> {
@@ -25,10 +29,12 @@ fn find(alloc: Global, book: &[u8], places: &[u16], cost: i64) -> Result<bool, F
     let problem = read_book(alloc, &mut reader, Command::Solve)?.problem;
     let walked = solve(alloc, &problem)?;
     let plain = solve_plainly(alloc, &problem)?;
-    Ok(walked.places.as_slice() == places
-        && walked.cost == cost
-        && plain.places.as_slice() == places
-        && plain.cost == cost)
+    Ok(
+        walked.places.as_slice() == places
+            && walked.cost == cost
+            && plain.places.as_slice() == places
+            && plain.cost == cost,
+    )
 }
 
 #[test]
