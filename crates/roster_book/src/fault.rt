@@ -14,7 +14,7 @@ pub enum BookFault {
     At {
         /// The number of the record, from 1.
         row: usize,
-        /// What is wrong with it, from 1 to 14.
+        /// What is wrong with it, from 1 to 14: 15 is told by a run.
         code: u8,
     },
     /// The reader failed.

@@ -48,6 +48,6 @@ impl Places {
 pub struct Roster {
     /// Who flies each pairing.
     pub places: Places,
-    /// The sum of the penalties of the pairings that are left open.
+    /// The penalties of open pairings, the units of placed ones, and the missed targets, in all.
     pub cost: i64,
 }
