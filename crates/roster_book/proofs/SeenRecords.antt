@@ -4,7 +4,7 @@ use Rattle.std.specs.Prelude.{IfSome}
 use Rattle.std.proofs.lemmas.List.{append-nil}
 use Rattle.roster_model.specs.Record.{Record, Command, next_row}
 use Rattle.roster_model.specs.Faults.{IsFaultlessSoFar, code_of}
-use Rattle.roster_book.specs.Reading.{AreSeen, TellsFirst}
+use Rattle.roster_book.specs.Reading.{AreSeen, OfKnown, TellsFirst}
 use Rattle.roster_book.specs.View.{Refuses, ToldAt}
 use Rattle.roster_book.specs.declared.fault.BookFault.{BookFault}
 use Rattle.roster_book.specs.declared.refusal.Refusal.{Refusal}
@@ -25,8 +25,8 @@ seen-more (Some records) (Some others) (Some last) seen fields h next = h ∙ ap
 
 -- where none is left, those seen are all
 pub seen-all : (all left : Option (List Record)) (seen : List Record) (P : List Record → Type 0)
-    → AreSeen all seen left → IfSome left (λ records. records ≡ []) → P seen → IfSome all P
-seen-all None left seen P h none holds = tt
+    → AreSeen all seen left → IfSome left (λ records. records ≡ []) → P seen → OfKnown P all
+seen-all None left seen P h none holds = (seen, holds)
 seen-all (Some records) None seen P h none holds = absurd h
 seen-all (Some records) (Some others) seen P h none holds =
     let same : records ≡ seen = h ∙ ap (λ (t : List Record). seen ++ t) none ∙ append-nil seen in
@@ -35,8 +35,8 @@ seen-all (Some records) (Some others) seen P h none holds =
 -- what holds whatever follows the records seen and the next one holds of all
 pub seen-next : (all left rest : Option (List Record)) (seen : List Record) (fields : Record) (P : List Record → Type 0)
     → AreSeen all seen left → AreSeen left (fields ∷ []) rest
-    → ((last : List Record) → P (seen ++ fields ∷ last)) → IfSome all P
-seen-next None left rest seen fields P h next holds = tt
+    → ((last : List Record) → P (seen ++ fields ∷ last)) → OfKnown P all
+seen-next None left rest seen fields P h next holds = (seen ++ fields ∷ [], holds [])
 seen-next (Some records) None rest seen fields P h next holds = absurd h
 seen-next (Some records) (Some others) None seen fields P h next holds = absurd next
 seen-next (Some records) (Some others) (Some last) seen fields P h next holds =

@@ -8,6 +8,7 @@ use Rattle.csv.specs.declared.reader.Trim.TheVariants as trim
 use Rattle.roster_book.specs.declared.book.Book.{Book}
 use Rattle.roster_book.specs.declared.fault.BookFault.{BookFault}
 use Rattle.roster_book.specs.declared.fault.BookFault.TheVariants.{At, Device, Memory}
+use Rattle.roster_model.specs.Answer.{records_of}
 use Rattle.roster_model.specs.Record.{Record, Command}
 use Rattle.roster_model.specs.Problem.{problem_of}
 use Rattle.roster_model.specs.Faults.{first_fault}
@@ -29,6 +30,15 @@ TellsFirst command records Device = ⊤
 TellsFirst command records Memory = ⊤
 
 -- ---- the records of a reader
+
+-- It holds of these records, or, where they aren't known, of some.
+abbrev pub OfKnown : (List Record → Type 0) → Option (List Record) → Type 0
+OfKnown Says (Some records) = Says records
+OfKnown Says None = (records : List Record) × Says records
+
+-- It holds of the records of the bytes that a reader told, or, where they aren't known, of some.
+abbrev pub OfTold : (List Record → Type 0) → Option (List ℕ) → Type 0
+OfTold Says told = OfKnown Says (option_map records_of told)
 
 -- the reader works, takes no record for a header row, and takes records of any length
 pub record IsOpen {R : Type 0} (rows : Reader R) : Type 0 where

@@ -1,10 +1,8 @@
 //! A book, read record by record until its end or its first fault.
 
-ghost use Rattle.std.specs.Prelude.{◌≡◌, ◌≢◌, ◌↔◌, [], ◌∷◌, true, false, List, IfSome, IfOk, IfErr, IsErrOf};
+ghost use Rattle.std.specs.Prelude.{◌≡◌, ◌≢◌, ◌↔◌, [], ◌∷◌, true, false, IfSome, IfOk, IfErr, IsErrOf};
 ghost use Rattle.csv.specs.Records.{fields_of};
-ghost use Rattle.roster_model.specs.Answer.{records_of};
-ghost use Rattle.roster_model.specs.Record.{Record};
-ghost use Rattle.roster_book.specs.Reading.{AreSeen, IsBookOf, IsOpen, TellsFirst, records_left};
+ghost use Rattle.roster_book.specs.Reading.{AreSeen, IsBookOf, IsOpen, OfKnown, OfTold, TellsFirst, records_left};
 ghost use Rattle.roster_book.specs.View.{command_of};
 ghost use Rattle.roster_watched.specs.Watch.{inner_of, has_failed};
 
@@ -28,15 +26,10 @@ pub fn read_book<R: Read>(
     reader: &mut Watched<R>,
     command: Command,
 ) -> Result<Book, BookFault>
-    ensures book { IfOk result (λ book. IfSome (R.remaining (inner_of reader.old)) (λ bytes.
-        IsBookOf (command_of command) (records_of bytes) book)) }
-    ensures fault { IfErr result (λ fault. IfSome (R.remaining (inner_of reader.old)) (λ bytes.
-        TellsFirst (command_of command) (records_of bytes) fault)) }
-    // Of a reader whose bytes aren't known: the answer is that of some records.
-    ensures some_book { IfOk result (λ book. (records : List Record)
-        × IsBookOf (command_of command) records book) }
-    ensures some_fault { IfErr result (λ fault. (records : List Record)
-        × TellsFirst (command_of command) records fault) }
+    ensures book { IfOk result (λ book. OfTold (λ records.
+        IsBookOf (command_of command) records book) (R.remaining (inner_of reader.old))) }
+    ensures fault { IfErr result (λ fault. OfTold (λ records.
+        TellsFirst (command_of command) records fault) (R.remaining (inner_of reader.old))) }
     ensures device { IsErrOf result BookFault.Device ↔ (has_failed reader.new ≡ true) }
 {
     let outcome = read_records(alloc, reader, command);
@@ -48,14 +41,10 @@ pub fn read_book<R: Read>(
 
 // Lends the reader to csv. `Memory` stands for a failed reader too: its flag tells.
 fn read_records<R: Read>(alloc: Global, reader: &mut R, command: Command) -> Result<Book, BookFault>
-    ensures book { IfOk result (λ book. IfSome (R.remaining reader.old) (λ bytes.
-        IsBookOf (command_of command) (records_of bytes) book)) }
-    ensures fault { IfErr result (λ fault. IfSome (R.remaining reader.old) (λ bytes.
-        TellsFirst (command_of command) (records_of bytes) fault)) }
-    ensures some_book { IfOk result (λ book. (records : List Record)
-        × IsBookOf (command_of command) records book) }
-    ensures some_fault { IfErr result (λ fault. (records : List Record)
-        × TellsFirst (command_of command) records fault) }
+    ensures book { IfOk result (λ book. OfTold (λ records.
+        IsBookOf (command_of command) records book) (R.remaining reader.old)) }
+    ensures fault { IfErr result (λ fault. OfTold (λ records.
+        TellsFirst (command_of command) records fault) (R.remaining reader.old)) }
     ensures device { IfErr result (λ fault. fault ≢ BookFault.Device) }
 {
     let mut reader = ReaderBuilder::new()
@@ -72,14 +61,10 @@ fn read_all<R: Read>(
     command: Command,
 ) -> Result<Book, BookFault>
     requires { IsOpen reader.old }
-    ensures book { IfOk result (λ book. IfSome (records_left R.remaining reader.old) (λ all.
-        IsBookOf (command_of command) all book)) }
-    ensures fault { IfErr result (λ fault. IfSome (records_left R.remaining reader.old) (λ all.
-        TellsFirst (command_of command) all fault)) }
-    ensures some_book { IfOk result (λ book. (all : List Record)
-        × IsBookOf (command_of command) all book) }
-    ensures some_fault { IfErr result (λ fault. (all : List Record)
-        × TellsFirst (command_of command) all fault) }
+    ensures book { IfOk result (λ book. OfKnown (λ records.
+        IsBookOf (command_of command) records book) (records_left R.remaining reader.old)) }
+    ensures fault { IfErr result (λ fault. OfKnown (λ records.
+        TellsFirst (command_of command) records fault) (records_left R.remaining reader.old)) }
     ensures device { IfErr result (λ fault. fault ≢ BookFault.Device) }
 {
     let mut fields = ByteRecord::new(alloc);

@@ -1,9 +1,9 @@
 -- What is answered to a book, where it was answered to its problem.
 use Rattle.std.proofs.Common.{◌≡◌, ◌⊎◌, ℕ, ◌<◌, List, Option, Some, None, refl, sym, ap, ◌∙◌, subst, inl, inr}
-use Rattle.std.specs.Prelude.{IfSome, IsErrOf, OnOk, Result, Ok, Err, slice_get}
-use Rattle.roster_book.specs.Reading.{IsBookOf}
+use Rattle.std.specs.Prelude.{IsErrOf, OnOk, Result, Ok, Err, slice_get}
+use Rattle.roster_book.specs.Reading.{IsBookOf, OfTold}
 use Rattle.roster_book.specs.declared.book.Book.{Book}
-use Rattle.roster_model.specs.Answer.{IsAnswer, IsCrowdedFault, IsFirstFault, IsProblemFault, IsRefusal, IsReport, Reports}
+use Rattle.roster_model.specs.Answer.{IsAnswer, IsCrowdedFault, IsFirstFault, IsProblemFault, IsRefusal, IsReport, Reports, records_of}
 use Rattle.roster_model.specs.Code.{TooManyLines, number_of_code}
 use Rattle.roster_model.specs.Faults.{Fault, first_fault}
 use Rattle.roster_model.specs.Lines.{IsCrowded, IsFirstCrowded}
@@ -26,9 +26,9 @@ Writes-weaker P Q old new more w = (w.0, more w.0 w.1, w.2)
 pub WritesPart-weaker : (P Q : List ℕ → Type 0) (old new : Option (List ℕ)) → ((text : List ℕ) → P text → Q text) → WritesPart P old new → WritesPart Q old new
 WritesPart-weaker P Q old new more w = (w.0, more w.0 w.1, w.2)
 
-pub IfSome-weaker : {X : Type 0} (P Q : X → Type 0) (told : Option X) → ((x : X) → P x → Q x) → IfSome told P → IfSome told Q
-IfSome-weaker P Q None more h = tt
-IfSome-weaker P Q (Some x) more h = more x h
+pub OfTold-weaker : (P Q : List Record → Type 0) (told : Option (List ℕ)) → ((records : List Record) → P records → Q records) → OfTold P told → OfTold Q told
+OfTold-weaker P Q None more h = (h.0, more h.0 h.1)
+OfTold-weaker P Q (Some bytes) more h = more (records_of bytes) h
 
 -- ---- from a problem to its book
 

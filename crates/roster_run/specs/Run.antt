@@ -1,18 +1,14 @@
--- Of which records a run speaks, and how it ends.
-use Rattle.std.specs.Prelude.{◌≡◌, ◌⊎◌, ℕ, List, Option, None, Some, Result, Ok, Err, IfSome, codes}
-use Rattle.roster_model.specs.Answer.{IsProblemFault, Reports, records_of}
+-- What is answered to a problem, and how a run ends.
+use Rattle.std.specs.Prelude.{◌≡◌, ◌⊎◌, ℕ, List, Option, None, Some, Result, Ok, Err, codes}
+use Rattle.roster_model.specs.Answer.{IsProblemFault, Reports}
 use Rattle.roster_model.specs.Faults.{Fault}
 use Rattle.roster_model.specs.Problem.{Problem}
-use Rattle.roster_model.specs.Record.{Command, Record}
+use Rattle.roster_model.specs.Record.{Command}
 use Rattle.roster_model.specs.Texts.{fault_text}
 use Rattle.roster_report.specs.declared.fault.TextFault.{TextFault}
 use Rattle.roster_report.specs.declared.fault.TextFault.TheVariants as faults
 use Rattle.roster_run.specs.declared.status.Status.{Status}
 use Rattle.roster_run.specs.declared.status.Status.TheVariants as statuses
-
--- The reader told some bytes, and this holds of their records.
-abbrev pub OfTold : (List Record → Type 0) → Option (List ℕ) → Type 0
-OfTold Says told = IfSome told (λ bytes. Says (records_of bytes))
 
 -- ---- what is answered to a problem, and to the roster that the book gives
 

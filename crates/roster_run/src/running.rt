@@ -1,12 +1,13 @@
 //! A run: a book is read, and its one answer written.
 
-ghost use Rattle.std.specs.Prelude.{◌≡◌, ◌≢◌, ◌↔◌, ◌≤◌, All, List, [], length, true, false};
+ghost use Rattle.std.specs.Prelude.{◌≡◌, ◌≢◌, ◌↔◌, ◌≤◌, All, [], length, true, false};
 ghost use Rattle.roster_model.specs.Answer.{IsAnswer, IsRefusal, IsReport};
-ghost use Rattle.roster_model.specs.Record.{Record, Solve};
+ghost use Rattle.roster_model.specs.Record.{Solve};
+ghost use Rattle.roster_book.specs.Reading.{OfTold};
 ghost use Rattle.roster_book.specs.View.{command_of};
 ghost use Rattle.roster_watched.specs.Watch.{inner_of, has_failed, is_flushed};
 ghost use Rattle.roster_report.specs.Writing.{Writes, WritesPart};
-ghost use Rattle.roster_run.specs.Run.{IsFaultLine, IsProblemAnswer, IsProblemRefusal, IsProblemReport, OfTold, status_of};
+ghost use Rattle.roster_run.specs.Run.{IsFaultLine, IsProblemAnswer, IsProblemRefusal, IsProblemReport, status_of};
 
 use crate::status::Status;
 use roster_book::{Book, BookFault, Code, Command, Problem, Watched, read_book};
@@ -15,7 +16,8 @@ use roster_report::{TextFault, write_check, write_fault, write_report};
 use std::alloc::Global;
 use std::io::{Read, Write};
 
-/// Reads a book to the end, does what the command asks, and writes the one answer.
+/// Reads a book to its end or to its first fault, does what the command asks, and writes the one
+/// answer. The status tells where that could not be done.
 pub fn run<R: Read, W: Write>(
     alloc: Global,
     command: Command,
@@ -25,7 +27,8 @@ pub fn run<R: Read, W: Write>(
     requires reader_open { has_failed reader.old ≡ false }
     requires writer_open { has_failed writer.old ≡ false }
 
-    // What the command reports of the book in the bytes that the reader told.
+    // What the command reports of the book in the bytes that the reader told, or, where its bytes
+    // aren't known, of some book.
     ensures answered { result ≡ Status.Answered → OfTold (λ records.
         Writes (IsReport (command_of command) records)
         (W.contents (inner_of writer.old)) (W.contents (inner_of writer.new)))
@@ -40,17 +43,6 @@ pub fn run<R: Read, W: Write>(
         WritesPart (IsAnswer (command_of command) records)
         (W.contents (inner_of writer.old)) (W.contents (inner_of writer.new)))
         (R.remaining (inner_of reader.old)) }
-
-    // Of a reader whose bytes aren't known: the same of some records.
-    ensures some_answer { result ≡ Status.Answered → (records : List Record)
-        × Writes (IsReport (command_of command) records)
-        (W.contents (inner_of writer.old)) (W.contents (inner_of writer.new)) }
-    ensures some_refusal { result ≡ Status.Refused → (records : List Record)
-        × Writes (IsRefusal (command_of command) records)
-        (W.contents (inner_of writer.old)) (W.contents (inner_of writer.new)) }
-    ensures some_part { result ≡ Status.WriteFailed → (records : List Record)
-        × WritesPart (IsAnswer (command_of command) records)
-        (W.contents (inner_of writer.old)) (W.contents (inner_of writer.new)) }
 
     // Nothing is kept back.
     ensures flushed { (result ≡ Status.Answered → is_flushed writer.new ≡ true)

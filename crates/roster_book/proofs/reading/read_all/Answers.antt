@@ -19,9 +19,6 @@ returns-then-not-branch-clause-fault g c =
     seen-all _ _ [] (λ all. TellsFirst command all c.at.result) (seen-none (records_left g.R.Read.remaining c.args.reader.now)) (c.in_ok-next_record.ensures.end c.if-not-branch.true)
     (rw c.at.ensures (first_fault-of-none command))
 
-pub returns-then-not-branch-clause-some_fault : goal.returns-then-not-branch-clause-some_fault
-returns-then-not-branch-clause-some_fault g c = ([], rw c.at.ensures (first_fault-of-none (command_of c.args.command)))
-
 pub returns-in-Err-clause-fault : goal.returns-in-Err-clause-fault
 returns-in-Err-clause-fault g c =
     let command = command_of c.args.command in
@@ -29,11 +26,6 @@ returns-in-Err-clause-fault g c =
     let next = c.in_ok-next_record.ensures.record c.if-not-branch.false in
     seen-next _ _ _ [] fields (λ all. TellsFirst command all c.at-in-Err.result) (seen-none (records_left g.R.Read.remaining c.args.reader.now)) next.1
     (λ last. refused-first command 1 [] fields last (refusals.Fault c.in-Err.code) c.at-in-Err.result (omega arith) tt c.in-Err.ensures c.at-in-Err.ensures)
-
-pub returns-in-Err-clause-some_fault : goal.returns-in-Err-clause-some_fault
-returns-in-Err-clause-some_fault g c =
-    let fields = fields_of c.next_record.new.fields in
-    (fields ∷ [], refused-first (command_of c.args.command) 1 [] fields [] (refusals.Fault c.in-Err.code) c.at-in-Err.result (omega arith) tt c.in-Err.ensures c.at-in-Err.ensures)
 
 -- ---- the end of the records
 
@@ -60,18 +52,6 @@ returns-then-not-branch-2-clause-fault g c =
     (λ fault held. seen-all _ _ seen (λ all. TellsFirst command all fault) h.follows (c.in_ok-next_record-2.ensures.end c.if-not-branch-2.true) held)
     (c.finish.ensures.fault command c.loop-row.row seen h.draft)
 
-pub returns-then-not-branch-2-clause-some_book : goal.returns-then-not-branch-2-clause-some_book
-returns-then-not-branch-2-clause-some_book g c =
-    let seen = c.loop-row.invariant.0 in
-    IfOk-weaker c.finish.result _ _ (λ problem held. (seen, held))
-    (c.finish.ensures.book (command_of c.args.command) c.loop-row.row seen c.loop-row.invariant.1.draft)
-
-pub returns-then-not-branch-2-clause-some_fault : goal.returns-then-not-branch-2-clause-some_fault
-returns-then-not-branch-2-clause-some_fault g c =
-    let seen = c.loop-row.invariant.0 in
-    IfErr-weaker c.finish.result _ _ (λ fault held. (seen, held))
-    (c.finish.ensures.fault (command_of c.args.command) c.loop-row.row seen c.loop-row.invariant.1.draft)
-
 -- ---- one more record
 
 pub take-requires : goal.take-requires
@@ -88,13 +68,6 @@ returns-in-Err-take-clause-fault g c =
     let next = c.in_ok-next_record-2.ensures.record c.if-not-branch-2.false in
     seen-next _ _ _ seen fields (λ all. TellsFirst command all c.at-in-Err-take.result) h.follows next.1
     (λ last. refused-first command c.loop-row.row seen fields last c.in-Err-take.refusal c.at-in-Err-take.result h.draft.row_is h.draft.faultless (c.in-Err-take.ensures seen h.draft) c.at-in-Err-take.ensures)
-
-pub returns-in-Err-take-clause-some_fault : goal.returns-in-Err-take-clause-some_fault
-returns-in-Err-take-clause-some_fault g c =
-    let seen = c.loop-row.invariant.0 in
-    let h = c.loop-row.invariant.1 in
-    let fields = fields_of c.next_record-in-loop-row.new.fields in
-    (seen ++ fields ∷ [], refused-first (command_of c.args.command) c.loop-row.row seen fields [] c.in-Err-take.refusal c.at-in-Err-take.result h.draft.row_is h.draft.faultless (c.in-Err-take.ensures seen h.draft) c.at-in-Err-take.ensures)
 
 -- ---- the loop
 
