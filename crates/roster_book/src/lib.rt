@@ -37,7 +37,7 @@ pub use command::Command;
 pub use fault::BookFault;
 pub use reading::read_book;
 pub use roster_problem::{
-    Base, Cost, Costs, Duty, Holder, Leave, Name, Pairing, Person, Places, Problem, Roster, Sector,
-    duties_in_order,
+    Base, Cost, Costs, Duty, DutyList, Holder, Leave, Name, Pairing, Person, Places, Problem,
+    Roster, Rule, Sector, Set, duties_in_order,
 };
 pub use roster_watched::Watched;

@@ -30,7 +30,8 @@ fn flight_at(problem: &Problem, k: usize, positions: &[u16]) -> u64
     minutes
 }
 
-/// The flight of the fixed duties of person `k` in the month, which is that of the empty set.
+/// The minutes of flight of the fixed duties of person `k` in the month, which are those of the empty
+/// set.
 pub fn fixed_flight(problem: &Problem, k: usize) -> u64
     requires { k < length problem.now.persons }
     ensures value { result ≡ flight_of problem.now k [] }
@@ -44,8 +45,8 @@ pub fn fixed_flight(problem: &Problem, k: usize) -> u64
     flight_at(problem, k, problem.fixed(k))
 }
 
-/// The flight of the duties of the pairing at place `p` in the month, by the days of person `k`. It is
-/// what the pairing brings to a set that doesn't have it.
+/// The minutes of flight of the duties of the pairing at place `p` in the month, by the days of person
+/// `k`. They are what the pairing brings to a set that doesn't have it.
 pub fn pairing_flight(problem: &Problem, k: usize, p: usize) -> u64
     requires person { k < length problem.now.persons }
     requires pairing { p < length problem.now.pairings }
@@ -54,7 +55,7 @@ pub fn pairing_flight(problem: &Problem, k: usize, p: usize) -> u64
     flight_at(problem, k, problem.duties_of(p))
 }
 
-/// The flight of person `k` in the month with the set, fixed duties included.
+/// The minutes of flight of person `k` in the month with the set, fixed duties included.
 pub fn set_flight(problem: &Problem, k: usize, set: &Set) -> u64
     requires person { k < length problem.now.persons }
     requires places { All (λ p. p < length problem.now.pairings) set.now }

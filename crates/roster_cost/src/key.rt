@@ -13,7 +13,7 @@ use std::marker::Model;
 /// by cost, and then by the lists from the front.
 #[derive(Debug, Drop)]
 pub struct Key<'a> {
-    /// What the roster costs, by whoever made the key.
+    /// What the roster costs, in cost units, by whoever made the key.
     pub cost: i64,
     /// Who flies each pairing.
     pub places: &'a [u16],

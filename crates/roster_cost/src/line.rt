@@ -37,8 +37,8 @@ pub(crate) fn missed(problem: &Problem, k: usize, flight: u64) -> u64
     u64::from(problem.weight()) * minutes
 }
 
-/// What a set of person `k` costs that has these units and so many minutes of flight in the month,
-/// fixed duties included.
+/// What a set of person `k` costs, in cost units, that has these units and so many minutes of flight
+/// in the month, fixed duties included.
 pub fn cost_at(problem: &Problem, k: usize, units: i64, flight: u64) -> i64
     requires person { k < length problem.now.persons }
     requires units { IsWithin most_units units }
@@ -50,7 +50,8 @@ pub fn cost_at(problem: &Problem, k: usize, units: i64, flight: u64) -> i64
     units + missed(problem, k, flight) as i64
 }
 
-/// What the set costs with person `k`.
+/// What the set costs with person `k`, in cost units: those of its pairings, and the weight for each
+/// minute by which its flight in the month misses the target.
 pub fn line_cost(problem: &Problem, k: usize, set: &Set) -> i64
     requires person { k < length problem.now.persons }
     requires places { All (λ p. p < length problem.now.pairings) set.now }

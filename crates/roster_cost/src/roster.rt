@@ -95,7 +95,8 @@ fn missed_targets(problem: &Problem, places: &[u16]) -> u64
     cost
 }
 
-/// What the roster costs: penalties, cost units and missed targets. The places needn't be legal.
+/// What the roster costs, in cost units: penalties of open pairings, units of placed ones, and missed
+/// targets. The places needn't be legal.
 pub fn roster_cost(problem: &Problem, places: &[u16]) -> i64
     requires { length places.now ≡ length problem.now.pairings }
     ensures { result ≡ costs.cost_of problem.now places.now }

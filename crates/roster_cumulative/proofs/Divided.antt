@@ -16,7 +16,7 @@ pub record IsDivided (minutes : ℕ → ℕ → ℕ) : Type 0 where
   pub nothing : (at : ℕ) → minutes at at ≡ 0
   pub parts : (from at to : ℕ) → from ≤ at → at ≤ to → minutes from at + minutes at to ≡ minutes from to
 
-IsDivided-common : (a b : ℕ) → IsDivided (common a b)
+pub IsDivided-common : (a b : ℕ) → IsDivided (common a b)
 IsDivided-common a b = record { nothing = λ at. omega arith; parts = λ from at to first second. omega arith }
 
 IsDivided-cond : (counts : Bool) (minutes : ℕ → ℕ → ℕ) → IsDivided minutes → IsDivided (λ from to. cond counts (minutes from to) 0)
@@ -26,7 +26,7 @@ IsDivided-cond false minutes is = record { nothing = λ at. omega arith; parts =
 IsDivided-flown : (sector : Sector) → IsDivided (flown_between sector)
 IsDivided-flown sector = IsDivided-cond sector.operates (common sector.off sector.on) (IsDivided-common sector.off sector.on)
 
-IsDivided-sum_by : {X : Type 0} (minutes : X → ℕ → ℕ → ℕ) → ((x : X) → IsDivided (minutes x)) → (xs : List X) → IsDivided (λ from to. sum_by (λ x. minutes x from to) xs)
+pub IsDivided-sum_by : {X : Type 0} (minutes : X → ℕ → ℕ → ℕ) → ((x : X) → IsDivided (minutes x)) → (xs : List X) → IsDivided (λ from to. sum_by (λ x. minutes x from to) xs)
 IsDivided-sum_by minutes each [] = record { nothing = λ at. omega arith; parts = λ from at to first second. omega arith }
 IsDivided-sum_by minutes each (x ∷ xs) =
     let here = each x in
@@ -41,7 +41,7 @@ pub IsDivided-flight : (duty : Duty) → IsDivided (flight_between duty)
 IsDivided-flight duty = IsDivided-sum_by flown_between IsDivided-flown duty.sectors
 
 -- days in a row of a table have together what lies between their first and their last midnight
-in_days : (days : Days) → IsTable days → (minutes : ℕ → ℕ → ℕ) → IsDivided minutes → (first n last : ℕ) → first + n ≡ last → last ≤ length days.eight
+pub in_days : (days : Days) → IsTable days → (minutes : ℕ → ℕ → ℕ) → IsDivided minutes → (first n last : ℕ) → first + n ≡ last → last ≤ length days.eight
     → sum_by (λ i. minutes (get_or days.mid i 0) (get_or days.mid (i + 1) 0)) (range_with_len first n) ≡ minutes (get_or days.mid first 0) (get_or days.mid last 0)
 in_days days table minutes is first zero last at within =
     let same : first ≡ last = omega arith in

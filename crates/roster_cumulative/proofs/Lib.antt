@@ -2,5 +2,6 @@ pub mod OnDay
 pub mod InRun
 pub mod Flown
 pub mod Divided
+pub mod WholeDuties
 pub mod MonthFlight
 pub mod ListedFlight

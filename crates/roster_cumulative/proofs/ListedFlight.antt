@@ -6,22 +6,19 @@ use Rattle.std.specs.List.Sorted.{IsStrictlyIncreasing}
 use Rattle.std.specs.Option.{option_map_or}
 use Rattle.std.proofs.Math.Bool.{or-true}
 use Rattle.std.proofs.lemmas.List.Elements.{filter_agree}
-use Rattle.std.proofs.lemmas.Bool.{both_ways, cases_Bool, cases_lt, eqb-true, false_from_ne_true}
+use Rattle.std.proofs.lemmas.Bool.{both_ways, cases_Bool, eqb-true, false_from_ne_true}
 use Rattle.std.proofs.lemmas.Bool.Decides.{nat_tests}
-use Rattle.std.proofs.lemmas.Option.{slice_get-get_or, slice_get_past}
 use Rattle.std.proofs.lemmas.List.Sums.{sum_by-cons, sum_by-le, sum_by-le-sum_by}
 use Rattle.roster_model.proofs.PlacesLemmas.{is_among-set_of}
 use Rattle.roster_model.proofs.SetLemmas.{Ascends, Ascends-from_rising, is_among-append, is_among-before}
 use Rattle.roster_model.specs.declared.limits.TheConstants.{MOST_MONTH_MINUTES}
 use Rattle.roster_model.specs.Calendar.{Days, IsTable}
-use Rattle.roster_model.specs.Problem.{Problem, home_of}
+use Rattle.roster_model.specs.Problem.{Problem}
 use Rattle.roster_model.specs.Places.{set_of}
 use Rattle.roster_model.specs.Rules.{duty_list, is_among, is_listed}
 use Rattle.roster_model.specs.Sums.{duty_flight, month_flight}
 use Rattle.roster_model.specs.records.Duty.{Duty, Holder, OfPairing, OfPerson, is_held_by_pairing, is_held_by_person}
-use Rattle.roster_model.specs.records.Base.{Base, base_at, no_base}
 use Rattle.roster_problem.specs.Duties.{AreFlown, is_of_pairing, is_of_person}
-use Rattle.roster_problem.specs.Sectors.{AreSectors}
 use Rattle.roster_cumulative.proofs.Divided.{duty_flight-short}
 use Rattle.roster_cumulative.proofs.MonthFlight.{month_flight-sum, sum_of_sums}
 
@@ -175,29 +172,10 @@ ones : {X : Type 0} (xs : List X) → sum_by (λ x. 1) xs ≡ length xs
 ones [] = refl
 ones (x ∷ xs) = omega (arith, sum_by-cons (λ y. 1) x xs, ones xs)
 
--- the lists have no more duties than there are,
+-- The lists have no more duties than there are.
 pub length-lists : (problem : Problem) (places : List ℕ) (n : ℕ) → sum_by (λ k. length (duty_list problem k (set_of k places))) (range_with_len 0 n) ≤ length problem.duties
 length-lists problem places n =
     let once = all_lists (λ k duty. 1) 1 problem places n (λ k i d inside. omega arith) in
     let counted = sum_by-le-sum_by (λ k. length (duty_list problem k (set_of k places))) (λ k. sum_by (λ duty. 1) (duty_list problem k (set_of k places))) (range_with_len 0 n)
     (λ k. omega (arith, ones (duty_list problem k (set_of k places)))) in
     omega (arith, once, counted)
-
-duty_flight-at_home : (bases : List Base) (place : ℕ) (duty : Duty) → All (λ base. IsTable base.days) bases → AreSectors duty.report duty.release duty.sectors
-    → duty_flight (base_at bases place).days duty ≤ MOST_MONTH_MINUTES
-duty_flight-at_home bases place duty tables are =
-    elim (cases_lt place (length bases)) [
-      | inl within ↦
-          rw (slice_get-get_or bases place no_base within) (duty_flight-short (get_or bases place no_base).days duty (tables place no_base within) are)
-      | inr past ↦ rw (slice_get_past bases place past) (omega arith)
-    ]
-
--- and no more flight than each duty has at most
-pub month_flight-lists : (problem : Problem) (places : List ℕ) (n : ℕ) → All (λ base. IsTable base.days) problem.bases → AreFlown problem.duties
-    → sum_by (λ k. month_flight (home_of problem k).days (duty_list problem k (set_of k places))) (range_with_len 0 n) ≤ length problem.duties * MOST_MONTH_MINUTES
-month_flight-lists problem places n tables are =
-    let minutes = λ (k : ℕ). duty_flight (home_of problem k).days in
-    let short = all_lists minutes MOST_MONTH_MINUTES problem places n (λ k i d inside. duty_flight-at_home problem.bases _ (get_or problem.duties i d) tables (are i d inside)) in
-    let each = sum_by-le-sum_by (λ k. month_flight (home_of problem k).days (duty_list problem k (set_of k places))) (λ k. sum_by (minutes k) (duty_list problem k (set_of k places))) (range_with_len 0 n)
-    (λ k. omega (arith, month_flight-sum (home_of problem k).days (duty_list problem k (set_of k places)))) in
-    omega (arith, short, each)

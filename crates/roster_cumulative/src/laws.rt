@@ -1,10 +1,10 @@
 //! What follows from the definitions alone.
 
-ghost use Rattle.std.specs.Prelude.{◌≡◌, ◌≤◌, ◌+◌, ◌*◌, ◌∷◌, ◌++◌, [], ℕ, false, if◌then◌else◌, List, All, filter, length};
+ghost use Rattle.std.specs.Prelude.{◌≡◌, ◌≤◌, ◌+◌, ◌*◌, ◌∷◌, ◌++◌, [], ℕ, false, if◌then◌else◌, List, filter, length};
 ghost use Rattle.std.specs.List.{range_with_len, sum_by};
 ghost use Rattle.std.specs.List.Sorted.{IsStrictlyIncreasing};
 ghost use Rattle.roster_model.specs.Calendar.{Days, IsTable};
-ghost use Rattle.roster_model.specs.Problem.{Problem as Tables, home_of};
+ghost use Rattle.roster_model.specs.Problem.{Problem as Tables};
 ghost use Rattle.roster_model.specs.Places.{set_of};
 ghost use Rattle.roster_model.specs.Rules.{duty_list, is_among, is_listed};
 ghost use Rattle.roster_model.specs.Sums.{duty_flight, month_flight};
@@ -51,15 +51,4 @@ pub fn one_list_of_each_duty()
     ensures { (problem : Tables) (places : List ℕ) (persons : ℕ)
         → sum_by (λ k. length (duty_list problem k (set_of k places))) (range_with_len 0 persons)
         ≤ length problem.duties }
-{}
-
-/// So their flight, each by the days of their home base, is no more than so many months', where the
-/// sectors of a duty don't overlap.
-pub fn flight_of_all()
-    ensures { (problem : Tables) (places : List ℕ) (persons : ℕ)
-        → All (λ base. IsTable base.days) problem.bases
-        → AreFlown problem.duties
-        → sum_by (λ k. month_flight (home_of problem k).days
-        (duty_list problem k (set_of k places))) (range_with_len 0 persons)
-        ≤ length problem.duties * MOST_MONTH_MINUTES }
 {}

@@ -10,6 +10,7 @@
 //! - `table`: the minutes of each day of a window
 //! - `runs`: the minutes of days in a row
 //! - `sums`: both for duty and for flight
+//! - `whole`: the minutes of whole duties
 //! - `limits`: the limits together
 //! - `laws`: what follows from the definitions of the month's flight
 #![tactic(auto)]
@@ -19,10 +20,11 @@ mod limits;
 mod runs;
 mod sums;
 mod table;
+mod whole;
 
 pub use laws::{
-    flight_of_all, flight_of_duties, flight_of_one_pairing_more, flight_of_set,
-    one_list_of_each_duty,
+    flight_of_duties, flight_of_one_pairing_more, flight_of_set, one_list_of_each_duty,
 };
 pub use limits::{ListLimits, cumulative_broken};
+pub use roster_problem::{DutyList, Rule};
 pub use sums::{duty_flight, duty_on, flight_on, greatest_duty, greatest_flight, month_flight};

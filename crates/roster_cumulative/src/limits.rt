@@ -3,15 +3,18 @@
 ghost use Rattle.std.specs.Prelude.{◌≡◌, ◌+◌, ◌≤◌, ◌↔◌, IsTrue, IfSome, IsSomeAnd, option_map, slice_index};
 ghost use Rattle.roster_model.specs.Rules.{HoldsLimit, IsFirstFailing};
 ghost use Rattle.roster_model.specs.Rules.Limits.{KeepsLimit};
-ghost use Rattle.roster_model.specs.Sums.{duty_on, flight_on, month_flight};
+ghost use Rattle.roster_model.specs.Sums as sums;
+ghost use Rattle.roster_model.specs.Sums.{duty_on, flight_on};
 ghost use Rattle.roster_problem.specs.View.{rule_of};
 ghost use Rattle.roster_cumulative.specs.Limited.{IsWithin};
 ghost use Rattle.roster_cumulative.specs.Table.{IsLight, IsTableOf};
 
-use crate::runs::{greatest_run, month_of};
+use crate::runs::greatest_run;
+use crate::sums::month_flight;
 use crate::table::{Measure, table_of};
+use crate::whole::keeps_whole;
 use roster_instants::BaseDays;
-use roster_model::limits::{DAYS_BEFORE, MOST_DAYS, MOST_DUTIES};
+use roster_model::limits::{DAYS_BEFORE, LAST_INSTANT, MOST_DAYS, MOST_DUTIES};
 use roster_model::profile::{
     LONG_RUN, MIDDLE_RUN, MOST_DUTY_IN_7_DAYS, MOST_DUTY_IN_14_DAYS, MOST_DUTY_IN_28_DAYS,
     MOST_FLIGHT_IN_12_MONTHS, MOST_FLIGHT_IN_28_DAYS, MOST_FLIGHT_IN_A_YEAR, SHORT_RUN,
@@ -95,35 +98,43 @@ impl<'a> ListLimits<'a> {
         }
     }
 
-    /// Whether each judged run of `n` days has at most so many minutes of duty.
+    /// Whether each judged run of `n` days has at most so many minutes of duty. No run has more than all
+    /// duties.
     fn keeps_duty(&mut self, n: usize, most: u64) -> bool
         requires { n ≤ DAYS_BEFORE }
         ensures value { let l = self.old in
             IsTrue result ↔ KeepsLimit (duty_on l.days l.list) l.days n most }
         ensures same { self.new ≡ self.old }
     {
+        if keeps_whole(self.days, self.list, Measure::Duty, n, most) {
+            return true;
+        }
         sum(&mut self.duty, self.days, self.list, Measure::Duty);
         keeps_limit(self.days, self.duty.as_ref().unwrap(), n, most)
     }
 
-    /// Whether each judged run of `n` days has at most so many minutes of flight.
+    /// Whether each judged run of `n` days has at most so many minutes of flight. No run has more than
+    /// all duties.
     fn keeps_flight(&mut self, n: usize, most: u64) -> bool
         requires { n ≤ DAYS_BEFORE }
         ensures value { let l = self.old in
             IsTrue result ↔ KeepsLimit (flight_on l.days l.list) l.days n most }
         ensures same { self.new ≡ self.old }
     {
+        if keeps_whole(self.days, self.list, Measure::Flight, n, most) {
+            return true;
+        }
         sum(&mut self.flight, self.days, self.list, Measure::Flight);
         keeps_limit(self.days, self.flight.as_ref().unwrap(), n, most)
     }
 
     /// Whether the flight of the month, with what was flown before it, is at most so many minutes.
-    fn keeps_month(&mut self, before: u32, most: u64) -> bool
-        ensures value { IsTrue result ↔ (before + month_flight self.old.days self.old.list ≤ most) }
-        ensures same { self.new ≡ self.old }
+    fn keeps_month(&self, before: u32, most: u64) -> bool
+        requires { most ≤ LAST_INSTANT }
+        ensures { IsTrue result ↔ (before + sums.month_flight self.now.days self.now.list ≤ most) }
     {
-        sum(&mut self.flight, self.days, self.list, Measure::Flight);
-        u64::from(before) + month_of(self.days, self.flight.as_ref().unwrap()) <= most
+        prove!(self.list.len() <= MOST_DUTIES);
+        i64::from(before) + month_flight(self.days, self.list) <= most as i64
     }
 }
 

@@ -1,4 +1,4 @@
-//! The minutes of days in a row: of the judged runs, and of the month.
+//! The minutes of judged runs of days.
 
 ghost use Rattle.std.specs.Prelude.{◌≡◌, ◌-◌, ◌≤◌, slice_index};
 ghost use Rattle.std.specs.List.{range_with_len, sum_by};
@@ -22,16 +22,6 @@ fn run_before(table: &[u64; MOST_DAYS], n: usize, end: usize) -> u64
         total += table[i];
     }
     total
-}
-
-/// The minutes of the days of the month.
-pub(crate) fn month_of(days: &BaseDays, table: &[u64; MOST_DAYS]) -> u64
-    requires { IsLight MOST_DUTIES table.now }
-    ensures value { result ≡ sums.in_month (slice_index table.now) days.now }
-    ensures bound { result ≤ most_in_run }
-{
-    let n = days.month_days();
-    run_before(table, n, DAYS_BEFORE + n)
 }
 
 /// The most minutes of a judged run of `n` days: one whose last day is of the month or after it.

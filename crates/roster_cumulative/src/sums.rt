@@ -7,7 +7,7 @@ ghost use Rattle.roster_cumulative.specs.Table.{minutes_of, most_in_run};
 use crate::runs::greatest_run;
 use crate::table::{Measure, table_of};
 use roster_instants::{BaseDays, Minute, common};
-use roster_model::limits::{DAYS_BEFORE, MOST_MONTH_MINUTES};
+use roster_model::limits::{DAYS_BEFORE, LAST_INSTANT, MOST_MONTH_MINUTES};
 use roster_problem::{Duty, DutyList, Sector};
 
 /// What the list has of the measure on day `i`.
@@ -31,7 +31,7 @@ fn most_minutes(days: &BaseDays, list: &DutyList, n: usize, measure: Measure) ->
     greatest_run(days, &table_of(days, list, measure), n) as i64
 }
 
-/// The duty of the list on day `i`.
+/// The minutes of duty of the list on day `i`.
 pub fn duty_on(days: &BaseDays, list: &DutyList, i: usize) -> i64
     requires { i < length days.now.eight }
     ensures value { result ≡ pos (sums.duty_on days.now list.now i) }
@@ -40,7 +40,7 @@ pub fn duty_on(days: &BaseDays, list: &DutyList, i: usize) -> i64
     minutes_on(days, list, i, Measure::Duty)
 }
 
-/// The flight of the list on day `i`.
+/// The minutes of flight of the list on day `i`.
 pub fn flight_on(days: &BaseDays, list: &DutyList, i: usize) -> i64
     requires { i < length days.now.eight }
     ensures value { result ≡ pos (sums.flight_on days.now list.now i) }
@@ -49,8 +49,8 @@ pub fn flight_on(days: &BaseDays, list: &DutyList, i: usize) -> i64
     minutes_on(days, list, i, Measure::Flight)
 }
 
-/// The greatest duty of a judged run of `n` days; `n` is at most the days before the month. A run is
-/// judged where its last day is of the month or after it.
+/// The greatest duty, in minutes, of a judged run of `n` days; `n` is at most the days before the month.
+/// A run is judged where its last day is of the month or after it.
 pub fn greatest_duty(days: &BaseDays, list: &DutyList, n: usize) -> i64
     requires { n ≤ DAYS_BEFORE }
     ensures value { result ≡ pos (sums.greatest_duty days.now list.now n) }
@@ -59,7 +59,8 @@ pub fn greatest_duty(days: &BaseDays, list: &DutyList, n: usize) -> i64
     most_minutes(days, list, n, Measure::Duty)
 }
 
-/// The greatest flight of a judged run of `n` days; `n` is at most the days before the month.
+/// The greatest flight, in minutes, of a judged run of `n` days; `n` is at most the days before the
+/// month.
 pub fn greatest_flight(days: &BaseDays, list: &DutyList, n: usize) -> i64
     requires { n ≤ DAYS_BEFORE }
     ensures value { result ≡ pos (sums.greatest_flight days.now list.now n) }
@@ -82,12 +83,12 @@ fn flown_between(sector: Sector, from: Minute, to: Minute) -> u64
 }
 
 /// The flight of the duty from one instant to another.
-fn flight_between(duty: &Duty, from: Minute, to: Minute) -> u64
+pub(crate) fn flight_between(duty: &Duty, from: Minute, to: Minute) -> u64
     requires { from ≤ to }
     ensures value { result ≡ sums.flight_between duty.now from to }
     ensures bound { result ≤ to - from }
 {
-    prove!(to.get() <= 5_000_000_000);
+    prove!(to.get() <= LAST_INSTANT as i64);
     let mut total = 0;
     for sector in &duty.sectors {
         total += flown_between(*sector, from, to);
@@ -95,7 +96,7 @@ fn flight_between(duty: &Duty, from: Minute, to: Minute) -> u64
     total
 }
 
-/// The flight of the duty in the month. It looks at no day of the month.
+/// The minutes of flight of the duty in the month. It looks at no day of the month.
 pub fn duty_flight(days: &BaseDays, duty: &Duty) -> i64
     ensures value { result ≡ pos (sums.duty_flight days.now duty.now) }
     ensures bound { sums.duty_flight days.now duty.now ≤ MOST_MONTH_MINUTES }
@@ -103,7 +104,7 @@ pub fn duty_flight(days: &BaseDays, duty: &Duty) -> i64
     flight_between(duty, days.month_start(), days.month_end()) as i64
 }
 
-/// The flight of the list in the month, which is that of its duties.
+/// The minutes of flight of the list in the month, which are those of its duties.
 pub fn month_flight(days: &BaseDays, list: &DutyList) -> i64
     ensures value { result ≡ pos (sums.month_flight days.now list.now) }
     ensures bound { sums.month_flight days.now list.now ≤ length list.now * MOST_MONTH_MINUTES }

@@ -6,7 +6,7 @@ ghost use Rattle.roster_model.specs.Sums as sums;
 ghost use Rattle.roster_cumulative.specs.Table.{IsLight, IsTableOf, minutes_of};
 
 use roster_instants::{BaseDays, Minute, common};
-use roster_model::limits::{MOST_DAYS, MOST_DUTIES};
+use roster_model::limits::{LAST_INSTANT, MOST_DAYS, MOST_DUTIES};
 use roster_problem::{Duty, DutyList, Sector};
 
 /// What is counted.
@@ -19,11 +19,11 @@ pub(crate) enum Measure {
 }
 
 /// The minutes that the time from one instant to another shares with that from `start` to `end`.
-fn shared(from: Minute, to: Minute, start: Minute, end: Minute) -> u64
+pub(crate) fn shared(from: Minute, to: Minute, start: Minute, end: Minute) -> u64
     requires first { from ≤ to }
     requires second { start ≤ end }
     ensures value { result ≡ calendar.common from to start end }
-    ensures bound { result ≤ 5_000_000_000 }
+    ensures bound { result ≤ LAST_INSTANT }
 {
     common(from, to, start, end) as u64
 }
@@ -35,7 +35,7 @@ fn add_time(table: &mut [u64; MOST_DAYS], days: &BaseDays, from: Minute, to: Min
     requires light { IsLight MOST_DUTIES table.old }
     ensures added { (i : ℕ) → slice_index table.new i ≡ slice_index table.old i
         + calendar.common from to (slice_index days.now.mid i) (slice_index days.now.mid (i + 1)) }
-    ensures bound { to ≤ 5_000_000_000 }
+    ensures bound { to ≤ LAST_INSTANT }
 {
     let first = days.day_of(from).unwrap_or(0);
     for i in first..days.days() {
@@ -64,9 +64,9 @@ fn add_flight(table: &mut [u64; MOST_DAYS], days: &BaseDays, duty: &Duty)
     requires light { IsLight (MOST_DUTIES - 1) table.old }
     ensures added { (i : ℕ) → slice_index table.new i ≡ slice_index table.old i
         + sums.flight_between duty.now (slice_index days.now.mid i) (slice_index days.now.mid (i + 1)) }
-    ensures bound { (from to : ℕ) → sums.flight_between duty.now from to ≤ 5_000_000_000 }
+    ensures bound { (from to : ℕ) → sums.flight_between duty.now from to ≤ LAST_INSTANT }
 {
-    prove!(duty.release.get() <= 5_000_000_000);
+    prove!(duty.release.get() <= LAST_INSTANT as i64);
     for sector in &duty.sectors {
         add_sector(table, days, *sector);
     }
@@ -77,7 +77,7 @@ fn add_duty(table: &mut [u64; MOST_DAYS], days: &BaseDays, duty: &Duty, measure:
     requires light { IsLight (MOST_DUTIES - 1) table.old }
     ensures added { (i : ℕ) → slice_index table.new i ≡ slice_index table.old i
         + minutes_of measure duty.now (slice_index days.now.mid i) (slice_index days.now.mid (i + 1)) }
-    ensures bound { (from to : ℕ) → minutes_of measure duty.now from to ≤ 5_000_000_000 }
+    ensures bound { (from to : ℕ) → minutes_of measure duty.now from to ≤ LAST_INSTANT }
 {
     match measure {
         Measure::Duty => add_time(table, days, duty.report, duty.release),

@@ -22,7 +22,7 @@ pub enum ZoneFault {
     /// The text is no zone.
     #[error("the text is no zone that is read here")]
     Refused,
-    /// A day of the window begins, or has its 08:00 or 22:00, at no whole minute.
+    /// A day of the window begins, or has its 08:00 or 22:00, or the window ends, at no whole minute.
     #[error("the zone's clocks are not ahead of UTC by whole minutes")]
     NotMinutes,
     /// These instants do not follow one another on some day of the window.

@@ -7,9 +7,10 @@ ghost use Rattle.roster_model.specs.Calendar.{day_number, is_real_date, instant_
 
 use crate::text::{has_shape, is_in_range, number_at};
 use jiff::civil::Date;
+use roster_model::limits::LAST_INSTANT;
 use std::marker::Model;
 
-/// An instant: whole minutes since 1970-01-01T00:00Z, from 0 to 5000000000, which the type keeps.
+/// An instant: whole minutes since 1970-01-01T00:00Z, from 0 to [`LAST_INSTANT`], which the type keeps.
 #[derive(Clone, Copy, Debug, Drop, PartialEq, Eq, PartialOrd, Ord)]
 pub struct Minute {
     minutes: i64,
@@ -17,12 +18,13 @@ pub struct Minute {
 
 impl Model for Minute {
     ghost use Rattle.std.specs.Prelude.{ℕ, ◌≤◌, ◌≤ℤ◌, pos, unsigned_abs};
+    ghost use Rattle.roster_model.specs.declared.limits.TheConstants.{LAST_INSTANT};
 
     ghost Value = { ℕ };
 
     ghost view = { λ m. unsigned_abs m.minutes };
 
-    ghost invariant = { λ m. (pos 0 ≤ℤ m.minutes) × (m.minutes ≤ℤ pos 5_000_000_000) };
+    ghost invariant = { λ m. (pos 0 ≤ℤ m.minutes) × (m.minutes ≤ℤ pos LAST_INSTANT) };
 
     ghost inverse = { λ n. record { minutes = pos n } };
 }
@@ -52,7 +54,7 @@ impl Minute {
     /// The minutes since 1970-01-01T00:00Z.
     pub fn get(self) -> i64
         ensures value { result ≡ pos self }
-        ensures bound { self ≤ 5_000_000_000 }
+        ensures bound { self ≤ LAST_INSTANT }
     {
         self.minutes
     }
@@ -63,7 +65,7 @@ pub fn common(a: Minute, b: Minute, c: Minute, d: Minute) -> i64
     requires first { a ≤ b }
     requires second { c ≤ d }
     ensures value { result ≡ pos (calendar.common a b c d) }
-    ensures bound { calendar.common a b c d ≤ 5_000_000_000 }
+    ensures bound { calendar.common a b c d ≤ LAST_INSTANT }
 {
     let from = a.get().max(c.get());
     let to = b.get().min(d.get());

@@ -12,7 +12,8 @@ use Rattle.roster_model.specs.Clocks.{is_minute_at, minute_at}
 pub data ZoneRefusal : Type 0 where
   -- it is no zone
   NotRead : ZoneRefusal
-  -- a day of the window begins, or has its 08:00 or 22:00, at an instant that is no whole minute
+  -- a day of the window begins, or has its 08:00 or 22:00, or the window ends, at an instant that is no
+  -- whole minute
   NotMinutes : ZoneRefusal
   -- the clocks are shifted so far that these instants don't follow one another
   NotRising : ZoneRefusal

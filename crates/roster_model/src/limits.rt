@@ -58,6 +58,10 @@ pub const MOST_UNITS: u32 = 1_000_000_000;
 /// What it costs that a person's flight misses the target by a minute, at most.
 pub const MOST_WEIGHT: u32 = 1_000_000_000;
 
+/// The last instant of all, in minutes since 1970-01-01T00:00Z: none of the years that are read comes
+/// near it.
+pub const LAST_INSTANT: u64 = 5_000_000_000;
+
 /// The days of the window before the month's first day.
 pub const DAYS_BEFORE: usize = 35;
 

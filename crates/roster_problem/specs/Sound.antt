@@ -17,7 +17,7 @@ pub record IsSound (problem : Problem) : Type 0 where
   pub duties : length problem.duties ≤ MOST_DUTIES
   pub leaves : length problem.leaves ≤ MOST_LEAVES
   pub costs : length problem.costs ≤ MOST_COSTS
-  -- no amount is beyond its limit
+  -- no amount that costs are made of is beyond its limit
   pub weight : weight_of problem ≤ MOST_WEIGHT
   pub targets : All (λ person. person.target ≤ MOST_MINUTES) problem.persons
   pub penalties : All (λ pairing. pairing.penalty ≤ MOST_PENALTY) problem.pairings

@@ -48,6 +48,7 @@ impl Places {
 pub struct Roster {
     /// Who flies each pairing.
     pub places: Places,
-    /// The penalties of open pairings, the units of placed ones, and the missed targets, in all.
+    /// The penalties of open pairings, the units of placed ones, and the missed targets, in all, in
+    /// cost units.
     pub cost: i64,
 }

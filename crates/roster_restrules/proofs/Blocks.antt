@@ -4,10 +4,8 @@ use Rattle.std.specs.Prelude.{slice_get}
 use Rattle.std.proofs.lemmas.Bool.{cases_eq, cases_lt}
 use Rattle.std.proofs.lemmas.Option.{same_Some}
 use Rattle.roster_model.proofs.OrderLemmas.{reports-later}
-use Rattle.roster_model.specs.Calendar.{Days}
-use Rattle.roster_model.specs.declared.limits.TheConstants.{DAYS_BEFORE}
+use Rattle.roster_model.specs.Calendar.{Days, month_start}
 use Rattle.roster_model.specs.declared.profile.TheConstants.{BETWEEN_RECURRENT_RESTS}
-use Rattle.roster_model.specs.Window.{midnight}
 use Rattle.roster_model.specs.records.Duty.{Duty}
 use Rattle.roster_model.specs.Rules.Recovery.{HasRestAfter, IsRecurrent}
 use Rattle.roster_problem.specs.Duties.{IsInOrder}
@@ -39,7 +37,7 @@ longer_block days list first i block none = record {
 abbrev pub EndsInTime : Days → List Duty → ℕ → Type 0
 EndsInTime days list j = (i : ℕ) (a b : Duty) → i ≤ j → slice_get list i ≡ Some a
     → slice_get list j ≡ Some b → ((k : ℕ) → i ≤ k → k < j → ¬ HasRestAfter days list k)
-    → midnight days DAYS_BEFORE < b.release → b.release ≤ a.report + BETWEEN_RECURRENT_RESTS
+    → month_start days < b.release → b.release ≤ a.report + BETWEEN_RECURRENT_RESTS
 
 -- a block has no recurrent rest within it, so what follows its first duty's follows
 in_block : (days : Days) (list : List Duty) (first i j : ℕ) → IsBlock days list first j → ((k : ℕ) → i ≤ k → k < j → ¬ HasRestAfter days list k) → first ≤ i
@@ -51,11 +49,11 @@ in_block days list first i j block none =
       | inr inside ↦ inside
     ]
 
-pub ends_in_block : (days : Days) (list : List Duty) (first j : ℕ) (f d : Duty) → IsInOrder list → IsBlock days list first j → slice_get list first ≡ Some f → slice_get list j ≡ Some d → (midnight days DAYS_BEFORE < d.release → d.release ≤ f.report + BETWEEN_RECURRENT_RESTS) → EndsInTime days list j
+pub ends_in_block : (days : Days) (list : List Duty) (first j : ℕ) (f d : Duty) → IsInOrder list → IsBlock days list first j → slice_get list first ≡ Some f → slice_get list j ≡ Some d → (month_start days < d.release → d.release ≤ f.report + BETWEEN_RECURRENT_RESTS) → EndsInTime days list j
 ends_in_block days list first j f d ordered block is_first is_last ends i a b order at_i at_j none late =
     let same : b ≡ d = same_Some b d (sym at_j ∙ is_last) in
     let inside = in_block days list first i j block none in
     let earlier = reports-later list ordered first i f a inside is_first at_i in
-    let P : Duty → Type 0 = λ x. midnight days DAYS_BEFORE < x.release → x.release ≤ f.report + BETWEEN_RECURRENT_RESTS in
+    let P : Duty → Type 0 = λ x. month_start days < x.release → x.release ≤ f.report + BETWEEN_RECURRENT_RESTS in
     let soon = subst P (sym same) ends late in
     omega arith

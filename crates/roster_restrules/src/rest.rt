@@ -4,6 +4,7 @@ ghost use Rattle.std.specs.Prelude.{◌≡◌, ◌-◌, ◌≤◌, ◌↔◌, �
 ghost use Rattle.roster_model.specs.Rules.Rest as model;
 ghost use Rattle.roster_model.specs.Rules.Rest.{IsRested, KeepsRest};
 
+use roster_model::limits::LAST_INSTANT;
 use roster_model::profile::{REST_AT_HOME, REST_AWAY};
 use roster_problem::{Base, Duty, DutyList, Holder};
 
@@ -24,7 +25,7 @@ pub fn rest_needed(prev: &Duty, next: &Duty, home: &Base) -> i64
     ensures value { result
         ≡ pos (max (prev.now.release - prev.now.report) (model.least_rest home.now next.now)) }
     ensures bound { max (prev.now.release - prev.now.report) (model.least_rest home.now next.now)
-        ≤ 5_000_000_000 }
+        ≤ LAST_INSTANT }
 {
     let worked = prev.release.get() - prev.report.get();
     worked.max(least_rest(home, next))

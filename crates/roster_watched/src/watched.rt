@@ -10,7 +10,8 @@ use std::io::{Read, Write};
 /// A reader or writer that remembers whether it has failed, and whether it is flushed.
 ///
 /// It has failed where the one inside answered an error, or took none of some bytes. It then stays so.
-/// It is flushed where nothing was written since it was made, or since the last flush without an error.
+/// It is flushed where no write was asked of it since it was made, or since the last flush without an
+/// error.
 #[derive(Debug, Drop)]
 pub struct Watched<D> {
     inner: D,

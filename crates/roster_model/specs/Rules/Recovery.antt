@@ -5,10 +5,8 @@
 -- 22:00 and 08:00, ORO.FTL.105.)
 use Rattle.std.specs.Prelude.{◌≡◌, ℕ, ◌+◌, ◌-◌, ◌<◌, ◌≤◌, Bool, nat_le, List, length, Some, slice_get, slice_index}
 use Rattle.std.specs.List.{count_by, range_with_len}
-use Rattle.roster_model.specs.declared.limits.TheConstants.{DAYS_BEFORE}
 use Rattle.roster_model.specs.declared.profile.TheConstants.{RECURRENT_REST, RECURRENT_NIGHTS, NIGHT_REST, BETWEEN_RECURRENT_RESTS}
-use Rattle.roster_model.specs.Calendar.{Days, common}
-use Rattle.roster_model.specs.Window.{midnight}
+use Rattle.roster_model.specs.Calendar.{Days, common, month_start}
 use Rattle.roster_model.specs.records.Duty.{Duty}
 
 -- the nights of the window: night i reaches from 22:00 on day i to 08:00 on the next day
@@ -39,4 +37,4 @@ pub record HasRestAfter (days : Days) (list : List Duty) (k : ℕ) : Type 0 wher
 abbrev pub KeepsRecovery : Days → List Duty → Type 0
 KeepsRecovery days list = (i j : ℕ) (a b : Duty) → i ≤ j → slice_get list i ≡ Some a
     → slice_get list j ≡ Some b → ((k : ℕ) → i ≤ k → k < j → ¬ HasRestAfter days list k)
-    → midnight days DAYS_BEFORE < b.release → b.release ≤ a.report + BETWEEN_RECURRENT_RESTS
+    → month_start days < b.release → b.release ≤ a.report + BETWEEN_RECURRENT_RESTS

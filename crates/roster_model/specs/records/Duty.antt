@@ -4,10 +4,10 @@ use Rattle.std.specs.Prelude.{ℕ, ◌+◌, Bool, true, false, not, ◌&&◌, �
 use Rattle.std.specs.List.{filter, last_or}
 use Rattle.std.specs.Option.{option_map_or}
 use Rattle.std.specs.Str.{bytes_eq}
-use Rattle.roster_model.specs.declared.limits.TheConstants.{MOST_DUTIES, DAYS_BEFORE}
+use Rattle.roster_model.specs.declared.limits.TheConstants.{MOST_DUTIES}
 use Rattle.roster_model.specs.Form.{is_identifier}
-use Rattle.roster_model.specs.Calendar.{Days, instant_of}
-use Rattle.roster_model.specs.Window.{midnight, is_in_window}
+use Rattle.roster_model.specs.Calendar.{Days, instant_of, month_end, month_start}
+use Rattle.roster_model.specs.Window.{is_in_window}
 use Rattle.roster_model.specs.Record.{Record, DutyRecord, field, minute_of, next_row, place_named, table_of}
 use Rattle.roster_model.specs.Code.{Code, FieldCount, FieldForm, GivenTwice, NotGiven, OutOfSequence, OutOfWindow, NoRoom, WrongStart, Busy}
 use Rattle.roster_model.specs.records.Base.{Base, bases_in, base_at}
@@ -116,7 +116,7 @@ is_in_sequence last report release =
 
 -- the instant lies in the month
 abbrev pub is_in_month : Days → ℕ → Bool
-is_in_month days t = nat_le (midnight days DAYS_BEFORE) t && nat_lt t (midnight days (DAYS_BEFORE + days.month_days))
+is_in_month days t = nat_le (month_start days) t && nat_lt t (month_end days)
 
 -- it isn't the first duty of its pairing, or it reports at the pairing's base in the month there
 abbrev pub starts_well : Option Duty → Base → List ℕ → ℕ → Bool
