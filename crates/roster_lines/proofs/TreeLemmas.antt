@@ -134,6 +134,7 @@ pub IsTree-first : (line : Line) → IsTree (line ∷ [])
 IsTree-first line =
     let sets : sets_of (entries_in (line ∷ [])) ≡ [] ∷ [] = ap sets_of (entries_in-first line) in
     record {
+      some = omega arith;
       parents = parents-first line;
       ascending = subst (All IsStrictlyIncreasing) (sym sets) (All-cons IsStrictlyIncreasing [] [] (rising_from_Ascends [] tt) (All-nil IsStrictlyIncreasing));
       places = subst (All (All (λ p. p < MOST_PAIRINGS))) (sym sets) (All-cons (All (λ p. p < MOST_PAIRINGS)) [] [] (All-nil (λ p. p < MOST_PAIRINGS)) (All-nil (All (λ p. p < MOST_PAIRINGS))));
@@ -166,6 +167,7 @@ IsTree-push lines line tree room parent last later before =
     ap sets_of (entries_in-push lines line (omega arith)) ∙ sets_of-push entries (entry_of set line.cost) in
     let up = Ascends-from_rising (set_at entries line.parent) (tree.ascending line.parent [] (omega arith)) in
     record {
+      some = omega (arith, length_push lines line);
       parents = each-push (λ i (l : Line). 0 < i → l.parent < i) lines line tree.parents (λ later. parent);
       ascending = subst (All IsStrictlyIncreasing) (sym sets) (All-push IsStrictlyIncreasing (sets_of entries) set tree.ascending (rising_from_Ascends set (Ascends-push (set_at entries line.parent) line.last up later)));
       places = subst (All (All (λ p. p < MOST_PAIRINGS))) (sym sets) (All-push (All (λ p. p < MOST_PAIRINGS)) (sets_of entries) set tree.places (All-push (λ p. p < MOST_PAIRINGS) (set_at entries line.parent) line.last (tree.places line.parent [] (omega arith)) last));

@@ -19,8 +19,9 @@ entries_from entries (line ∷ lines) = entries_from (entries ++ entry_of (next_
 unfoldable pub entries_in : List Line → List Entry
 entries_in lines = entries_from [] lines
 
--- Each parent stands before its line, and the sets are in their order.
+-- There is the empty line, each parent stands before its line, and the sets are in their order.
 pub record IsTree (lines : List Line) : Type 0 where
+  pub some : 0 < length lines
   pub parents : (i : ℕ) (line : Line) → slice_get lines i ≡ Some line → 0 < i → line.parent < i
   pub ascending : All IsStrictlyIncreasing (sets_of (entries_in lines))
   pub places : All (All (λ p. p < MOST_PAIRINGS)) (sets_of (entries_in lines))

@@ -56,9 +56,10 @@ impl Lines {
         Ok(Lines { lines })
     }
 
-    /// How many there are.
+    /// How many there are: at least the empty one.
     pub fn width(&self) -> usize
         ensures value { result ≡ length self.now }
+        ensures some { 0 < result }
         ensures bound { result ≤ MOST_LINES }
         ensures ordered { AreOrdered (sets_of self.now) }
     {
