@@ -2,7 +2,7 @@
 
 use crate::given::{duty, list_of, march, name};
 use roster_cumulative::{
-    cumulative_broken, duty_flight, duty_on, flight_on, greatest_duty, greatest_flight,
+    ListLimits, cumulative_broken, duty_flight, duty_on, flight_on, greatest_duty, greatest_flight,
     month_flight,
 };
 use roster_problem::{Duty, Person, Rule, Sector};
@@ -169,5 +169,32 @@ fn the_first_limit_that_is_broken(rt: HostRuntime) {
         let list = list_of(&rt, duties, positions);
         let person = person(&rt, year, eleven);
         assert!(rt; cumulative_broken(&days, &list, &person) == broken);
+    }
+}
+
+#[test]
+fn limits_are_judged_in_any_order(rt: HostRuntime) {
+    let days = march(&rt);
+    let duties = [
+        // 60 hours of duty and a minute, and 50 hours of flight two weeks later.
+        duty(&rt, "AMS", "2024-03-04T00:00Z", "2024-03-06T12:01Z"),
+        flight(&rt, true, "2024-03-18T00:00Z", "2024-03-20T02:00Z"),
+    ];
+    let list = list_of(&rt, duties.as_slice(), &[0, 1]);
+    let person = person(&rt, 51000, 57001);
+    let mut limits = ListLimits::new(&days, &list, &person);
+    for (rule, holds) in [
+        (Rule::Flight12, false),
+        (Rule::Duty7, false),
+        (Rule::FlightYear, true),
+        (Rule::Flight28, true),
+        (Rule::Duty28, true),
+        (Rule::Duty14, true),
+        (Rule::Flight12, false),
+        (Rule::Duty28, true),
+        // Rules that are no limits are none that is broken.
+        (Rule::Overlap, true),
+    ] {
+        assert!(rt; limits.holds(rule) == holds);
     }
 }

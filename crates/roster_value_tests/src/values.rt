@@ -1,8 +1,8 @@
 //! Names, rules, sets, duty lists and places.
 
 use crate::given::{duty, list_of, minute, name};
-use roster_model::limits::MOST_PAIRINGS;
-use roster_problem::{DutyList, Name, Places, Rule, Sector, Set};
+use roster_model::limits::{MOST_PAIRINGS, MOST_PERSONS};
+use roster_problem::{Cost, Costs, DutyList, Name, Places, Rule, Sector, Set};
 use std::process::Abort;
 use std::test::Fail;
 
@@ -157,5 +157,30 @@ fn places_are_given_back(rt: HostRuntime) -> Result<(), Fail> {
     let places = Places::new([2u16, 0].to_vec(rt.alloc())?);
     assert!(rt; places.as_slice() == [2u16, 0].as_slice());
     assert!(rt; places.into_vec().as_slice() == [2u16, 0].as_slice());
+    Ok(())
+}
+
+#[test]
+fn costs_are_found_by_person_and_pairing(rt: HostRuntime) -> Result<(), Fail> {
+    let mut costs = Costs::new(rt.alloc());
+    let last = (MOST_PERSONS - 1, MOST_PAIRINGS - 1);
+    let given = [(3, 7, -5), (last.0, last.1, 9), (0, 0, 0), (7, 3, 1)];
+    for (person, pairing, units) in given {
+        assert!(rt; person < MOST_PERSONS && pairing < MOST_PAIRINGS);
+        assert!(rt; costs.given(person, pairing).is_none());
+        costs.push(Cost {
+            person,
+            pairing,
+            units,
+        })?;
+    }
+    assert!(rt; costs.len() == 4);
+    for (person, pairing, units) in given {
+        assert!(rt; costs.given(person, pairing) == Some(units));
+    }
+    // Not the next row's first place.
+    for (person, pairing) in [(3, 8), (0, 3), (2, 7 + MOST_PAIRINGS), (MOST_PERSONS, 0)] {
+        assert!(rt; costs.given(person, pairing).is_none());
+    }
     Ok(())
 }

@@ -3,7 +3,7 @@
 ghost use Rattle.std.specs.Prelude.{◌<◌, All, IfSome, length};
 
 use roster_book::{Command, Watched, read_book};
-use roster_legal::{first_broken, is_legal, merge};
+use roster_legal::{Judge, first_broken, is_legal, locked, merge};
 use roster_model::limits::MOST_PAIRINGS;
 use roster_problem::{Problem, Rule, Set};
 use std::alloc::{AllocError, Global};
@@ -67,5 +67,43 @@ fn as_many_duties_as_pairings(rt: HostRuntime) -> Result<(), Fail> {
     let broken = first_broken(rt.alloc(), &problem, 0, &set)?;
     assert!(rt; matches!(broken, Some(Rule::Overlap)));
     assert!(rt; !is_legal(rt.alloc(), &problem, 0, &set)?);
+    Ok(())
+}
+
+// A has a fixed duty on 4 March, and P1 at the same time; P2 is two days later. B is of another base,
+// and locked by what was flown in the year.
+const LOCKED: &[u8] = b"period,2024-03
+base,BAS,UTC0
+base,GVA,UTC0
+crew,A,BAS,0,0,0
+crew,B,GVA,0,54001,0
+pairing,P1,BAS,1
+pairing,P2,BAS,1
+duty,Q1,P,P1,BAS,2024-03-04T06:00Z,2024-03-04T14:00Z
+duty,Q2,P,P2,BAS,2024-03-06T06:00Z,2024-03-06T14:00Z
+duty,Q3,C,A,BAS,2024-03-04T08:00Z,2024-03-04T10:00Z
+";
+
+#[test]
+fn a_judge_judges_sets_one_after_another(rt: HostRuntime) -> Result<(), Fail> {
+    let mut reader = Watched::new(LOCKED);
+    let problem = read_book(rt.alloc(), &mut reader, Command::Solve)?.problem;
+    assert!(rt; problem.persons().len() == 2);
+    let both = set_of(&problem, &[0, 0]).ok_or("a set")?;
+    let mut judge = Judge::new(rt.alloc(), &problem);
+    let first = judge.first_broken(0, &both)?;
+    let second = judge.first_broken(1, &both)?;
+    assert!(rt; first == Some(Rule::Overlap));
+    assert!(rt; second == Some(Rule::Base));
+    Ok(())
+}
+
+#[test]
+fn carried_minutes_lock(rt: HostRuntime) -> Result<(), Fail> {
+    let mut reader = Watched::new(LOCKED);
+    let problem = read_book(rt.alloc(), &mut reader, Command::Solve)?.problem;
+    assert!(rt; problem.persons().len() == 2);
+    assert!(rt; locked(rt.alloc(), &problem, 0)?.is_none());
+    assert!(rt; locked(rt.alloc(), &problem, 1)? == Some(Rule::FlightYear));
     Ok(())
 }

@@ -1,0 +1,10 @@
+//! Tests of runs, a file for each subject: what no clause says, and each public call that no book of
+//! `data/` reaches. A crate with tests of its own would be proved twice.
+#![tactic(auto)]
+
+#[cfg(test)]
+mod devices;
+#[cfg(test)]
+mod faults;
+#[cfg(test)]
+mod runs;
