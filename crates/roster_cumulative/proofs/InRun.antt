@@ -1,15 +1,15 @@
 -- Runs of days, from one to the next, and limits of them.
-use Rattle.std.proofs.Common.{◌≡◌, Bool, ℕ, zero, suc, ◌+◌, ◌-◌, ◌*◌, ◌≤◌, List, [], ◌∷◌, length, get_or, map, max, refl, sym, ap, ◌∙◌, arith}
+use Rattle.std.proofs.Common.{◌≡◌, Bool, ℕ, ◌+◌, ◌-◌, ◌*◌, ◌≤◌, List, [], ◌∷◌, length, get_or, map, max, sym, ap, ◌∙◌, arith}
 use Rattle.std.specs.Prelude.{◌↔◌, IsTrue, All}
 use Rattle.std.specs.List.{range_with_len, fold, sum_by}
 use Rattle.std.proofs.lemmas.List.Elements.{All-head, All-tail, All-nil, All-cons}
 use Rattle.std.proofs.lemmas.List.FromFn.{map-range_with_len_more, length-range_with_len}
-use Rattle.std.proofs.lemmas.List.Sums.{sum_by-cons, sum_by-le, sum_by-le-sum_by, fold_push}
+use Rattle.std.proofs.lemmas.List.Sums.{sum_by-cons, sum_by-le, fold_push}
 use Rattle.roster_model.proofs.SumLemmas.{sum_by-range_more}
 use Rattle.roster_model.specs.Calendar.{Days}
 use Rattle.roster_model.specs.Rules.Limits.{KeepsLimit}
-use Rattle.roster_model.specs.Sums.{in_month, in_run, greatest_run, judged_days}
-use Rattle.roster_model.proofs.LimitLemmas.{KeepsLimit-lighter, in_month-lighter}
+use Rattle.roster_model.specs.Sums.{in_run, greatest_run, judged_days}
+use Rattle.roster_model.proofs.LimitLemmas.{KeepsLimit-lighter}
 
 -- the next run has a day more at its end, and lacks the first
 pub next_run : (f : ℕ → ℕ) (n last : ℕ) → n ≤ last → sum_by f (range_with_len (last - n) n) + f last ≡ f (last - n) + sum_by f (range_with_len (last + 1 - n) n)
@@ -32,20 +32,6 @@ pub greatest-more : (f : ℕ → ℕ) (first last best : ℕ) → first ≤ last
 greatest-more f first last best after so_far =
     let longer : last + 1 - first ≡ (last - first) + 1 = omega arith in
     rw (so_far, longer, map-range_with_len_more f first (last - first) last (omega arith)) (sym (fold_push max 0 (map f (range_with_len first (last - first))) (f last)))
-
-map-agree : (f g : ℕ → ℕ) → ((i : ℕ) → f i ≡ g i) → (xs : List ℕ) → map f xs ≡ map g xs
-map-agree f g same [] = refl
-map-agree f g same (x ∷ xs) = rw (same x, map-agree f g same xs) refl
-
-in_run-agree : (f g : ℕ → ℕ) → ((i : ℕ) → f i ≡ g i) → (n last : ℕ) → in_run f n last ≡ in_run g n last
-in_run-agree f g same n last =
-    let days = range_with_len (last + 1 - n) n in
-    omega (arith, sum_by-le-sum_by f g days (λ i. omega (arith, same i)), sum_by-le-sum_by g f days (λ i. omega (arith, same i)))
-
--- where each day has the same, the most of a run is the same
-pub greatest_run-agree : (f g : ℕ → ℕ) → ((i : ℕ) → f i ≡ g i) → (days : Days) (n : ℕ) → greatest_run f days n ≡ greatest_run g days n
-greatest_run-agree f g same days n =
-    ap (λ (xs : List ℕ). fold max 0 xs) (map-agree (in_run f n) (in_run g n) (in_run-agree f g same n) (judged_days days))
 
 -- ---- the most of some numbers
 
@@ -79,9 +65,3 @@ limit_agrees f g same days n most test is = (
   λ passed. KeepsLimit-agree f g same days n most (is.0 passed),
   λ keeps. is.1 (KeepsLimit-agree g f (λ i. sym (same i)) days n most keeps),
 )
-
-pub in_month-agree : (f g : ℕ → ℕ) → ((i : ℕ) → f i ≡ g i) → (days : Days) → in_month f days ≡ in_month g days
-in_month-agree f g same days =
-    let less = in_month-lighter f g (λ i. omega (arith, same i)) days in
-    let more = in_month-lighter g f (λ i. omega (arith, same i)) days in
-    omega (arith, less, more)
