@@ -1,13 +1,13 @@
 //! The limits of duty and flight.
 
-ghost use Rattle.std.specs.Prelude.{◌≡◌, ◌+◌, ◌≤◌, ◌↔◌, IsTrue, IfSome, IsSomeAnd, option_map, slice_index};
+ghost use Rattle.std.specs.Prelude.{◌≡◌, ◌+◌, ◌≤◌, ◌↔◌, IsTrue, IfSome, option_map, slice_index};
 ghost use Rattle.roster_model.specs.Rules.{HoldsLimit, IsFirstFailing};
 ghost use Rattle.roster_model.specs.Rules.Limits.{KeepsLimit};
 ghost use Rattle.roster_model.specs.Sums as sums;
-ghost use Rattle.roster_model.specs.Sums.{duty_on, flight_on};
+ghost use Rattle.roster_model.specs.Sums.{on_day};
 ghost use Rattle.roster_problem.specs.View.{rule_of};
 ghost use Rattle.roster_cumulative.specs.Limited.{IsWithin};
-ghost use Rattle.roster_cumulative.specs.Table.{IsLight, IsTableOf};
+ghost use Rattle.roster_cumulative.specs.Table.{IsLight, IsTableOf, minutes_of};
 
 use crate::runs::greatest_run;
 use crate::sums::month_flight;
@@ -31,14 +31,26 @@ fn keeps_limit(days: &BaseDays, table: &[u64; MOST_DAYS], n: usize, most: u64) -
     greatest_run(days, table, n) <= most
 }
 
-/// Sums the minutes of each day into the place for them, where that isn't done.
-fn sum(place: &mut Option<[u64; MOST_DAYS]>, days: &BaseDays, list: &DutyList, measure: Measure)
-    requires { IfSome place.old (IsTableOf measure days.now list.now) }
-    ensures { IsSomeAnd place.new (IsTableOf measure days.now list.now) }
+/// Whether each judged run of `n` days has at most so many minutes of the measure. Those of each day are
+/// summed into the place for them, where that isn't done.
+fn keeps_summed(
+    place: &mut Option<[u64; MOST_DAYS]>,
+    days: &BaseDays,
+    list: &DutyList,
+    measure: Measure,
+    n: usize,
+    most: u64,
+) -> bool
+    requires table { IfSome place.old (IsTableOf measure days.now list.now) }
+    requires run { n ≤ DAYS_BEFORE }
+    ensures value { IsTrue result
+        ↔ KeepsLimit (on_day (minutes_of measure) days.now list.now) days.now n most }
+    ensures table { IfSome place.new (IsTableOf measure days.now list.now) }
 {
     if place.is_none() {
         *place = Some(table_of(days, list, measure));
     }
+    keeps_limit(days, place.as_ref().unwrap(), n, most)
 }
 
 /// A duty list as the limits see it, with what the person has flown before the month. The minutes of
@@ -88,44 +100,32 @@ impl<'a> ListLimits<'a> {
     {
         let carried = self.carried;
         match rule {
-            Rule::Duty7 => self.keeps_duty(SHORT_RUN, MOST_DUTY_IN_7_DAYS),
-            Rule::Duty14 => self.keeps_duty(MIDDLE_RUN, MOST_DUTY_IN_14_DAYS),
-            Rule::Duty28 => self.keeps_duty(LONG_RUN, MOST_DUTY_IN_28_DAYS),
-            Rule::Flight28 => self.keeps_flight(LONG_RUN, MOST_FLIGHT_IN_28_DAYS),
+            Rule::Duty7 => self.keeps_runs(Measure::Duty, SHORT_RUN, MOST_DUTY_IN_7_DAYS),
+            Rule::Duty14 => self.keeps_runs(Measure::Duty, MIDDLE_RUN, MOST_DUTY_IN_14_DAYS),
+            Rule::Duty28 => self.keeps_runs(Measure::Duty, LONG_RUN, MOST_DUTY_IN_28_DAYS),
+            Rule::Flight28 => self.keeps_runs(Measure::Flight, LONG_RUN, MOST_FLIGHT_IN_28_DAYS),
             Rule::FlightYear => self.keeps_month(carried.year, MOST_FLIGHT_IN_A_YEAR),
             Rule::Flight12 => self.keeps_month(carried.eleven, MOST_FLIGHT_IN_12_MONTHS),
             _ => true,
         }
     }
 
-    /// Whether each judged run of `n` days has at most so many minutes of duty. No run has more than all
-    /// duties.
-    fn keeps_duty(&mut self, n: usize, most: u64) -> bool
+    /// Whether each judged run of `n` days has at most so many minutes of the measure. No run has more
+    /// than all duties.
+    fn keeps_runs(&mut self, measure: Measure, n: usize, most: u64) -> bool
         requires { n ≤ DAYS_BEFORE }
         ensures value { let l = self.old in
-            IsTrue result ↔ KeepsLimit (duty_on l.days l.list) l.days n most }
+            IsTrue result ↔ KeepsLimit (on_day (minutes_of measure) l.days l.list) l.days n most }
         ensures same { self.new ≡ self.old }
     {
-        if keeps_whole(self.days, self.list, Measure::Duty, n, most) {
+        let (days, list) = (self.days, self.list);
+        if keeps_whole(days, list, measure, n, most) {
             return true;
         }
-        sum(&mut self.duty, self.days, self.list, Measure::Duty);
-        keeps_limit(self.days, self.duty.as_ref().unwrap(), n, most)
-    }
-
-    /// Whether each judged run of `n` days has at most so many minutes of flight. No run has more than
-    /// all duties.
-    fn keeps_flight(&mut self, n: usize, most: u64) -> bool
-        requires { n ≤ DAYS_BEFORE }
-        ensures value { let l = self.old in
-            IsTrue result ↔ KeepsLimit (flight_on l.days l.list) l.days n most }
-        ensures same { self.new ≡ self.old }
-    {
-        if keeps_whole(self.days, self.list, Measure::Flight, n, most) {
-            return true;
+        match measure {
+            Measure::Duty => keeps_summed(&mut self.duty, days, list, measure, n, most),
+            Measure::Flight => keeps_summed(&mut self.flight, days, list, measure, n, most),
         }
-        sum(&mut self.flight, self.days, self.list, Measure::Flight);
-        keeps_limit(self.days, self.flight.as_ref().unwrap(), n, most)
     }
 
     /// Whether the flight of the month, with what was flown before it, is at most so many minutes.
