@@ -1,12 +1,12 @@
 -- Dates, and the numbers of their days.
-use Rattle.std.proofs.Common.{◌≡◌, ◌∙◌, ℕ, ◌+◌, ◌-◌, ◌<◌, ◌≤◌, true, ℤ, pos, ◌≤ℤ◌, ap, arith, to_z, of_z, w8, w16, w32, inl, inr, Result, Ok, Err, Some}
+use Rattle.std.proofs.Common.{◌≡◌, ◌∙◌, ℕ, ◌+◌, ◌-◌, ◌<◌, ◌≤◌, true, pos, ◌≤ℤ◌, arith, to_z, w8, w16, inl, inr, Result, Ok, Err, Some}
 use Rattle.std.specs.Result.{result_ok}
 use Rattle.std.proofs.lemmas.Bool.{and_from, le-leb, cases_lt}
 use Rattle.std.proofs.lemmas.Int.{ints}
 use Rattle.std.specs.Int.{is_in_range}
 use Rattle.jiff_core.proofs.CalendarLemmas.{day_count-epoch, days_from_civil-day_count, day_count-day_of_year, day_count-later_year, day_count-end, days_in_year_bounds, days_of_months_mono, days_of_months_all}
 use Rattle.jiff_core.proofs.SignedLemmas.{signed_arith}
-use Rattle.jiff_core.specs.Calendar.{IsDate, IsEpochDay, days_in_month, days_from_civil, day_count}
+use Rattle.jiff_core.specs.Calendar.{IsDate, days_in_month, days_from_civil, day_count}
 use Rattle.jiff_core.specs.Date.{IsYmd, epoch_day}
 use Rattle.jiff_core.specs.declared.civil.date.Date.{Date}
 use Rattle.roster_model.specs.Calendar.{is_real_date, day_number}
@@ -46,11 +46,11 @@ day_number_is year month day from first =
     omega (arith, ints)
 
 -- a date that has been made of three numbers, and its day number
-pub day_of_date : (date : Date) (year month day : ℕ) (n : ℤ) → 1970 ≤ year → IsYmd (pos year) (pos month) (pos day) date → n ≡ epoch_day date → n ≡ pos (day_number year month day)
-day_of_date date year month day n from is same =
+pub day_of_date : (date : Date) (year month day : ℕ) → 1970 ≤ year → IsYmd (pos year) (pos month) (pos day) date → epoch_day date ≡ pos (day_number year month day)
+day_of_date date year month day from is =
     let months : date.month ≡ month = cc is.1 in
     let days : date.day ≡ day = cc is.2 in
-    let there : n ≡ days_from_civil (pos year) month day = same ∙ rw (is.0, months, days) in
+    let there : epoch_day date ≡ days_from_civil (pos year) month day = rw (is.0, months, days) in
     there ∙ day_number_is year month day from (omega (arith, date.day_in.0))
 
 -- what `ok` keeps
@@ -65,19 +65,11 @@ year_in_i16 n h = omega (arith, ints)
 pub two_digits_in_i8 : (n : ℕ) → n < 100 → to_z w8 n ≡ pos n
 two_digits_in_i8 n h = omega (arith, ints)
 
--- the day number of a date that was made of three unsigned numbers, in a signed type
-pub day_of_parts : (date plain : Date) (year month day : ℕ) (n : ℤ) → 1970 ≤ year → year ≤ 9998 → month < 100 → day < 100
-    → IsYmd (to_z w16 year) (to_z w8 month) (to_z w8 day) date → plain ≡ date → n ≡ epoch_day plain
-    → IsEpochDay n → to_z w32 (of_z w32 n) ≡ pos (day_number year month day)
-day_of_parts date plain year month day n from to month_fits day_fits is same is_day range =
-    let parts : IsYmd (pos year) (pos month) (pos day) date =
-    rw (← year_in_i16 year to, ← two_digits_in_i8 month month_fits, ← two_digits_in_i8 day day_fits) is in
-    let number = day_of_date date year month day n from parts (is_day ∙ ap epoch_day same) in
-    omega (arith, ints, range.0, range.1)
-
--- the last day of 9999 is the last day that there is
-pub day_bound : (n : ℤ) (day : ℕ) → to_z w32 (of_z w32 n) ≡ pos day → IsEpochDay n → day ≤ 2_932_896
-day_bound n day same range = omega (arith, ints, range.0, range.1)
+-- the same of three unsigned numbers, in signed types
+pub day_of_parts : (date : Date) (year month day : ℕ) → 1970 ≤ year → year ≤ 9998 → month < 100 → day < 100
+    → IsYmd (to_z w16 year) (to_z w8 month) (to_z w8 day) date → epoch_day date ≡ pos (day_number year month day)
+day_of_parts date year month day from to month_fits day_fits is =
+    day_of_date date year month day from (rw (← year_in_i16 year to, ← two_digits_in_i8 month month_fits, ← two_digits_in_i8 day day_fits) is)
 
 -- a year later there are 365 days before it
 pub day_from_1971 : (year month day : ℕ) → 1971 ≤ year → 1 ≤ day → 365 ≤ day_number year month day
@@ -102,10 +94,3 @@ day_to_9997 year month from to low high =
     let number = days_from_civil-day_count (pos year) month 1 in
     let same = day_number_is year month 1 (omega arith) (omega arith) in
     omega (arith, signed_arith, day_count-end)
-
--- the first of a month, by its number in a signed type
-pub first_of_month : (first plain : Date) (year month : ℕ) (n : ℤ) → 1971 ≤ year → IsYmd (pos year) (pos month) (pos 1) first
-    → plain ≡ first → n ≡ epoch_day plain → IsEpochDay n → to_z w32 (of_z w32 n) ≡ pos (day_number year month 1)
-first_of_month first plain year month n from parts same is_day range =
-    let number = day_of_date first year month 1 n (omega arith) parts (is_day ∙ ap epoch_day same) in
-    omega (arith, ints, range.0, range.1)

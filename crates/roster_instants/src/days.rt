@@ -2,13 +2,13 @@
 
 ghost use Rattle.std.specs.Prelude.{◌≡◌, ◌+◌, ◌<◌, ◌≤◌, ℕ, true, pos, Some, Ok, IfOk, IfErr, MatchOption, length, slice_get};
 ghost use Rattle.std.specs.List.Sorted.{IsNonDecreasing, IsPartitionPoint, IsStrictlyIncreasing};
-ghost use Rattle.jiff_core.specs.Date.{IsYmd};
-ghost use Rattle.roster_model.specs.Calendar.{IsTable, IsDayOf, days_of_month, days_of_window, first_day};
+ghost use Rattle.jiff_core.specs.Date.{IsYmd, epoch_day};
+ghost use Rattle.roster_model.specs.Calendar.{IsTable, IsDayOf, day_number, days_of_month, days_of_window, first_day};
 ghost use Rattle.roster_model.specs.Zone.{days_of_zone, has_minutes, rises, table_of};
 ghost use Rattle.roster_instants.specs.Refusals.{IsFaultOf};
 
 use crate::clocks::{Clocks, EIGHT, MIDNIGHT, TEN};
-use crate::minute::Minute;
+use crate::minute::{Minute, number_of};
 use crate::period::Period;
 use jiff::civil::{self, Date};
 use roster_model::limits::{DAYS_AFTER, DAYS_BEFORE, MOST_DAYS};
@@ -248,10 +248,9 @@ fn table(alloc: Global, clocks: &Clocks, period: Period) -> Result<BaseDays, All
 /// The first day of the month.
 fn first_of_month(period: Period) -> Date
     ensures value { IsYmd (pos period.year) (pos period.month) (pos 1) result }
-    ensures from { 1971 ≤ period.year }
-    ensures to { period.year ≤ 9997 }
-    ensures low { 1 ≤ period.month }
-    ensures high { period.month ≤ 12 }
+    ensures number { epoch_day result ≡ pos (day_number period.year period.month 1) }
+    ensures from { 365 ≤ day_number period.year period.month 1 }
+    ensures to { day_number period.year period.month 1 ≤ 2_932_167 }
 {
     civil::date(period.year(), period.month(), 1)
 }
@@ -271,6 +270,5 @@ fn first_day(period: Period) -> u32
     ensures from { 330 ≤ result }
     ensures to { result ≤ 2_932_132 }
 {
-    let first = first_of_month(period).to_plain().to_unix_epoch_day();
-    first as u32 - DAYS_BEFORE as u32
+    number_of(first_of_month(period)) - DAYS_BEFORE as u32
 }

@@ -1,7 +1,8 @@
 //! Instants to the minute.
 
-ghost use Rattle.std.specs.Prelude.{◌≡◌, ◌+◌, ◌*◌, ◌/◌, ◌≤◌, ◌<◌, pos, ℕ, true, false, MatchOption};
+ghost use Rattle.std.specs.Prelude.{◌≡◌, ◌+◌, ◌*◌, ◌/◌, ◌≤◌, ◌<◌, ◌≤ℤ◌, pos, ℕ, true, false, MatchOption};
 ghost use Rattle.std.specs.Int.{is_in_range};
+ghost use Rattle.jiff_core.specs.Date.{epoch_day};
 ghost use Rattle.roster_model.specs.Calendar as calendar;
 ghost use Rattle.roster_model.specs.Calendar.{day_number, is_real_date, instant_of};
 
@@ -72,6 +73,15 @@ pub fn common(a: Minute, b: Minute, c: Minute, d: Minute) -> i64
     (to - from).max(0)
 }
 
+/// The day number of a date that isn't before 1970-01-01, which is day 0.
+pub(crate) fn number_of(date: Date) -> u32
+    requires { pos 0 ≤ℤ epoch_day date }
+    ensures value { pos result ≡ epoch_day date }
+    ensures bound { result ≤ 2_932_896 }
+{
+    date.to_plain().to_unix_epoch_day() as u32
+}
+
 /// The day number of a date of the years 1970 to 9998, from 0 for 1970-01-01, if the calendar has
 /// the date.
 fn day_number(year: u16, month: u16, day: u16) -> Option<u32>
@@ -84,7 +94,7 @@ fn day_number(year: u16, month: u16, day: u16) -> Option<u32>
         × (n ≤ 2_932_896)) }
 {
     let date = Date::new(year as i16, month as i8, day as i8).ok()?;
-    Some(date.to_plain().to_unix_epoch_day() as u32)
+    Some(number_of(date))
 }
 
 /// The instant that a text `YYYY-MM-DDTHH:MMZ` spells, of the years 1970 to 9998.

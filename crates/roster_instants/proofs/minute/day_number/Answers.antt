@@ -1,28 +1,26 @@
-use Rattle.std.proofs.Common.{arith, refl}
+use Rattle.std.proofs.Common.{◌≡◌, pos, refl, arith}
+use Rattle.std.proofs.lemmas.Int.{ints}
 use Rattle.std.proofs.lemmas.Result.{IfOk-at_ok}
-use Rattle.roster_instants.proofs.DayLemmas.{is_real_from_date, Ok-from_ok, day_of_parts, day_bound, year_in_i16, two_digits_in_i8}
+use Rattle.jiff_core.specs.Date.{epoch_day}
+use Rattle.roster_model.specs.Calendar.{day_number}
+use Rattle.roster_instants.proofs.DayLemmas.{is_real_from_date, Ok-from_ok, day_of_parts, year_in_i16, two_digits_in_i8}
 use Rattle.roster_instants.proofs.minute.day_number.Goals as goal
+use Rattle.roster_instants.proofs.minute.day_number.Goals.{In_ok-date}
 
-pub overflow_cast-result : goal.overflow_cast-result
-overflow_cast-result c =
-    let got = Ok-from_ok c.new.result c.in_ok-date.date c.in_ok-date.ensures.value in
-    let parts = IfOk-at_ok _ got c.new.ensures.value in
-    let day = c.to_unix_epoch_day.ensures in
-    let number = day_of_parts c.in_ok-date.date c.to_plain.result c.args.year c.args.month c.args.day c.to_unix_epoch_day.result
-    c.requires.from c.requires.to c.requires.month_fits c.requires.day_fits parts c.to_plain.ensures day.value day.bound in
-    let bound = day_bound c.to_unix_epoch_day.result _ number day.bound in
-    rw number (tt, omega arith)
+-- the number of the date that `jiff` has made
+the_number : (c : In_ok-date) → epoch_day c.in_ok-date.date ≡ pos (day_number c.args.year c.args.month c.args.day)
+the_number c =
+    let parts = IfOk-at_ok _ (Ok-from_ok c.new.result c.in_ok-date.date c.in_ok-date.ensures.value) c.new.ensures.value in
+    day_of_parts c.in_ok-date.date c.args.year c.args.month c.args.day c.requires.from c.requires.to c.requires.month_fits c.requires.day_fits parts
+
+pub number_of-requires : goal.number_of-requires
+number_of-requires c = rw (the_number c) (omega (arith, ints))
 
 pub returns : goal.returns
 returns c =
-    let got = Ok-from_ok c.new.result c.in_ok-date.date c.in_ok-date.ensures.value in
-    let parts = IfOk-at_ok _ got c.new.ensures.value in
-    let day = c.to_unix_epoch_day.ensures in
-    let number = day_of_parts c.in_ok-date.date c.to_plain.result c.args.year c.args.month c.args.day c.to_unix_epoch_day.result
-    c.requires.from c.requires.to c.requires.month_fits c.requires.day_fits parts c.to_plain.ensures day.value day.bound in
-    let bound = day_bound c.to_unix_epoch_day.result _ number day.bound in
     let year = year_in_i16 c.args.year c.requires.to in
     let month = two_digits_in_i8 c.args.month c.requires.month_fits in
     let digits = two_digits_in_i8 c.args.day c.requires.day_fits in
-    let there = c.new.ensures.succeeds.0 (rw got refl) in
-    (is_real_from_date c.args.year c.args.month c.args.day (rw (year, month, digits) at there), rw number refl, rw number bound)
+    let there = c.new.ensures.succeeds.0 (rw (Ok-from_ok c.new.result c.in_ok-date.date c.in_ok-date.ensures.value) refl) in
+    let same = the_number (goal.at.returns c).In_ok-date in
+    (is_real_from_date c.args.year c.args.month c.args.day (rw (year, month, digits) at there), cc, c.number_of.ensures.bound)

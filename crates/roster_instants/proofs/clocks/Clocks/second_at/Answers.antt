@@ -5,25 +5,13 @@ use Rattle.roster_instants.proofs.clocks.Clocks.second_at.Goals.{After-as_second
 
 pub unwrap-instant-requires : goal.unwrap-instant-requires
 unwrap-instant-requires c =
-    let is : IsHour c.moment.result c.args.day c.args.hour = record {
-      date = c.moment.ensures.date;
-      time = c.moment.ensures.time;
-      from = c.requires.from;
-      to = c.requires.to;
-      within = c.requires.hour;
-    } in
+    let is : IsHour c.moment.result c.args.day c.args.hour = assumption in
     converts _ c.moment.result c.args.day c.args.hour c.to_timestamp.result is c.to_timestamp.ensures
 
 -- the seconds that the clocks' hour stands for
 the_second : (c : After-as_second) → IsSecond c.args.self.now c.args.day c.args.hour c.as_second.result
 the_second c =
-    let is : IsHour c.moment.result c.args.day c.args.hour = record {
-      date = c.moment.ensures.date;
-      time = c.moment.ensures.time;
-      from = c.requires.from;
-      to = c.requires.to;
-      within = c.requires.hour;
-    } in
+    let is : IsHour c.moment.result c.args.day c.args.hour = assumption in
     second_of _ c.args.self.now c.moment.result c.args.day c.args.hour c.to_timestamp.result c.unwrap-instant.result c.as_second.result
     c.self.invariant (sym c.self.view_is) is c.to_timestamp.ensures c.unwrap-instant.ensures c.as_second.ensures
 
