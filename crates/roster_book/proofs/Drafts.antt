@@ -1,5 +1,6 @@
 -- A draft after one more record without a fault.
 use Rattle.std.proofs.Common.{◌≡◌, ◌+◌, ◌<◌, ◌==◌, ℕ, Bool, true, false, cond, List, [], ◌∷◌, ◌++◌, length, Some, None, Result, Ok, Err, refl, sym, subst, ◌∙◌, length-append, arith}
+use Rattle.std.specs.Prelude.{IsErrAnd}
 use Rattle.std.specs.List.{find}
 use Rattle.std.proofs.lemmas.Bool.Decides.{nat_tests}
 use Rattle.roster_model.specs.Record.{Record, Command, kinds_of, Kind, SectorRecord, AssignRecord, is_of}
@@ -9,6 +10,7 @@ use Rattle.roster_model.specs.records.Duty.{Sector}
 use Rattle.roster_model.specs.records.Sector.{GivenSector, sector_of}
 use Rattle.roster_book.specs.Flown.{with_sector_at}
 use Rattle.roster_book.specs.Draft.{Contents, HasRecords, IsDraftOf, Pushes, Takes}
+use Rattle.roster_book.specs.View.{Refuses}
 use Rattle.roster_book.specs.declared.refusal.Refusal.{Refusal}
 use Rattle.roster_book.proofs.FirstFaultLemmas.{faultless-more}
 use Rattle.roster_model.specs.records.Assign.{assign_of}
@@ -69,6 +71,15 @@ Takes-pushed command row kind before fields contents new entry entries longer (O
     rw (same p.1) (IsDraftOf-append command row kind before fields contents d (sym k) p.0)
 Takes-pushed command row kind before fields contents new entry entries longer (Err e) d k p same =
     rw (code_of-later command kind before fields d.begun (sym k)) p
+
+-- nor is it taken where it is refused on the way
+pub Takes-refused : {command : Command} {row : ℕ} {kind : Kind} {before : List Record} {contents : Contents} (fields : Record) (new : Contents) (refusal : Refusal) (r : Result (Unit {0}) Refusal)
+    → IsDraftOf command row before contents → Some kind ≡ kind_in command fields
+    → IsErrAnd r (λ e. e ≡ refusal) → Refuses refusal (code_of_kind kind before fields)
+    → Takes command row before fields new r
+Takes-refused fields new refusal (Ok done) d k err told = absurd err
+Takes-refused {command = command} {kind = kind} {before = before} fields new refusal (Err e) d k err told =
+    rw (err, code_of-later command kind before fields d.begun (sym k)) told
 
 -- the record of a sector is taken where its duty has it behind its others
 pub IsDraftOf-sector : (command : Command) (row : ℕ) (before : List Record) (fields : Record) (contents : Contents) (place : ℕ) (sector : Sector)

@@ -10,7 +10,6 @@ use Rattle.std.proofs.lemmas.Map.Keys.{IsDistinct-push}
 use Rattle.roster_model.specs.declared.limits.TheConstants.{MOST_COSTS, MOST_UNITS, MOST_WEIGHT}
 use Rattle.roster_model.specs.Form.{number_of}
 use Rattle.roster_model.specs.Record.{Record, WeightRecord, CostRecord, AssignRecord, place_named}
-use Rattle.roster_model.specs.Problem.{Problem}
 use Rattle.roster_model.specs.Faults.{code_of_kind}
 use Rattle.roster_model.specs.records.Weight as weight
 use Rattle.roster_model.specs.records.Cost as cost
@@ -20,10 +19,8 @@ use Rattle.roster_model.specs.records.Crew.{persons_in, person_place}
 use Rattle.roster_model.specs.records.Pairing.{pairings_in, pairing_place}
 use Rattle.roster_model.specs.records.Cost.{costs_in, cost_of}
 use Rattle.roster_model.specs.records.Assign.{Assign, assign_of, assigns_in, is_assign_of, is_assigned}
-use Rattle.roster_model.specs.records.Sector.{sectors_in}
 use Rattle.roster_book.proofs.Conditions.{AreMet, AreMet-none, amount-below, below, none_given, place-below, place-within, units-below}
-use Rattle.roster_book.proofs.Soundness.{AreSound, IsTaken, one_more, paired, weight_count}
-use Rattle.roster_book.proofs.Tables.{tables_with}
+use Rattle.roster_book.proofs.Soundness.{KeepsSound, has_room, one_more, paired, sound-more, weight_count}
 use Rattle.roster_book.proofs.Tests.{both_of}
 
 -- ---- the weight
@@ -37,7 +34,7 @@ weight_kept : (given : Option ℕ) (weight : ℕ) → given ≡ None → weight 
 weight_kept None weight none few = few
 weight_kept (Some w) weight none few = cc
 
-pub sound-weight : (count : ℕ) (before : List Record) (fields : Record) (t : Problem) (assigns : List Assign) → IsTaken count WeightRecord before fields t assigns → AreSound (count + 1) (length (sectors_in before)) (tables_with WeightRecord before fields t) assigns
+pub sound-weight : KeepsSound WeightRecord
 unfolding code_of_kind weight_of
 sound-weight count before fields t assigns k =
     let s = k.sound.sound in
@@ -46,13 +43,7 @@ sound-weight count before fields t assigns k =
     let none : t.weight ≡ None = rw k.tables_are (none_given (weight_in before) met.1.1.1.0) in
     let few = weight_kept t.weight made none (amount-below MOST_WEIGHT (number_of (weight.amount_in fields)) met.1.1.0) in
     let n = weight_taken t.weight made none in
-    record {
-      sound = assumption (few, s);
-      room = k.sound.room;
-      assigned = k.sound.assigned;
-      sectors_are = k.sound.sectors_are;
-      count_is = omega (arith, k.sound.count_is);
-    }
+    sound-more k.sound (assumption (few, s)) refl k.sound.assigned (omega arith)
 
 -- ---- costs
 
@@ -67,28 +58,20 @@ priced before None pairing h = cc h.0
 priced before (Some k) None h = cc h.0
 priced before (Some k) (Some p) h = record { person_known = refl; pairing_known = refl; room = below _ MOST_COSTS h.1.0 }
 
-pub sound-cost : (count : ℕ) (before : List Record) (fields : Record) (t : Problem) (assigns : List Assign) → IsTaken count CostRecord before fields t assigns → AreSound (count + 1) (length (sectors_in before)) (tables_with CostRecord before fields t) assigns
+pub sound-cost : KeepsSound CostRecord
 unfolding code_of_kind cost_of
 sound-cost count before fields t assigns k =
     let s = k.sound.sound in
     let made = cost_of before fields in
-    let n = one_more t.costs made in
     let met = AreMet-none (cost.conditions before fields) k.met in
     let h = priced before (person_place before (cost.crew_in fields)) (pairing_place before (cost.pairing_in fields)) met.1.1.1 in
-    let few : length t.costs < MOST_COSTS = rw k.tables_are h.room in
-    let few' : length (t.costs ++ made ∷ []) ≤ MOST_COSTS = omega arith in
+    let n = has_room MOST_COSTS t.costs made (rw k.tables_are h.room) in
     let person : made.person < length t.persons = rw k.tables_are (place-below _ _ (persons_in before) h.person_known) in
     let pairing : made.pairing < length t.pairings = rw k.tables_are (place-below _ _ (pairings_in before) h.pairing_known) in
     let persons = All-push (λ c. c.person < length t.persons) t.costs made s.cost_persons person in
     let pairings = All-push (λ c. c.pairing < length t.pairings) t.costs made s.cost_pairings pairing in
     let units = All-push (λ c. unsigned_abs c.units ≤ MOST_UNITS) t.costs made s.units (units-below (number_of (cost.units_in fields)) met.1.1.0) in
-    record {
-      sound = assumption (few', persons, pairings, units, s);
-      room = k.sound.room;
-      assigned = k.sound.assigned;
-      sectors_are = k.sound.sectors_are;
-      count_is = omega (arith, k.sound.count_is);
-    }
+    sound-more k.sound (assumption (n.few, persons, pairings, units, s)) refl k.sound.assigned (omega arith)
 
 -- ---- assignments
 
@@ -120,7 +103,7 @@ paired_once assigns assign once none =
     rw (map-append (λ (a : Assign). a.pairing) assigns (assign ∷ []))
     (IsDistinct-push nat_eq_equiv (paired assigns) assign.pairing once (paired_with assigns assign.pairing ∙ none))
 
-pub sound-assign : (count : ℕ) (before : List Record) (fields : Record) (t : Problem) (assigns : List Assign) → IsTaken count AssignRecord before fields t assigns → AreSound (count + 1) (length (sectors_in before)) (tables_with AssignRecord before fields t) (assigns ++ assign_of before fields ∷ [])
+pub sound-assign : KeepsSound AssignRecord
 unfolding code_of_kind assign_of
 sound-assign count before fields t assigns k =
     let are = k.sound.assigned in

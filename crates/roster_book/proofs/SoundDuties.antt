@@ -1,5 +1,5 @@
 -- A duty, a leave or a sector more keeps the contents sound.
-use Rattle.std.proofs.Common.{◌≡◌, ℕ, ◌+◌, ◌<◌, ◌≤◌, Bool, true, false, cond, List, [], ◌∷◌, ◌++◌, length, Option, Some, None, inl, inr, refl, ◌∙◌, ap, arith}
+use Rattle.std.proofs.Common.{◌≡◌, ℕ, ◌+◌, ◌<◌, ◌≤◌, Bool, true, false, cond, List, length, Option, Some, None, inl, inr, refl, ◌∙◌, ap, arith}
 use Rattle.std.specs.Prelude.{is_some, option_map, slice_get, unwrap_or, codes}
 use Rattle.std.specs.Str.{bytes_eq}
 use Rattle.std.specs.Option.{option_and_then}
@@ -18,13 +18,11 @@ use Rattle.roster_model.specs.records.Pairing.{pairing_place}
 use Rattle.roster_model.specs.records.Duty.{Duty, Holder, OfPairing, OfPerson, duty_of, duties_in, duty_place, holder_in, holder_name_in, letter_in, conditions_held}
 use Rattle.roster_model.specs.records.Sector.{conditions_within, duty_name_in, flown, sector_of, sectors_in}
 use Rattle.roster_model.specs.records.Leave.{leave_of, leaves_in, crew_in}
-use Rattle.roster_model.specs.records.Assign.{Assign}
 use Rattle.roster_problem.specs.Sound.{IsHolder}
 use Rattle.roster_book.specs.Flown.{sector_count, with_sector_at}
 use Rattle.roster_book.proofs.SectorTable.{All-with_sector_at, flown_count, length-with_sector_at, sector_count_bare, sector_count_more}
 use Rattle.roster_book.proofs.Conditions.{AreMet, AreMet-none, below, place-below}
-use Rattle.roster_book.proofs.Soundness.{AreSound, IsTaken, one_more}
-use Rattle.roster_book.proofs.Tables.{tables_with}
+use Rattle.roster_book.proofs.Soundness.{KeepsSound, has_room, one_more, sound-more}
 
 -- a duty's holder is known, and there is room for one more
 record IsHeld (before : List Record) (holder : Option Holder) : Type 0 where
@@ -47,26 +45,18 @@ holder_of_place pairings persons true (Some p) person there here some = there re
 holder_of_place pairings persons false pairing None there here some = cc
 holder_of_place pairings persons false pairing (Some k) there here some = here refl
 
-pub sound-duty : (count : ℕ) (before : List Record) (fields : Record) (t : Problem) (assigns : List Assign) → IsTaken count DutyRecord before fields t assigns → AreSound (count + 1) (length (sectors_in before)) (tables_with DutyRecord before fields t) assigns
+pub sound-duty : KeepsSound DutyRecord
 unfolding code_of_kind duty_of
 sound-duty count before fields t assigns k =
     let s = k.sound.sound in
     let made = duty_of before fields in
-    let n = one_more t.duties made in
     let busy = is_busy (tables_in before) in
     let met = AreMet-none (duty.conditions busy before fields) k.met in
     let h = held busy before (holder_in before fields) _ _ _ met.1.1.1 in
-    let few : length t.duties < MOST_DUTIES = rw (k.tables_are, flown_count (sectors_in before) (duties_in before)) h.room in
-    let few' : length (t.duties ++ made ∷ []) ≤ MOST_DUTIES = omega arith in
+    let n = has_room MOST_DUTIES t.duties made (rw (k.tables_are, flown_count (sectors_in before) (duties_in before)) h.room) in
     let holder : IsHolder (length t.pairings) (length t.persons) made.holder = rw k.tables_are (holder_of_place _ _ (bytes_eq (letter_in fields) (codes "P")) (pairing_place before (holder_name_in fields)) (person_place before (holder_name_in fields)) (place-below _ _ _) (place-below _ _ _) h.known) in
     let holders = All-push (λ d. IsHolder (length t.pairings) (length t.persons) d.holder) t.duties made s.holders holder in
-    record {
-      sound = assumption (few', holders, s);
-      room = k.sound.room;
-      assigned = k.sound.assigned;
-      sectors_are = sector_count_bare t.duties made refl ∙ k.sound.sectors_are;
-      count_is = omega (arith, k.sound.count_is);
-    }
+    sound-more k.sound (assumption (n.few, holders, s)) (sector_count_bare t.duties made refl) k.sound.assigned (omega arith)
 
 -- a leave's person is known, and there is room for one more
 record IsTakenFor (before : List Record) (place : Option ℕ) : Type 0 where
@@ -78,26 +68,18 @@ taken-for : (is_busy : ℕ → ℕ → ℕ → Bool) (before : List Record) (pla
 taken-for is_busy before None from to h = cc h.0
 taken-for is_busy before (Some k) from to h = record { known = refl; room = below _ MOST_LEAVES h.1.1.0 }
 
-pub sound-leave : (count : ℕ) (before : List Record) (fields : Record) (t : Problem) (assigns : List Assign) → IsTaken count LeaveRecord before fields t assigns → AreSound (count + 1) (length (sectors_in before)) (tables_with LeaveRecord before fields t) assigns
+pub sound-leave : KeepsSound LeaveRecord
 unfolding code_of_kind leave_of
 sound-leave count before fields t assigns k =
     let s = k.sound.sound in
     let made = leave_of before fields in
-    let n = one_more t.leaves made in
     let place = person_place before (crew_in fields) in
     let met = AreMet-none (leave.conditions (is_busy (tables_in before)) before fields) k.met in
     let h = taken-for (is_busy (tables_in before)) before place _ _ met.1.1 in
-    let few : length t.leaves < MOST_LEAVES = rw k.tables_are h.room in
-    let few' : length (t.leaves ++ made ∷ []) ≤ MOST_LEAVES = omega arith in
+    let n = has_room MOST_LEAVES t.leaves made (rw k.tables_are h.room) in
     let there : made.person < length t.persons = rw k.tables_are (place-below _ _ (persons_in before) h.known) in
     let absences = All-push (λ leave. leave.person < length t.persons) t.leaves made s.absences there in
-    record {
-      sound = assumption (few', absences, s);
-      room = k.sound.room;
-      assigned = k.sound.assigned;
-      sectors_are = k.sound.sectors_are;
-      count_is = omega (arith, k.sound.count_is);
-    }
+    sound-more k.sound (assumption (n.few, absences, s)) refl k.sound.assigned (omega arith)
 
 -- a sector's duty is known, and there is room for one more
 record IsPlaced (before : List Record) (place : Option ℕ) (duties : List Duty) : Type 0 where
@@ -117,7 +99,7 @@ placed before (Some p) duties off on h =
       | inr (past, none) ↦ cc (rw none at h).0
     ]
 
-pub sound-sector : (count : ℕ) (before : List Record) (fields : Record) (t : Problem) (assigns : List Assign) → IsTaken count SectorRecord before fields t assigns → AreSound (count + 1) (length (sectors_in before ++ sector_of before fields ∷ [])) (tables_with SectorRecord before fields t) assigns
+pub sound-sector : KeepsSound SectorRecord
 unfolding code_of_kind sector_of
 sound-sector count before fields t assigns k =
     let s = k.sound.sound in
@@ -129,10 +111,10 @@ sound-sector count before fields t assigns k =
     let more : sector_count (with_sector_at t.duties given.duty given.sector) ≡ sector_count t.duties + 1 = rw p.place_is (sector_count_more t.duties p.at given.sector within) in
     let longer = one_more (sectors_in before) given in
     let same = length-with_sector_at t.duties given.duty given.sector in
-    let few' : length (with_sector_at t.duties given.duty given.sector) ≤ MOST_DUTIES = omega (arith, s.duties) in
+    let few : length (with_sector_at t.duties given.duty given.sector) ≤ MOST_DUTIES = omega (arith, s.duties) in
     let holders = All-with_sector_at (IsHolder (length t.pairings) (length t.persons)) t.duties given.duty given.sector s.holders in
     record {
-      sound = assumption (few', holders, s);
+      sound = assumption (few, holders, s);
       room = omega (arith, p.room);
       assigned = k.sound.assigned;
       sectors_are = more ∙ omega (arith, k.sound.sectors_are);

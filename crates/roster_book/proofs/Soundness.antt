@@ -1,5 +1,5 @@
 -- What holds of the contents of some records without a fault.
-use Rattle.std.proofs.Common.{◌≡◌, ℕ, ◌+◌, ◌<◌, ◌≤◌, List, [], ◌∷◌, ◌++◌, length, map, eqb, Bool, true, false, ◌||◌, Option, Some, None, refl, arith, length-append}
+use Rattle.std.proofs.Common.{◌≡◌, ℕ, ◌+◌, ◌<◌, ◌≤◌, List, [], ◌∷◌, ◌++◌, length, map, eqb, Bool, true, false, ◌||◌, Option, Some, None, refl, ◌∙◌, arith, length-append}
 use Rattle.std.specs.Prelude.{All, IfSome}
 use Rattle.std.specs.List.{IsDistinct, list_any}
 use Rattle.std.proofs.lemmas.Bool.{eqb-true}
@@ -7,28 +7,45 @@ use Rattle.std.proofs.lemmas.List.{length-map}
 use Rattle.std.proofs.lemmas.List.Elements.{All-head, All-nil, All-tail, All-weaker}
 use Rattle.std.proofs.lemmas.Map.Steps.{length-le_from_distinct_below}
 use Rattle.roster_model.specs.declared.limits.TheConstants.{MOST_SECTORS}
-use Rattle.roster_model.specs.Record.{Record, Kind}
+use Rattle.roster_model.specs.Record.{Record, Kind, SectorRecord, AssignRecord}
 use Rattle.roster_model.specs.Calendar.{Period}
 use Rattle.roster_model.specs.Problem.{Problem, tables_in}
 use Rattle.roster_model.specs.Faults.{code_of_kind}
-use Rattle.roster_model.specs.records.Assign.{Assign, assigns_in}
-use Rattle.roster_model.specs.records.Duty.{Holder, OfPairing, OfPerson}
-use Rattle.roster_model.specs.records.Sector.{sectors_in}
+use Rattle.roster_model.specs.records.Assign.{Assign, assign_of, assigns_in}
+use Rattle.roster_model.specs.records.Duty.{Duty, Holder, OfPairing, OfPerson}
+use Rattle.roster_model.specs.records.Sector.{sector_of, sectors_in}
 use Rattle.roster_problem.specs.Sound.{IsSound, IsHolder}
 use Rattle.roster_book.specs.Flown.{sector_count}
 use Rattle.roster_book.proofs.SectorTable.{sector_count_none}
+use Rattle.roster_book.proofs.Tables.{grown, is_same, tables_with}
 
 -- ---- what one more entry keeps
-
-pub longer : {X : Type 0} (n : ℕ) (xs : List X) (x : X) → n < length xs → n < length (xs ++ x ∷ [])
-longer {X = X} n xs x h = omega (arith, length-append {A = X})
 
 pub one_more : {X : Type 0} (xs : List X) (x : X) → length (xs ++ x ∷ []) ≡ length xs + 1
 one_more {X = X} xs x = omega (arith, length-append {A = X})
 
-pub holder_of_more : {pairings persons more most : ℕ} (holder : Holder) → pairings ≤ more → persons ≤ most → IsHolder pairings persons holder → IsHolder more most holder
+-- a table with an entry more, for which there was room
+pub record HasRoom {X : Type 0} (most : ℕ) (xs : List X) (x : X) : Type 0 where
+  pub longer : length (xs ++ x ∷ []) ≡ length xs + 1
+  pub few : length (xs ++ x ∷ []) ≤ most
+
+pub has_room : {X : Type 0} (most : ℕ) (xs : List X) (x : X) → length xs < most → HasRoom most xs x
+has_room most xs x h = let longer = one_more xs x in record { longer = longer; few = omega arith }
+
+-- places in a table are places in a longer one
+pub places_of_more : {X Y : Type 0} (place_of : X → ℕ) (xs : List X) (ys : List Y) (y : Y) → All (λ x. place_of x < length ys) xs → All (λ x. place_of x < length (ys ++ y ∷ [])) xs
+places_of_more place_of xs ys y =
+    let n = one_more ys y in
+    All-weaker (λ x. place_of x < length ys) (λ x. place_of x < length (ys ++ y ∷ [])) (λ x h. omega arith) xs
+
+-- a holder who is there still is where there are more, and so are those of all duties
+holder_of_more : {pairings persons more most : ℕ} (holder : Holder) → pairings ≤ more → persons ≤ most → IsHolder pairings persons holder → IsHolder more most holder
 holder_of_more (OfPairing p) first second h = omega (arith, h)
 holder_of_more (OfPerson k) first second h = omega (arith, h)
+
+pub holders_of_more : {pairings persons : ℕ} (more most : ℕ) (duties : List Duty) → pairings ≤ more → persons ≤ most → All (λ d. IsHolder pairings persons d.holder) duties → All (λ d. IsHolder more most d.holder) duties
+holders_of_more {pairings = pairings} {persons = persons} more most duties first second =
+    All-weaker (λ d. IsHolder pairings persons d.holder) (λ d. IsHolder more most d.holder) (λ d. holder_of_more d.holder first second) duties
 
 -- ---- assignments
 
@@ -79,13 +96,17 @@ pub weight_once : (given : Option ℕ) → weight_count given ≤ 1
 weight_once None = omega arith
 weight_once (Some weight) = omega arith
 
+-- how many entries the tables have
+abbrev pub entries : Problem → ℕ
+entries t = weight_count t.weight + length t.bases + length t.persons + length t.pairings + length t.duties + length t.leaves + length t.costs
+
 -- The contents of so many records, of which so many are sectors, are sound.
 pub record AreSound (count sectors : ℕ) (tables : Problem) (assigns : List Assign) : Type 0 where
   pub sound : IsSound tables
   pub room : sectors ≤ MOST_SECTORS
   pub sectors_are : sector_count tables.duties ≡ sectors
   pub assigned : AreAssigned (length tables.pairings) (length tables.persons) assigns
-  pub count_is : count ≤ 1 + weight_count tables.weight + length tables.bases + length tables.persons + length tables.pairings + length tables.duties + length tables.leaves + length tables.costs + length assigns + sectors
+  pub count_is : count ≤ 1 + entries tables + length assigns + sectors
 
 pub sound-none : {period : Period} → AreSound 1 0 (record { period = period; weight = None; bases = []; persons = []; pairings = []; duties = []; leaves = []; costs = [] }) []
 unfolding IsDistinct
@@ -120,3 +141,21 @@ pub record IsTaken (count : ℕ) (kind : Kind) (before : List Record) (fields : 
   pub tables_are : tables ≡ tables_in before
   pub assigns_are : assigns ≡ assigns_in before
   pub met : code_of_kind kind before fields ≡ None
+
+-- Records of the kind keep the contents sound.
+abbrev pub KeepsSound : Kind → Type 0
+KeepsSound kind = (count : ℕ) (before : List Record) (fields : Record) (tables : Problem) (assigns : List Assign) → IsTaken count kind before fields tables assigns
+    → AreSound (count + 1) (length (grown (is_same kind SectorRecord) (sectors_in before) (sector_of before fields))) (tables_with kind before fields tables)
+    (grown (is_same kind AssignRecord) assigns (assign_of before fields))
+
+-- they do where a table has an entry more, and sectors and assignments are as before
+pub sound-more : {count sectors : ℕ} {tables more : Problem} {assigns : List Assign} → AreSound count sectors tables assigns
+    → IsSound more → sector_count more.duties ≡ sector_count tables.duties → AreAssigned (length more.pairings) (length more.persons) assigns
+    → entries tables + 1 ≤ entries more → AreSound (count + 1) sectors more assigns
+sound-more s sound same assigned longer = record {
+  sound = sound;
+  room = s.room;
+  sectors_are = same ∙ s.sectors_are;
+  assigned = assigned;
+  count_is = omega (arith, s.count_is);
+}

@@ -1,6 +1,6 @@
 //! What is kept of the records taken so far.
 
-ghost use Rattle.std.specs.Prelude.{◌≡◌, ◌≢◌, ◌<◌, ◌∷◌, [], ℕ, List, Option, Some, None, MatchResult, IfErr, IfOk, IsErrOf, option_map, vec_len};
+ghost use Rattle.std.specs.Prelude.{◌≡◌, ◌≢◌, ◌<◌, ◌∷◌, [], ℕ, List, Option, Some, None, MatchResult, IfErr, IsErrOf, option_map, vec_len};
 ghost use Rattle.std.specs.List.{list_any};
 ghost use Rattle.csv.specs.Records.{fields_of};
 ghost use Rattle.roster_model.specs.Code as model;
@@ -128,12 +128,10 @@ impl Draft {
     /// The book of the records taken, or the row of the first pairing without a duty.
     pub(crate) fn finish(self, alloc: Global) -> Result<Book, BookFault>
         requires records { HasRecords (contents_of self) }
-        ensures book { (command : Asked) (row : ℕ) (records : List Record)
+        ensures told { (command : Asked) (row : ℕ) (records : List Record)
             → IsDraftOf command row records (contents_of self)
-            → IfOk result (λ book. IsBookOf command records book) }
-        ensures fault { (command : Asked) (row : ℕ) (records : List Record)
-            → IsDraftOf command row records (contents_of self)
-            → IfErr result (λ fault. TellsFirst command records fault) }
+            → MatchResult result (λ book. IsBookOf command records book)
+            (λ fault. TellsFirst command records fault) }
         // Memory runs out where no pairing lacks a duty alone.
         ensures memory { (command : Asked) (row : ℕ) (records : List Record)
             → IsDraftOf command row records (contents_of self)

@@ -1,6 +1,6 @@
 //! A book, read record by record until its end or its first fault.
 
-ghost use Rattle.std.specs.Prelude.{◌≡◌, ◌≢◌, ◌↔◌, [], ◌∷◌, true, false, IfSome, IfOk, IfErr, IsErrOf};
+ghost use Rattle.std.specs.Prelude.{◌≡◌, ◌≢◌, ◌↔◌, [], ◌∷◌, true, false, IfSome, IfOk, IfErr, IsErrOf, MatchResult};
 ghost use Rattle.csv.specs.Records.{fields_of};
 ghost use Rattle.roster_book.specs.Reading.{AreSeen, IsBookOf, IsOpen, OfKnown, OfTold, TellsFirst, records_left};
 ghost use Rattle.roster_book.specs.View.{command_of};
@@ -41,10 +41,11 @@ pub fn read_book<R: Read>(
 
 // Lends the reader to csv. `Memory` stands for a failed reader too: its flag tells.
 fn read_records<R: Read>(alloc: Global, reader: &mut R, command: Command) -> Result<Book, BookFault>
-    ensures book { IfOk result (λ book. OfTold (λ records.
-        IsBookOf (command_of command) records book) (R.remaining reader.old)) }
-    ensures fault { IfErr result (λ fault. OfTold (λ records.
-        TellsFirst (command_of command) records fault) (R.remaining reader.old)) }
+    ensures told { MatchResult result
+        (λ book. OfTold (λ records. IsBookOf (command_of command) records book)
+        (R.remaining reader.old))
+        (λ fault. OfTold (λ records. TellsFirst (command_of command) records fault)
+        (R.remaining reader.old)) }
     ensures device { IfErr result (λ fault. fault ≢ BookFault.Device) }
 {
     let mut reader = ReaderBuilder::new()
@@ -61,10 +62,11 @@ fn read_all<R: Read>(
     command: Command,
 ) -> Result<Book, BookFault>
     requires { IsOpen reader.old }
-    ensures book { IfOk result (λ book. OfKnown (λ records.
-        IsBookOf (command_of command) records book) (records_left R.remaining reader.old)) }
-    ensures fault { IfErr result (λ fault. OfKnown (λ records.
-        TellsFirst (command_of command) records fault) (records_left R.remaining reader.old)) }
+    ensures told { MatchResult result
+        (λ book. OfKnown (λ records. IsBookOf (command_of command) records book)
+        (records_left R.remaining reader.old))
+        (λ fault. OfKnown (λ records. TellsFirst (command_of command) records fault)
+        (records_left R.remaining reader.old)) }
     ensures device { IfErr result (λ fault. fault ≢ BookFault.Device) }
 {
     let mut fields = ByteRecord::new(alloc);

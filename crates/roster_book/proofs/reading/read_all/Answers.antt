@@ -1,5 +1,5 @@
 use Rattle.std.proofs.Common.{[], ◌∷◌, ◌++◌, arith}
-use Rattle.std.proofs.lemmas.Result.{IfErr-weaker, IfOk-weaker}
+use Rattle.std.proofs.lemmas.Result.{MatchResult-weaker}
 use Rattle.csv.specs.Records.{fields_of}
 use Rattle.roster_book.specs.Draft.{contents_of}
 use Rattle.roster_book.specs.Reading.{IsBookOf, TellsFirst, records_left}
@@ -13,14 +13,14 @@ use Rattle.roster_book.proofs.reading.read_all.Goals as goal
 
 -- ---- no record, or a first one that is refused
 
-pub returns-then-not-branch-clause-fault : goal.returns-then-not-branch-clause-fault
-returns-then-not-branch-clause-fault g c =
+pub returns-then-not-branch-clause-told : goal.returns-then-not-branch-clause-told
+returns-then-not-branch-clause-told g c =
     let command = command_of c.args.command in
     seen-all _ _ [] (λ all. TellsFirst command all c.at.result) (seen-none (records_left g.R.Read.remaining c.args.reader.now)) (c.in_ok-next_record.ensures.end c.if-not-branch.true)
     (rw c.at.ensures (first_fault-of-none command))
 
-pub returns-in-Err-clause-fault : goal.returns-in-Err-clause-fault
-returns-in-Err-clause-fault g c =
+pub returns-in-Err-clause-told : goal.returns-in-Err-clause-told
+returns-in-Err-clause-told g c =
     let command = command_of c.args.command in
     let fields = fields_of c.next_record.new.fields in
     let next = c.in_ok-next_record.ensures.record c.if-not-branch.false in
@@ -34,23 +34,14 @@ finish-requires g c = record {
   records = HasRecords-draft (command_of c.args.command) c.loop-row.row c.loop-row.invariant.0 (contents_of c.loop-row.draft) c.loop-row.invariant.1.draft;
 }
 
-pub returns-then-not-branch-2-clause-book : goal.returns-then-not-branch-2-clause-book
-returns-then-not-branch-2-clause-book g c =
-    let seen = c.loop-row.invariant.0 in
+pub returns-then-not-branch-2-clause-told : goal.returns-then-not-branch-2-clause-told
+returns-then-not-branch-2-clause-told g c =
     let h = c.loop-row.invariant.1 in
     let command = command_of c.args.command in
-    IfOk-weaker c.finish.result _ _
-    (λ problem held. seen-all _ _ seen (λ all. IsBookOf command all problem) h.follows (c.in_ok-next_record-2.ensures.end c.if-not-branch-2.true) held)
-    (c.finish.ensures.book command c.loop-row.row seen h.draft)
-
-pub returns-then-not-branch-2-clause-fault : goal.returns-then-not-branch-2-clause-fault
-returns-then-not-branch-2-clause-fault g c =
-    let seen = c.loop-row.invariant.0 in
-    let h = c.loop-row.invariant.1 in
-    let command = command_of c.args.command in
-    IfErr-weaker c.finish.result _ _
-    (λ fault held. seen-all _ _ seen (λ all. TellsFirst command all fault) h.follows (c.in_ok-next_record-2.ensures.end c.if-not-branch-2.true) held)
-    (c.finish.ensures.fault command c.loop-row.row seen h.draft)
+    let none = c.in_ok-next_record-2.ensures.end c.if-not-branch-2.true in
+    MatchResult-weaker c.finish.result (c.finish.ensures.told command c.loop-row.row _ h.draft)
+    (λ book. seen-all _ _ _ (λ all. IsBookOf command all book) h.follows none)
+    (λ fault. seen-all _ _ _ (λ all. TellsFirst command all fault) h.follows none)
 
 -- ---- one more record
 
@@ -59,8 +50,8 @@ take-requires g c = record {
   records = HasRecords-draft (command_of c.args.command) c.loop-row.row c.loop-row.invariant.0 (contents_of c.loop-row.draft) c.loop-row.invariant.1.draft;
 }
 
-pub returns-in-Err-take-clause-fault : goal.returns-in-Err-take-clause-fault
-returns-in-Err-take-clause-fault g c =
+pub returns-in-Err-take-clause-told : goal.returns-in-Err-take-clause-told
+returns-in-Err-take-clause-told g c =
     let seen = c.loop-row.invariant.0 in
     let h = c.loop-row.invariant.1 in
     let command = command_of c.args.command in

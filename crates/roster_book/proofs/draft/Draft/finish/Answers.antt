@@ -4,8 +4,8 @@ use Rattle.roster_book.proofs.Finishing.{IsBookOf-draft, IsFaultless-draft, firs
 use Rattle.roster_book.proofs.Sound.{IsSound-in_order, IsSound-records}
 use Rattle.roster_book.proofs.draft.Draft.finish.Goals as goal
 
-pub returns-in-Some-clause-fault : goal.returns-in-Some-clause-fault
-returns-in-Some-clause-fault c = λ command row records d.
+pub returns-in-Some-clause-told : goal.returns-in-Some-clause-told
+returns-in-Some-clause-told c = λ command row records d.
     rw c.at.ensures (first_fault-missing command row records (contents_of c.args.self) c.in-Some.row d (sym c.in-Some.ensures))
 
 pub assigned-requires : goal.assigned-requires
@@ -17,8 +17,8 @@ new-requires-clause-sound c = rw c.into_vec.ensures (IsSound-in_order (tables_of
 pub new-requires-clause-faultless : goal.new-requires-clause-faultless
 new-requires-clause-faultless c = rw c.into_vec.ensures (IsFaultless-draft (contents_of c.args.self) c.requires.records (sym c.in_default.ensures))
 
-pub returns-clause-book : goal.returns-clause-book
-returns-clause-book c = λ command row records d.
+pub returns-clause-told : goal.returns-clause-told
+returns-clause-told c = λ command row records d.
     IsBookOf-draft command row records (contents_of c.args.self) _ d (sym c.in_default.ensures)
     (rw c.into_vec.ensures at c.in_ok-problem.ensures) c.in_ok-assigned.ensures
 

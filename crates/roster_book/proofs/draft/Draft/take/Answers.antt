@@ -1,5 +1,4 @@
 use Rattle.std.proofs.Common.{◌∙◌, sym, refl}
-use Rattle.std.proofs.lemmas.Result.{err_from_is_err_and}
 use Rattle.csv.specs.Records.{fields_of}
 use Rattle.roster_model.specs.Record.{BaseRecord, CrewRecord, PairingRecord, DutyRecord, LeaveRecord, PeriodRecord}
 use Rattle.roster_model.specs.records.Base.{base_of}
@@ -8,7 +7,7 @@ use Rattle.roster_model.specs.records.Pairing.{pairing_of}
 use Rattle.roster_model.specs.records.Leave.{leave_of}
 use Rattle.roster_book.specs.Draft.{contents_of}
 use Rattle.roster_book.specs.View.{command_of}
-use Rattle.roster_book.proofs.Drafts.{code_of-later, code_of-unknown, IsDraftOf-append, Takes-pushed}
+use Rattle.roster_book.proofs.Drafts.{code_of-later, code_of-unknown, IsDraftOf-append, Takes-pushed, Takes-refused}
 use Rattle.roster_book.proofs.draft.Draft.take.Goals as goal
 
 pub returns-in-None : goal.returns-in-None
@@ -21,9 +20,7 @@ returns-in-Some-Period c = λ before d.
 
 pub returns-in_err-base-in-Some-Base : goal.returns-in_err-base-in-Some-Base
 returns-in_err-base-in-Some-Base c = λ before d.
-    let p = err_from_is_err_and c.from_residual.result c.from_residual.ensures.1 in
-    rw (p.1, p.2, code_of-later (command_of c.args.command) BaseRecord before (fields_of c.args.fields.now) d.begun (sym (rw c.in-Some-Base.field-0-is at c.in-Some-Base.ensures)))
-    (c.in_err-base-in-Some-Base.ensures (command_of c.args.command) c.args.row before d)
+    Takes-refused (fields_of c.args.fields.now) _ _ _ d (rw c.in-Some-Base.field-0-is at c.in-Some-Base.ensures) c.from_residual.ensures.1 (c.in_err-base-in-Some-Base.ensures (command_of c.args.command) c.args.row before d)
 
 pub returns-in_ok-base-in-Some-Base : goal.returns-in_ok-base-in-Some-Base
 returns-in_ok-base-in-Some-Base c = λ before d.
@@ -45,15 +42,11 @@ returns-in-Some-Pairing c = λ before d.
 
 pub returns-in_err-duty-in-Some-Duty : goal.returns-in_err-duty-in-Some-Duty
 returns-in_err-duty-in-Some-Duty c = λ before d.
-    let p = err_from_is_err_and c.from_residual-in_err-duty-in-Some-Duty.result c.from_residual-in_err-duty-in-Some-Duty.ensures.1 in
-    rw (p.1, p.2, code_of-later (command_of c.args.command) DutyRecord before (fields_of c.args.fields.now) d.begun (sym (rw c.in-Some-Duty.field-0-is at c.in-Some-Duty.ensures)))
-    (c.in_err-duty-in-Some-Duty.ensures.judged (command_of c.args.command) before d)
+    Takes-refused (fields_of c.args.fields.now) _ _ _ d (rw c.in-Some-Duty.field-0-is at c.in-Some-Duty.ensures) c.from_residual-in_err-duty-in-Some-Duty.ensures.1 (c.in_err-duty-in-Some-Duty.ensures.judged (command_of c.args.command) before d)
 
 pub returns-in_err-push-in-Some-Duty : goal.returns-in_err-push-in-Some-Duty
 returns-in_err-push-in-Some-Duty c = λ before d.
-    let p = err_from_is_err_and c.from_residual-in_err-push-in-Some-Duty.result c.from_residual-in_err-push-in-Some-Duty.ensures.1 in
-    rw (p.1, p.2, code_of-later (command_of c.args.command) DutyRecord before (fields_of c.args.fields.now) d.begun (sym (rw c.in-Some-Duty.field-0-is at c.in-Some-Duty.ensures)))
-    (c.in_ok-duty-in-Some-Duty.ensures.judged (command_of c.args.command) before d).0
+    Takes-refused (fields_of c.args.fields.now) _ _ _ d (rw c.in-Some-Duty.field-0-is at c.in-Some-Duty.ensures) c.from_residual-in_err-push-in-Some-Duty.ensures.1 ((c.in_ok-duty-in-Some-Duty.ensures.judged (command_of c.args.command) before d).0)
 
 pub returns-in_ok-push-in-Some-Duty : goal.returns-in_ok-push-in-Some-Duty
 returns-in_ok-push-in-Some-Duty c = λ before d.

@@ -1,9 +1,8 @@
 use Rattle.std.proofs.Common.{sym, arith}
-use Rattle.std.proofs.lemmas.Result.{err_from_is_err_and}
 use Rattle.csv.specs.Records.{fields_of}
 use Rattle.roster_model.specs.Record.{CostRecord}
 use Rattle.roster_book.specs.Draft.{contents_of}
-use Rattle.roster_book.proofs.Drafts.{code_of-later, IsDraftOf-append}
+use Rattle.roster_book.proofs.Drafts.{IsDraftOf-append, Takes-refused}
 use Rattle.roster_book.proofs.Sound.{IsSound-records}
 use Rattle.roster_book.proofs.draft.Draft.take_cost.Goals as goal
 
@@ -19,13 +18,11 @@ push-requires-clause-pairing c =
 
 pub returns-in_err-cost : goal.returns-in_err-cost
 returns-in_err-cost c = λ command row before d k.
-    let p = err_from_is_err_and c.from_residual.result c.from_residual.ensures.1 in
-    rw (p.1, p.2, code_of-later command CostRecord before (fields_of c.args.fields.now) d.begun (sym k)) (c.in_err-cost.ensures.judged command row before d)
+    Takes-refused (fields_of c.args.fields.now) _ _ _ d k c.from_residual.ensures.1 (c.in_err-cost.ensures.judged command row before d)
 
 pub returns-in_err-push : goal.returns-in_err-push
 returns-in_err-push c = λ command row before d k.
-    let p = err_from_is_err_and c.from_residual-in_err-push.result c.from_residual-in_err-push.ensures.1 in
-    rw (p.1, p.2, code_of-later command CostRecord before (fields_of c.args.fields.now) d.begun (sym k)) (c.in_ok-cost.ensures.judged command row before d).0
+    Takes-refused (fields_of c.args.fields.now) _ _ _ d k c.from_residual-in_err-push.ensures.1 ((c.in_ok-cost.ensures.judged command row before d).0)
 
 pub returns : goal.returns
 returns c = λ command row before d k.

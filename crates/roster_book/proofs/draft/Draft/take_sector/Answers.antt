@@ -1,20 +1,15 @@
-use Rattle.std.proofs.Common.{sym}
-use Rattle.std.proofs.lemmas.Result.{err_from_is_err_and}
 use Rattle.csv.specs.Records.{fields_of}
-use Rattle.roster_model.specs.Record.{SectorRecord}
 use Rattle.roster_book.specs.Draft.{contents_of}
-use Rattle.roster_book.proofs.Drafts.{code_of-later, IsDraftOf-sector}
+use Rattle.roster_book.proofs.Drafts.{IsDraftOf-sector, Takes-refused}
 use Rattle.roster_book.proofs.draft.Draft.take_sector.Goals as goal
 
 pub returns-in_err-place : goal.returns-in_err-place
 returns-in_err-place c = λ command row before d k.
-    let p = err_from_is_err_and c.from_residual.result c.from_residual.ensures.1 in
-    rw (p.1, p.2, code_of-later command SectorRecord before (fields_of c.args.fields.now) d.begun (sym k)) (c.in_err-place.ensures.judged command row before d)
+    Takes-refused (fields_of c.args.fields.now) _ _ _ d k c.from_residual.ensures.1 (c.in_err-place.ensures.judged command row before d)
 
 pub returns-in_err-push_sector : goal.returns-in_err-push_sector
 returns-in_err-push_sector c = λ command row before d k.
-    let p = err_from_is_err_and c.from_residual-in_err-push_sector.result c.from_residual-in_err-push_sector.ensures.1 in
-    rw (p.1, p.2, code_of-later command SectorRecord before (fields_of c.args.fields.now) d.begun (sym k)) (c.in_ok-place.ensures.judged command row before d).0
+    Takes-refused (fields_of c.args.fields.now) _ _ _ d k c.from_residual-in_err-push_sector.ensures.1 ((c.in_ok-place.ensures.judged command row before d).0)
 
 pub returns : goal.returns
 returns c = λ command row before d k.

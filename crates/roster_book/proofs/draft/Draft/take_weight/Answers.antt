@@ -1,17 +1,15 @@
 use Rattle.std.proofs.Common.{◌≡◌, Some, refl, sym}
 use Rattle.std.specs.Option.{option_or}
-use Rattle.std.proofs.lemmas.Result.{err_from_is_err_and}
 use Rattle.csv.specs.Records.{fields_of}
 use Rattle.roster_model.specs.Record.{WeightRecord}
 use Rattle.roster_model.specs.records.Weight.{weight_of}
 use Rattle.roster_book.specs.Draft.{contents_of}
-use Rattle.roster_book.proofs.Drafts.{code_of-later, IsDraftOf-append}
+use Rattle.roster_book.proofs.Drafts.{IsDraftOf-append, Takes-refused}
 use Rattle.roster_book.proofs.draft.Draft.take_weight.Goals as goal
 
 pub returns-in_err-judge_weight : goal.returns-in_err-judge_weight
 returns-in_err-judge_weight c = λ command row before d k.
-    let p = err_from_is_err_and c.from_residual.result c.from_residual.ensures.1 in
-    rw (p.1, p.2, code_of-later command WeightRecord before (fields_of c.args.fields.now) d.begun (sym k)) (c.in_err-judge_weight.ensures.judged command row before d)
+    Takes-refused (fields_of c.args.fields.now) _ _ _ d k c.from_residual.ensures.1 (c.in_err-judge_weight.ensures.judged command row before d)
 
 pub returns : goal.returns
 returns c = λ command row before d k.
