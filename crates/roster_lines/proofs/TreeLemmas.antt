@@ -146,7 +146,7 @@ pub AreOrdered-push : (sets : List (List ℕ)) (set : List ℕ) → AreOrdered s
 AreOrdered-push sets set ordered before = all_pairs_push (λ a b. places_le b a ≡ false) sets set ordered before
 
 -- what is so of each of some elements at its place, and of one more
-pub each-push : {X : Type 0} (P : ℕ → X → Type 0) (xs : List X) (x : X) → ((i : ℕ) (y : X) → slice_get xs i ≡ Some y → P i y) → P (length xs) x → (i : ℕ) (y : X) → slice_get (xs ++ x ∷ []) i ≡ Some y → P i y
+each-push : {X : Type 0} (P : ℕ → X → Type 0) (xs : List X) (x : X) → ((i : ℕ) (y : X) → slice_get xs i ≡ Some y → P i y) → P (length xs) x → (i : ℕ) (y : X) → slice_get (xs ++ x ∷ []) i ≡ Some y → P i y
 each-push P xs x each here i y at =
     let inside = slice_get_within (xs ++ x ∷ []) i y at in
     let is : get_or (xs ++ x ∷ []) i y ≡ y = get_or_from_slice_get (xs ++ x ∷ []) i y y at in
@@ -157,6 +157,13 @@ each-push P xs x each here i y at =
           let same : x ≡ y = sym (get_or_push xs x y i last) ∙ is in
           subst (P i) same (subst (λ n. P n x) last here)
     ]
+
+-- the same of the list that a push makes, and how long it is
+pub each-next : {X : Type 0} (P : ℕ → X → Type 0) (n : ℕ) (old new : List X) (x : X) → new ≡ old ++ x ∷ [] → length old ≡ n → ((i : ℕ) (y : X) → slice_get old i ≡ Some y → P i y) → P n x → (length new ≡ n + 1) × ((i : ℕ) (y : X) → slice_get new i ≡ Some y → P i y)
+each-next P n old new x pushed long each here = (
+  ap length pushed ∙ length_push old x ∙ ap (λ k. k + 1) long,
+  λ i y at. each-push P old x each (subst (λ k. P k x) (sym long) here) i y (ap (λ xs. slice_get xs i) (sym pushed) ∙ at),
+)
 
 pub IsTree-push : (lines : List Line) (line : Line) → IsTree lines → length lines < MOST_LINES → line.parent < length lines → line.last < MOST_PAIRINGS → All (λ p. p < line.last) (set_at (entries_in lines) line.parent) → All (λ set. places_le (longer (entries_in lines) line.parent line.last) set ≡ false) (sets_of (entries_in lines)) → IsTree (lines ++ line ∷ [])
 IsTree-push lines line tree room parent last later before =

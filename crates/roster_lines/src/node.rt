@@ -62,7 +62,7 @@ impl Node {
         requires set { set ≡ self.now.set ++ p ∷ [] }
         requires line { IsLine problem.now k set }
         ensures node { IsNode problem.now k result }
-        ensures set { result.set ≡ set }
+        ensures set { result.set ≡ self.now.set ++ p ∷ [] }
         ensures number { result.number ≡ number }
         ensures depth { result.depth ≡ self.now.depth + 1 }
     {

@@ -1,4 +1,4 @@
-use Rattle.std.proofs.Common.{◌≡◌, ℕ, ◌+◌, ◌<◌, false, [], ◌∷◌, ◌++◌, length, SFits, w64, sym, ap, subst, ◌∙◌, arith, rules}
+use Rattle.std.proofs.Common.{◌≡◌, ℕ, ◌+◌, ◌<◌, false, [], ◌∷◌, ◌++◌, length, Some, SFits, w64, sym, ap, subst, ◌∙◌, arith, rules}
 use Rattle.std.specs.Prelude.{All, slice_get}
 use Rattle.std.proofs.lemmas.Int.{to_z-of_z}
 use Rattle.std.proofs.lemmas.Option.{slice_get_within, get_or_from_slice_get}
@@ -12,62 +12,48 @@ use Rattle.roster_lines.specs.Person.{AreCosted}
 use Rattle.roster_lines.proofs.Marks.{get_push_new, get_push_old, IsCrowded-push, IsUpTo-push, IsUpTo-return}
 use Rattle.roster_lines.proofs.Nodes.{costs_pushed, line_there, no_line_there, longer_set, past_candidate, sets_pushed, up_to_candidate}
 use Rattle.roster_lines.proofs.TreeLemmas.{length-sets_of}
-use Rattle.roster_lines.proofs.extend.+extend.Goals.{in-Some-2+else-is_full+in_ok-push+in_ok-extend, in_default-2}
+use Rattle.roster_lines.proofs.extend.+extend.Goals.{In-Some, In-Some-2, in-Some-2+else-is_full+in_ok-push+in_ok-extend, in_default-2}
 use Rattle.roster_lines.proofs.extend.+extend.Goals as goal
+
+-- the lines up to the candidate,
+up : (t : ℕ) (c : In-Some t) → IsUpTo c.args.problem.now c.args.k (c.args.node.now.set ++ c.in-Some.p ∷ []) (sets_of c.loop-p.lines)
+up t c =
+    up_to_candidate c.args.problem.now c.args.k c.args.node.now (sets_of c.loop-p.lines) c.loop-p.from c.in-Some.p c.requires.node c.loop-p.invariant.lines c.in-Some.ensures.place.0 c.in-Some.ensures.least
+
+-- of which the node's is still the one with its number,
+number : (t : ℕ) (c : In-Some t) → slice_get (sets_of c.loop-p.lines) c.args.node.now.number ≡ Some c.args.node.now.set
+number t c = c.loop-p.invariant.kept c.args.node.now.number c.args.node.now.set c.requires.number
+
+-- and what was found behind it: the node's set with the candidate, a line
+found : (t : ℕ) (c : In-Some-2 t) → (c.in-Some-2.set ≡ c.args.node.now.set ++ c.in-Some.p ∷ []) × IsLine c.args.problem.now c.args.k c.in-Some-2.set
+found t c = line_there c.args.problem.now c.args.k c.args.node.now c.in-Some.p c.in_ok-set.field-0 c.in-Some-2.set c.in-Some-2.is c.in_ok-set.ensures.line
 
 pub returns-then-is_full-clause-fault : goal.returns-then-is_full-clause-fault
 returns-then-is_full-clause-fault t c =
-    let problem = c.args.problem.now in
-    let k : ℕ = c.args.k in
-    let node = c.args.node.now in
-    let p : ℕ = c.in-Some.p in
-    let lines = c.loop-p.lines in
-    let here = c.in-Some.ensures.place.2 in
-    let up = up_to_candidate problem k node (sets_of lines) c.loop-p.from p c.requires.node c.loop-p.invariant.lines c.in-Some.ensures.place.0 c.in-Some.ensures.least in
-    let found = line_there problem k node p c.in_ok-set.field-0 c.in-Some-2.set c.in-Some-2.is c.in_ok-set.ensures.line in
-    let full = c.is_full.ensures.0 c.if-is_full.true in
-    IsCrowded-push problem k (sets_of lines) (node.set ++ p ∷ []) up (subst (IsLine problem k) found.0 found.1) (omega (arith, full, length-sets_of lines))
+    let at = goal.at.returns-then-is_full-clause-fault t c in
+    let line = found t at.In-Some-2 in
+    IsCrowded-push c.args.problem.now c.args.k (sets_of c.loop-p.lines) _ (up t at.In-Some) (subst (IsLine c.args.problem.now c.args.k) line.0 line.1) (omega (arith, c.is_full.ensures.0 c.if-is_full.true, length-sets_of c.loop-p.lines))
 
 pub push-requires-clause-parent : goal.push-requires-clause-parent
 push-requires-clause-parent t c =
-    let problem = c.args.problem.now in
-    let k : ℕ = c.args.k in
-    let node = c.args.node.now in
-    let p : ℕ = c.in-Some.p in
-    let lines = c.loop-p.lines in
-    let here = c.in-Some.ensures.place.2 in
-    let number = c.loop-p.invariant.kept node.number node.set c.requires.number in
-    let inside = slice_get_within (sets_of lines) node.number node.set number in
-    omega (arith, length-sets_of lines)
+    let inside = slice_get_within (sets_of c.loop-p.lines) c.args.node.now.number c.args.node.now.set (number t (goal.at.push-requires-clause-parent t c).In-Some) in
+    omega (arith, inside, length-sets_of c.loop-p.lines)
 
 pub push-requires-clause-later : goal.push-requires-clause-later
 push-requires-clause-later t c =
-    let problem = c.args.problem.now in
-    let k : ℕ = c.args.k in
-    let node = c.args.node.now in
-    let p : ℕ = c.in-Some.p in
-    let lines = c.loop-p.lines in
-    let here = c.in-Some.ensures.place.2 in
-    let number = c.loop-p.invariant.kept node.number node.set c.requires.number in
-    subst (All (λ q. q < p)) (sym (get_or_from_slice_get (sets_of lines) node.number node.set [] number)) (c.requires.node.behind p here)
+    let set = get_or_from_slice_get (sets_of c.loop-p.lines) c.args.node.now.number c.args.node.now.set [] (number t (goal.at.push-requires-clause-later t c).In-Some) in
+    subst (All (λ q. q < c.in-Some.p)) (sym set) (c.requires.node.behind c.in-Some.p c.in-Some.ensures.place.2)
 
 pub push-requires-clause-ordered : goal.push-requires-clause-ordered
 push-requires-clause-ordered t c =
-    let problem = c.args.problem.now in
-    let k : ℕ = c.args.k in
-    let node = c.args.node.now in
-    let p : ℕ = c.in-Some.p in
-    let lines = c.loop-p.lines in
-    let here = c.in-Some.ensures.place.2 in
-    let up = up_to_candidate problem k node (sets_of lines) c.loop-p.from p c.requires.node c.loop-p.invariant.lines c.in-Some.ensures.place.0 c.in-Some.ensures.least in
-    let number = c.loop-p.invariant.kept node.number node.set c.requires.number in
-    subst (λ mark. All (λ s. places_le mark s ≡ false) (sets_of lines)) (sym (longer_set lines node.number p node.set number)) up.before
+    let at = (goal.at.push-requires-clause-ordered t c).In-Some in
+    subst (λ mark. All (λ s. places_le mark s ≡ false) (sets_of c.loop-p.lines)) (sym (longer_set c.loop-p.lines _ c.in-Some.p _ (number t at))) (up t at).before
 
 pub below-below-requires-clause-set : goal.below-below-requires-clause-set
-below-below-requires-clause-set t c = (line_there c.args.problem.now c.args.k c.args.node.now c.in-Some.p c.in_ok-set.field-0 c.in-Some-2.set c.in-Some-2.is c.in_ok-set.ensures.line).0
+below-below-requires-clause-set t c = (found t (goal.at.below-below-requires-clause-set t c).In-Some-2).0
 
 pub below-below-requires-clause-line : goal.below-below-requires-clause-line
-below-below-requires-clause-line t c = (line_there c.args.problem.now c.args.k c.args.node.now c.in-Some.p c.in_ok-set.field-0 c.in-Some-2.set c.in-Some-2.is c.in_ok-set.ensures.line).1
+below-below-requires-clause-line t c = (found t (goal.at.below-below-requires-clause-line t c).In-Some-2).1
 
 pub extend-requires : goal.extend-requires
 extend-requires t c =
@@ -76,46 +62,21 @@ extend-requires t c =
     let node = c.args.node.now in
     let p : ℕ = c.in-Some.p in
     let lines = c.loop-p.lines in
-    let here = c.in-Some.ensures.place.2 in
-    let up = up_to_candidate problem k node (sets_of lines) c.loop-p.from p c.requires.node c.loop-p.invariant.lines c.in-Some.ensures.place.0 c.in-Some.ensures.least in
-    let found = line_there problem k node p c.in_ok-set.field-0 c.in-Some-2.set c.in-Some-2.is c.in_ok-set.ensures.line in
-    let number = c.loop-p.invariant.kept node.number node.set c.requires.number in
+    let place = c.in-Some.ensures.place in
+    let at = (goal.at.extend-requires t c).In-Some in
     let below = c.below-below.result in
-    let made : below.set ≡ node.set ++ p ∷ [] = c.below-below.ensures.set ∙ found.0 in
-    let few = length_within node.set p c.requires.node.line.ascending (c.requires.node.behind p here) in
+    let made = c.below-below.ensures.set in
+    let few = length_within node.set p c.requires.node.line.ascending (c.requires.node.behind p place.2) in
     let depth = c.requires.node.depth in
     let deeper = c.below-below.ensures.depth in
     let fits : SFits w64 c.cost.result = search rules in
     let cost = to_z-of_z w64 c.cost.result fits ∙ c.cost.ensures ∙ ap (line_cost problem k) made in
-    let pushed = sets_pushed lines c.push.new.self node.number p _ node.set below.set c.in_ok-push.ensures number made in
-    let last : below.number ≡ length (sets_of lines) = c.below-below.ensures.number ∙ c.width.ensures.value ∙ sym (length-sets_of lines) in (
-      omega (arith, c.in-Some.ensures.place.1),
-      (
-        c.in_ok-set.ensures.judge,
-        (
-          c.requires.person,
-          (
-            c.requires.parts,
-            (
-              c.requires.flown,
-              (
-                c.requires.pairs,
-                (
-                  c.below-below.ensures.node,
-                  (
-                    ap (slice_get (sets_of c.push.new.self)) last ∙ ap (λ s. slice_get s (length (sets_of lines))) pushed ∙ get_push_new (sets_of lines) below.set,
-                    (
-                      subst (IsUpTo problem k (below.set ++ 0 ∷ [])) (sym pushed) (IsUpTo-push problem k (sets_of lines) below.set (subst (λ mark. IsUpTo problem k mark (sets_of lines)) (sym made) up) c.below-below.ensures.node.line),
-                      costs_pushed problem k lines c.push.new.self node.number p _ node.set c.in_ok-push.ensures number cost c.loop-p.invariant.costs,
-                    ),
-                  ),
-                ),
-              ),
-            ),
-          ),
-        ),
-      ),
-    )
+    let pushed = sets_pushed lines c.push.new.self node.number p _ node.set below.set c.in_ok-push.ensures (number t at) made in
+    let last : below.number ≡ length (sets_of lines) = c.below-below.ensures.number ∙ c.width.ensures.value ∙ sym (length-sets_of lines) in
+    let here = ap (slice_get (sets_of c.push.new.self)) last ∙ ap (λ s. slice_get s (length (sets_of lines))) pushed ∙ get_push_new (sets_of lines) below.set in
+    let before = subst (IsUpTo problem k (below.set ++ 0 ∷ [])) (sym pushed) (IsUpTo-push problem k (sets_of lines) below.set (subst (λ mark. IsUpTo problem k mark (sets_of lines)) (sym made) (up t at)) c.below-below.ensures.node.line) in
+    let costs = costs_pushed problem k lines c.push.new.self node.number p _ node.set c.in_ok-push.ensures (number t at) cost c.loop-p.invariant.costs in
+    (omega (arith, place.1), (c.in_ok-set.ensures.judge, (c.requires.person, (c.requires.parts, (c.requires.flown, (c.requires.pairs, (c.below-below.ensures.node, (here, (before, costs)))))))))
 
 pub loop-p-preserved : goal.loop-p-preserved
 loop-p-preserved t c =
@@ -124,33 +85,30 @@ loop-p-preserved t c =
     let node = c.args.node.now in
     let p : ℕ = c.in-Some.p in
     let lines = c.loop-p.lines in
-    let here = c.in-Some.ensures.place.2 in
-    let up = up_to_candidate problem k node (sets_of lines) c.loop-p.from p c.requires.node c.loop-p.invariant.lines c.in-Some.ensures.place.0 c.in-Some.ensures.least in
-    let next = c.requires.node.places p here in
+    let at = (goal.at.loop-p-preserved t c).In-Some in
+    let next = c.requires.node.places p c.in-Some.ensures.place.2 in
     elim c.match-branch-2.branch [
       | in-Some-2+else-is_full+in_ok-push+in_ok-extend w ↦
-          let found = line_there problem k node p c.in_ok-set.field-0 w.in-Some-2.set w.in-Some-2.is c.in_ok-set.ensures.line in
-          let number = c.loop-p.invariant.kept node.number node.set c.requires.number in
-          let made : w.below-below.result.set ≡ node.set ++ p ∷ [] = w.below-below.ensures.set ∙ found.0 in
-          let pushed = sets_pushed lines w.push.new.self node.number p _ node.set w.below-below.result.set w.in_ok-push.ensures number made in
+          let made = w.below-below.ensures.set in
+          let pushed = sets_pushed lines w.push.new.self node.number p _ node.set w.below-below.result.set w.in_ok-push.ensures (number t at) made in
           let same = ap sets_of (sym w.lines-is) in
           record {
             judge = w.judge-is ∙ w.in_ok-extend.ensures.judge;
             within = omega arith;
             lines = subst (IsUpTo problem k (node.set ++ (p + 1) ∷ [])) same (IsUpTo-return problem k (sets_of w.extend.new.lines) node.set p (subst (λ s. IsUpTo problem k (s ++ length problem.pairings ∷ []) (sets_of w.extend.new.lines)) made w.in_ok-extend.ensures.lines));
             costs = subst (AreCosted problem k) (sym w.lines-is) w.in_ok-extend.ensures.costs;
-            kept = λ i s at.
+            kept = λ i s old.
                 ap (λ sets. slice_get sets i) (sym same)
-                ∙ w.in_ok-extend.ensures.kept i s (ap (λ sets. slice_get sets i) pushed ∙ get_push_old (sets_of lines) w.below-below.result.set s i (c.loop-p.invariant.kept i s at));
+                ∙ w.in_ok-extend.ensures.kept i s (ap (λ sets. slice_get sets i) pushed ∙ get_push_old (sets_of lines) w.below-below.result.set s i (c.loop-p.invariant.kept i s old));
           }
       | in_default-2 w ↦
           let same = ap sets_of (sym w.lines-is) in
           record {
             judge = w.judge-is ∙ c.in_ok-set.ensures.judge;
             within = omega arith;
-            lines = subst (IsUpTo problem k (node.set ++ (p + 1) ∷ [])) same (past_candidate problem k node (sets_of lines) p c.requires.parts up (no_line_there problem k node p c.in_ok-set.field-0 w.in_default-2.is c.in_ok-set.ensures.line));
+            lines = subst (IsUpTo problem k (node.set ++ (p + 1) ∷ [])) same (past_candidate problem k node (sets_of lines) p c.requires.parts (up t at) (no_line_there problem k node p c.in_ok-set.field-0 w.in_default-2.is c.in_ok-set.ensures.line));
             costs = subst (AreCosted problem k) (sym w.lines-is) c.loop-p.invariant.costs;
-            kept = λ i s at. ap (λ sets. slice_get sets i) (sym same) ∙ c.loop-p.invariant.kept i s at;
+            kept = λ i s old. ap (λ sets. slice_get sets i) (sym same) ∙ c.loop-p.invariant.kept i s old;
           }
     ]
 

@@ -1,6 +1,4 @@
-use Rattle.std.proofs.Common.{◌+◌, ◌≤◌, List, [], length, get_or, sym, ap, subst, ◌∙◌, arith}
-use Rattle.std.specs.Prelude.{slice_get}
-use Rattle.std.proofs.lemmas.List.{length_push}
+use Rattle.std.proofs.Common.{◌≤◌, List, [], length, get_or, ap, subst, arith}
 use Rattle.std.proofs.lemmas.Option.{slice_get-get_or}
 use Rattle.roster_model.specs.declared.limits.TheConstants.{MOST_LINES}
 use Rattle.roster_model.specs.Lines.{AreLines}
@@ -8,7 +6,7 @@ use Rattle.roster_lines.specs.Entries.{Entry, sets_of}
 use Rattle.roster_lines.specs.Listing.{IsFaultOf}
 use Rattle.roster_lines.specs.Person.{AreCosted}
 use Rattle.roster_lines.proofs.Lists.{IsTableOf-each, not_crowded}
-use Rattle.roster_lines.proofs.TreeLemmas.{each-push, length-sets_of}
+use Rattle.roster_lines.proofs.TreeLemmas.{each-next, length-sets_of}
 use Rattle.roster_lines.proofs.table.table_of.Goals as goal
 
 pub returns-in-Err-TooMany-clause-fault : goal.returns-in-Err-TooMany-clause-fault
@@ -28,16 +26,9 @@ returns-in-Err-TooMany-clause-fault c =
 pub loop-k-preserved : goal.loop-k-preserved
 loop-k-preserved c =
     let problem = c.args.problem.now in
-    let old = c.loop-k.persons.items in
-    let items = c.in_ok-push.ensures.items in
-    let long = c.loop-k.invariant.long in
-    record {
-      long = ap length items ∙ length_push old _ ∙ ap (λ n. n + 1) long;
-      lines = λ j lines at.
-          each-push (λ j (lines : List Entry). AreLines problem j (sets_of lines) × AreCosted problem j lines × (length lines ≤ MOST_LINES)) old _ c.loop-k.invariant.lines
-          (subst (λ j. AreLines problem j (sets_of c.in-Ok.lines)) (sym long) c.in-Ok.ensures.lines, subst (λ j. AreCosted problem j c.in-Ok.lines) (sym long) c.in-Ok.ensures.costs, c.in-Ok.ensures.few)
-          j lines (ap (λ xs. slice_get xs j) (sym items) ∙ at);
-    }
+    let made = c.in-Ok.ensures in
+    let next = each-next (λ j (lines : List Entry). AreLines problem j (sets_of lines) × AreCosted problem j lines × (length lines ≤ MOST_LINES)) c.loop-k.k c.loop-k.persons.items _ _ c.in_ok-push.ensures.items c.loop-k.invariant.long c.loop-k.invariant.lines (made.lines, made.costs, made.few) in
+    record { long = next.0; lines = next.1 }
 
 pub returns-clause-table : goal.returns-clause-table
 returns-clause-table c =
