@@ -14,6 +14,7 @@ use roster_problem::{Person, Problem, Rule, Set};
 use std::alloc::{AllocError, Global};
 
 /// What locks each person, in book order.
+#[tactic(auto, using(crate::proofs::OfPersons::SaidBefore_none))]
 pub(crate) fn locks_of(alloc: Global, problem: &Problem) -> Result<Vec<Option<Rule>>, AllocError>
     ensures { IfOk result
         (λ locks. AreLocks problem.now (map (option_map rule_of) locks.items)) }
@@ -47,6 +48,7 @@ fn verdict_of(
 }
 
 /// What each person breaks with their set, in book order.
+#[tactic(auto, using(crate::proofs::OfPersons::SaidBefore_none))]
 pub(crate) fn verdicts_of(
     alloc: Global,
     problem: &Problem,

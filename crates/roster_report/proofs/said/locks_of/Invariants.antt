@@ -1,8 +1,7 @@
-use Rattle.std.proofs.Common.{◌≡◌, length}
 use Rattle.roster_model.specs.Rules.{IsLock}
 use Rattle.roster_report.proofs.OfPersons.{SaidBefore}
 use Rattle.roster_report.proofs.said.locks_of.Given as goal
 
 -- what locks the persons so far
 abbrev pub invariant-loop-k : goal.invariant-loop-k
-invariant-loop-k l = record { long : length l.locks.items ≡ l.k; each : SaidBefore (IsLock l.problem) l.k l.locks.items }
+invariant-loop-k l = SaidBefore (IsLock l.problem) l.k l.locks.items

@@ -1,23 +1,12 @@
-use Rattle.std.proofs.Common.{◌≡◌, ◌+◌, length, ap, sym, ◌∙◌, subst, arith}
-use Rattle.std.proofs.lemmas.List.{length_push}
+use Rattle.std.proofs.Common.{length, ap, arith}
 use Rattle.roster_model.specs.Rosters.{IsVerdictIn}
-use Rattle.roster_report.proofs.OfPersons.{SaidBefore, SaidBefore-more, AreOfEach-before}
+use Rattle.roster_report.proofs.OfPersons.{SaidBefore-more, AreOfEach-before}
 use Rattle.roster_report.proofs.said.verdicts_of.Goals as goal
-
-pub loop-k-init : goal.loop-k-init
-loop-k-init c = record { long = ap length c.in_ok-verdicts.ensures.items; each = λ j default within. absurd (omega arith) }
 
 pub loop-k-preserved : goal.loop-k-preserved
 loop-k-preserved c =
-    let long = c.loop-k.invariant.long in
-    let more = ap length c.in_ok-push.ensures.items ∙ length_push c.loop-k.verdicts.items c.in_ok-verdict_of.field-0 in
-    record {
-      long = omega arith;
-      each = subst (SaidBefore (IsVerdictIn c.args.problem.now c.args.places.now) (c.loop-k.k + 1)) (sym c.in_ok-push.ensures.items)
-          (SaidBefore-more (IsVerdictIn c.args.problem.now c.args.places.now) c.loop-k.k c.loop-k.verdicts.items c.in_ok-verdict_of.field-0 long c.loop-k.invariant.each c.in_ok-verdict_of.ensures);
-    }
+    SaidBefore-more (IsVerdictIn c.args.problem.now c.args.places.now) c.loop-k.k c.loop-k.verdicts.items _ c.in_ok-verdict_of.field-0 c.loop-k.invariant c.in_ok-push.ensures.items c.in_ok-verdict_of.ensures
 
 pub returns : goal.returns
 returns c =
-    let all = ap length c.persons-count.ensures.value in
-    AreOfEach-before (IsVerdictIn c.args.problem.now c.args.places.now) c.args.problem.now c.loop-k.k c.loop-k.verdicts.items c.loop-k.invariant.long (omega arith) c.loop-k.invariant.each
+    AreOfEach-before (IsVerdictIn c.args.problem.now c.args.places.now) c.args.problem.now c.loop-k.k c.loop-k.verdicts.items c.loop-k.invariant (omega (arith, ap length c.persons-count.ensures.value))
