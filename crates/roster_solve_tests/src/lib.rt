@@ -1,11 +1,7 @@
-//! Tests of what is made of a book that was read, a file for each subject: what no clause says, and each
-//! public call that no book of `data/` reaches. A crate with tests of its own would be proved twice.
+//! Tests of lines and of searches, a file for each subject: what no clause says, and each public call
+//! that no book of `data/` reaches. A crate with tests of its own would be proved twice.
 #![tactic(auto)]
 
-#[cfg(test)]
-mod cost;
-#[cfg(test)]
-mod legal;
 #[cfg(test)]
 mod lines;
 #[cfg(test)]

@@ -2,13 +2,11 @@
 
 use roster_book::{Command, Watched, read_book};
 use roster_lines::{
-    TableFault, few_are_not_crowded, has_numbers, lines_of, nobody_is_crowded, one_list_of_lines,
-    one_list_of_numbers, table_of,
+    Lines, TableFault, few_are_not_crowded, has_numbers, lines_of, nobody_is_crowded,
+    one_list_of_lines, one_list_of_numbers, table_of,
 };
-use roster_model::limits::MOST_PAIRINGS;
 use roster_problem::{Problem, Set};
 use std::alloc::{AllocError, Global};
-use std::process::Abort;
 use std::test::Fail;
 
 /// Five pairings on one day, and five on the next.
@@ -70,15 +68,20 @@ fn problem_of(alloc: Global, days: &[u8]) -> Result<Problem, Fail> {
     Ok(read_book(alloc, &mut reader, Command::Solve)?.problem)
 }
 
-/// The set of these places.
-fn set_of(rt: &impl Abort, places: &[usize]) -> Set {
-    let mut set = Set::empty();
-    for place in places {
-        if *place < MOST_PAIRINGS {
-            set = set.with(*place).expect(rt, "a set takes no memory");
+/// The set of these pairings, of at most eleven.
+fn set_of(pairings: &[usize]) -> Set {
+    let mut places = [1; 11];
+    for p in pairings {
+        if *p < 11 {
+            places[*p] = 0;
         }
     }
-    set
+    Set::of_places(&places, 0)
+}
+
+/// Whether the line with this number is the one of these pairings.
+fn stands(lines: &Lines, pairings: &[usize], number: usize) -> bool {
+    lines.find(&set_of(pairings)) == Some(number)
 }
 
 #[test]
@@ -89,7 +92,7 @@ fn pairings_of_one_day_are_lines_alone(rt: HostRuntime) -> Result<(), Fail> {
     assert!(rt; lines.width() == 7);
     assert!(rt; lines.set(0).is_empty());
     for i in 1..7 {
-        assert!(rt; lines.set(i) == set_of(&rt, &[i - 1]));
+        assert!(rt; lines.set(i) == set_of(&[i - 1]));
     }
     Ok(())
 }
@@ -104,14 +107,13 @@ fn lines_of_two_days(rt: HostRuntime) -> Result<(), Fail> {
         assert!(rt; lines.find(&lines.set(i)) == Some(i));
     }
     for first in 0..5 {
-        assert!(rt; lines.find(&set_of(&rt, &[first])) == Some(6 * first + 1));
+        assert!(rt; stands(&lines, &[first], 6 * first + 1));
         for second in 5..10 {
-            let number = 6 * first + second - 3;
-            assert!(rt; lines.find(&set_of(&rt, &[first, second])) == Some(number));
+            assert!(rt; stands(&lines, &[first, second], 6 * first + second - 3));
         }
     }
     for second in 5..10 {
-        assert!(rt; lines.find(&set_of(&rt, &[second])) == Some(second + 26));
+        assert!(rt; stands(&lines, &[second], second + 26));
     }
     Ok(())
 }
@@ -121,9 +123,9 @@ fn sets_that_are_no_lines_are_not_found(rt: HostRuntime) -> Result<(), Fail> {
     let problem = problem_of(rt.alloc(), &TWO_DAYS)?;
     assert!(rt; problem.persons().len() == 1);
     let lines = lines_of(rt.alloc(), &problem, 0)?;
-    assert!(rt; lines.find(&set_of(&rt, &[0, 1])).is_none());
-    assert!(rt; lines.find(&set_of(&rt, &[0, 5, 6])).is_none());
-    assert!(rt; lines.find(&set_of(&rt, &[10])).is_none());
+    assert!(rt; lines.find(&set_of(&[0, 1])).is_none());
+    assert!(rt; lines.find(&set_of(&[0, 5, 6])).is_none());
+    assert!(rt; lines.find(&set_of(&[10])).is_none());
     Ok(())
 }
 
@@ -178,8 +180,8 @@ fn a_table_has_the_lines_of_each_person(rt: HostRuntime) -> Result<(), Fail> {
     let table = table_of(rt.alloc(), &problem)?;
     assert!(rt; table.width(0) == 36);
     assert!(rt; table.lines(0).width() == 36);
-    assert!(rt; table.set(0, 2) == set_of(&rt, &[0, 5]));
-    assert!(rt; table.find(0, &set_of(&rt, &[9])) == Some(35));
+    assert!(rt; table.set(0, 2) == set_of(&[0, 5]));
+    assert!(rt; table.find(0, &set_of(&[9])) == Some(35));
     assert!(rt; table.run_of(0, 4) == (25, 31));
     Ok(())
 }

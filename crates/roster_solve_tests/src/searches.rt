@@ -2,6 +2,7 @@
 
 use roster_book::{Command, Watched, read_book};
 use roster_combine::{solve, solve_plainly};
+use roster_problem::Roster;
 use std::alloc::Global;
 use std::test::Fail;
 
@@ -23,18 +24,18 @@ const TWO_BASES: &[u8] =
 const NOBODY: &[u8] =
     b"period,2024-03\nbase,BAS,UTC0\npairing,P1,BAS,100\nduty,Q1,P,P1,BAS,2024-03-04T06:00Z,2024-03-04T14:00Z\n";
 
+/// Whether the roster has these places and this cost.
+fn is(roster: &Roster, places: &[u16], cost: i64) -> bool {
+    roster.places.as_slice() == places && roster.cost == cost
+}
+
 /// Whether both find this roster, at this cost.
 fn find(alloc: Global, book: &[u8], places: &[u16], cost: i64) -> Result<bool, Fail> {
     let mut reader = Watched::new(book);
     let problem = read_book(alloc, &mut reader, Command::Solve)?.problem;
     let walked = solve(alloc, &problem)?;
     let plain = solve_plainly(alloc, &problem)?;
-    Ok(
-        walked.places.as_slice() == places
-            && walked.cost == cost
-            && plain.places.as_slice() == places
-            && plain.cost == cost,
-    )
+    Ok(is(&walked, places, cost) && is(&plain, places, cost))
 }
 
 #[test]
