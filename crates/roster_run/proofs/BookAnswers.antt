@@ -1,17 +1,16 @@
 -- What is answered to a book, where it was answered to its problem.
-use Rattle.std.proofs.Common.{◌≡◌, ◌⊎◌, ℕ, ◌<◌, List, Option, Some, None, refl, sym, ap, ◌∙◌, subst, inl, inr}
+use Rattle.std.proofs.Common.{◌≡◌, ℕ, List, Option, Some, None, refl, ap, subst, inl, inr}
 use Rattle.std.specs.Prelude.{IsErrOf, OnOk, Result, Ok, Err, slice_get}
 use Rattle.roster_book.specs.Reading.{IsBookOf, OfTold}
 use Rattle.roster_book.specs.declared.book.Book.{Book}
-use Rattle.roster_model.specs.Answer.{IsAnswer, IsCrowdedFault, IsFirstFault, IsProblemFault, IsRefusal, IsReport, Reports, records_of}
+use Rattle.roster_model.specs.Answer.{IsAnswer, IsProblemFault, IsRefusal, IsReport, Reports, records_of}
 use Rattle.roster_model.specs.Code.{TooManyLines, number_of_code}
 use Rattle.roster_model.specs.Faults.{Fault, first_fault}
-use Rattle.roster_model.specs.Lines.{IsCrowded, IsFirstCrowded}
-use Rattle.roster_model.specs.Problem.{Problem, problem_of}
+use Rattle.roster_model.specs.Lines.{IsFirstCrowded}
+use Rattle.roster_model.specs.Problem.{Problem}
 use Rattle.roster_model.specs.Record.{Command, Record, Solve}
 use Rattle.roster_model.specs.records.Assign.{assigned_in}
 use Rattle.roster_model.specs.records.Crew.{Person}
-use Rattle.roster_report.specs.Writing.{Writes, WritesPart}
 use Rattle.roster_report.specs.declared.fault.TextFault.{TextFault}
 use Rattle.roster_report.specs.declared.fault.TextFault.TheVariants as faults
 use Rattle.roster_run.specs.Run.{IsFaultLine, IsProblemAnswer, IsProblemRefusal, IsProblemReport, status_of}
@@ -20,15 +19,14 @@ use Rattle.roster_run.proofs.IsAnswer.{no_fault}
 
 -- ---- what is written
 
-pub Writes-weaker : (P Q : List ℕ → Type 0) (old new : Option (List ℕ)) → ((text : List ℕ) → P text → Q text) → Writes P old new → Writes Q old new
-Writes-weaker P Q old new more w = (w.0, more w.0 w.1, w.2)
+-- a text of one kind is written where one of another is, all of it or its first bytes
+pub text-weaker : (P Q Out : List ℕ → Type 0) → ((text : List ℕ) → P text → Q text) → (text : List ℕ) × P text × Out text → (text : List ℕ) × Q text × Out text
+text-weaker P Q Out more w = (w.0, more w.0 w.1, w.2)
 
-pub WritesPart-weaker : (P Q : List ℕ → Type 0) (old new : Option (List ℕ)) → ((text : List ℕ) → P text → Q text) → WritesPart P old new → WritesPart Q old new
-WritesPart-weaker P Q old new more w = (w.0, more w.0 w.1, w.2)
-
-pub OfTold-weaker : (P Q : List Record → Type 0) (told : Option (List ℕ)) → ((records : List Record) → P records → Q records) → OfTold P told → OfTold Q told
-OfTold-weaker P Q None more h = (h.0, more h.0 h.1)
-OfTold-weaker P Q (Some bytes) more h = more (records_of bytes) h
+-- of the records of a book, where it is of its problem
+pub text_of_book : (command : Command) (book : Book) (told : Option (List ℕ)) (P Out : List ℕ → Type 0) (Q : List Record → List ℕ → Type 0) → ((records : List Record) → IsBookOf command records book → (text : List ℕ) → P text → Q records text) → (text : List ℕ) × P text × Out text → OfTold (λ records. IsBookOf command records book) told → OfTold (λ records. (text : List ℕ) × Q records text × Out text) told
+text_of_book command book None P Out Q more w read = (read.0, text-weaker P (Q read.0) Out (more read.0 read.1) w)
+text_of_book command book (Some bytes) P Out Q more w read = text-weaker P (Q (records_of bytes)) Out (more (records_of bytes) read) w
 
 -- ---- from a problem to its book
 
