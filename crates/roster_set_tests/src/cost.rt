@@ -1,0 +1,95 @@
+//! What lines and rosters cost, by worked books, and the order of keys.
+
+use crate::legal::set_of;
+use roster_book::{BookFault, Command, Watched, read_book};
+use roster_cost::{
+    Key, cost_at, fixed_flight, line_cost, one_pairing_more, open_number, order_of_keys,
+    pairing_flight, roster_cost, set_flight, set_units, shares_add_up, units_of_set,
+};
+use roster_problem::{Problem, Set};
+use std::alloc::Global;
+use std::test::Fail;
+
+// A has no target, and B one of the flight of P1. P1 flies 480 minutes in March, P2 none. Each minute
+// that a target is missed by costs 1.
+const BOOK: &[u8] = b"period,2024-03
+weight,1
+base,BAS,UTC0
+crew,A,BAS,0,0,0
+crew,B,BAS,480,0,0
+pairing,P1,BAS,100
+pairing,P2,BAS,50
+duty,Q1,P,P1,BAS,2024-03-04T06:00Z,2024-03-04T14:00Z
+sector,Q1,O,2024-03-04T06:00Z,2024-03-04T14:00Z
+duty,Q2,P,P2,BAS,2024-03-12T06:00Z,2024-03-12T14:00Z
+cost,A,P1,7
+cost,B,P1,-3
+";
+
+fn problem_of(alloc: Global) -> Result<Problem, BookFault> {
+    let mut reader = Watched::new(BOOK);
+    Ok(read_book(alloc, &mut reader, Command::Solve)?.problem)
+}
+
+#[test]
+fn a_line_costs_its_units_and_the_missed_target(rt: HostRuntime) -> Result<(), Fail> {
+    let problem = problem_of(rt.alloc())?;
+    assert!(rt; problem.persons().len() == 2 && problem.pairings().len() == 2);
+    let first = set_of(&problem, &[0, 2]).ok_or("a set")?;
+    assert!(rt; line_cost(&problem, 0, &Set::empty()) == 0);
+    assert!(rt; line_cost(&problem, 1, &Set::empty()) == 480);
+    assert!(rt; line_cost(&problem, 0, &first) == 487);
+    assert!(rt; line_cost(&problem, 1, &first) == -3);
+    assert!(rt; set_units(&problem, 0, &first) == 7);
+    assert!(rt; set_flight(&problem, 0, &first) == 480);
+    Ok(())
+}
+
+#[test]
+fn a_line_costs_what_its_pairings_bring_one_by_one(rt: HostRuntime) -> Result<(), Fail> {
+    let problem = problem_of(rt.alloc())?;
+    assert!(rt; problem.persons().len() == 2 && problem.pairings().len() == 2);
+    let none = fixed_flight(&problem, 1);
+    assert!(rt; none == 0);
+    assert!(rt; pairing_flight(&problem, 1, 0) == 480);
+    assert!(rt; pairing_flight(&problem, 1, 1) == 0);
+    assert!(rt; cost_at(&problem, 1, 0, 0) == 480);
+    assert!(rt; cost_at(&problem, 1, -3, 480) == -3);
+    assert!(rt; cost_at(&problem, 1, -3, 500) == 17);
+    one_pairing_more();
+    units_of_set();
+    Ok(())
+}
+
+#[test]
+fn a_roster_costs_its_open_pairings_and_its_lines(rt: HostRuntime) -> Result<(), Fail> {
+    let problem = problem_of(rt.alloc())?;
+    assert!(rt; problem.pairings().len() == 2);
+    assert!(rt; open_number(&problem) == 2);
+    assert!(rt; roster_cost(&problem, &[2, 2]) == 630);
+    assert!(rt; roster_cost(&problem, &[0, 2]) == 1017);
+    assert!(rt; roster_cost(&problem, &[1, 2]) == 47);
+    assert!(rt; roster_cost(&problem, &[1, 0]) == -3);
+    shares_add_up();
+    Ok(())
+}
+
+#[test]
+fn keys_are_compared_by_cost_and_then_by_place(rt: HostRuntime) -> Result<(), Fail> {
+    let cheap = Key {
+        cost: -3,
+        places: &[1, 1],
+    };
+    let first = Key {
+        cost: 47,
+        places: &[0, 2],
+    };
+    let second = Key {
+        cost: 47,
+        places: &[1, 0],
+    };
+    assert!(rt; cheap < first && first < second && cheap <= cheap && second > cheap);
+    assert!(rt; first == first && first != second && cheap != first);
+    order_of_keys();
+    Ok(())
+}

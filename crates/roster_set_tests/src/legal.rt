@@ -1,0 +1,109 @@
+//! The rules over a duty for each pairing that a book may have.
+
+ghost use Rattle.std.specs.Prelude.{◌<◌, All, IfSome, length};
+
+use roster_book::{Command, Watched, read_book};
+use roster_legal::{Judge, first_broken, is_legal, locked, merge};
+use roster_model::limits::MOST_PAIRINGS;
+use roster_problem::{Problem, Rule, Set};
+use std::alloc::{AllocError, Global};
+use std::test::Fail;
+
+const DUTY: &[u8] = b",BAS,2024-03-04T06:00Z,2024-03-04T14:00Z\n";
+
+/// The last digit of a number.
+fn digit(n: usize) -> u8 {
+    b'0' + (n % 10) as u8
+}
+
+/// Appends the parts one behind another.
+fn push_all(book: &mut Vec<u8>, parts: &[&[u8]]) -> Result<(), AllocError> {
+    for part in parts {
+        book.extend_from_slice(part)?;
+    }
+    Ok(())
+}
+
+/// A book of one person, and as many pairings as may be, with a duty each, all at the same time.
+fn long_book(alloc: Global) -> Result<Vec<u8>, AllocError> {
+    let mut book = b"period,2024-03\nbase,BAS,UTC0\ncrew,A,BAS,0,0,0\n".to_vec(alloc)?;
+    for p in 0..MOST_PAIRINGS {
+        let name = [digit(p / 1000), digit(p / 100), digit(p / 10), digit(p)];
+        push_all(
+            &mut book,
+            &[
+                b"pairing,",
+                &name,
+                b",BAS,1\nduty,",
+                &name,
+                b",P,",
+                &name,
+                DUTY,
+            ],
+        )?;
+    }
+    Ok(book)
+}
+
+/// The pairings at whose places the list has the number 0.
+#[tactic(auto, using(roster_model::proofs::SetLemmas::places_of_number))]
+pub fn set_of(problem: &Problem, places: &[u16]) -> Option<Set>
+    ensures { IfSome result (λ set. All (λ p. p < length problem.now.pairings) set) }
+{
+    if places.len() != problem.pairings().len() {
+        return None;
+    }
+    Some(Set::of_places(places, 0))
+}
+
+#[test]
+fn as_many_duties_as_pairings(rt: HostRuntime) -> Result<(), Fail> {
+    let book = long_book(rt.alloc())?;
+    let mut reader = Watched::new(book.as_slice());
+    let problem = read_book(rt.alloc(), &mut reader, Command::Solve)?.problem;
+    let set = set_of(&problem, &[0; MOST_PAIRINGS]).ok_or("a set")?;
+    assert!(rt; problem.persons().len() == 1);
+    assert!(rt; merge(rt.alloc(), &problem, 0, &set)?.len() == MOST_PAIRINGS);
+    let broken = first_broken(rt.alloc(), &problem, 0, &set)?;
+    assert!(rt; matches!(broken, Some(Rule::Overlap)));
+    assert!(rt; !is_legal(rt.alloc(), &problem, 0, &set)?);
+    Ok(())
+}
+
+// A has a fixed duty on 4 March, and P1 at the same time; P2 is two days later. B is of another base,
+// and locked by what was flown in the year.
+const LOCKED: &[u8] = b"period,2024-03
+base,BAS,UTC0
+base,GVA,UTC0
+crew,A,BAS,0,0,0
+crew,B,GVA,0,54001,0
+pairing,P1,BAS,1
+pairing,P2,BAS,1
+duty,Q1,P,P1,BAS,2024-03-04T06:00Z,2024-03-04T14:00Z
+duty,Q2,P,P2,BAS,2024-03-06T06:00Z,2024-03-06T14:00Z
+duty,Q3,C,A,BAS,2024-03-04T08:00Z,2024-03-04T10:00Z
+";
+
+#[test]
+fn a_judge_judges_sets_one_after_another(rt: HostRuntime) -> Result<(), Fail> {
+    let mut reader = Watched::new(LOCKED);
+    let problem = read_book(rt.alloc(), &mut reader, Command::Solve)?.problem;
+    assert!(rt; problem.persons().len() == 2);
+    let both = set_of(&problem, &[0, 0]).ok_or("a set")?;
+    let mut judge = Judge::new(rt.alloc(), &problem);
+    let first = judge.first_broken(0, &both)?;
+    let second = judge.first_broken(1, &both)?;
+    assert!(rt; first == Some(Rule::Overlap));
+    assert!(rt; second == Some(Rule::Base));
+    Ok(())
+}
+
+#[test]
+fn carried_minutes_lock(rt: HostRuntime) -> Result<(), Fail> {
+    let mut reader = Watched::new(LOCKED);
+    let problem = read_book(rt.alloc(), &mut reader, Command::Solve)?.problem;
+    assert!(rt; problem.persons().len() == 2);
+    assert!(rt; locked(rt.alloc(), &problem, 0)?.is_none());
+    assert!(rt; locked(rt.alloc(), &problem, 1)? == Some(Rule::FlightYear));
+    Ok(())
+}
