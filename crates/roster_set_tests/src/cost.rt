@@ -1,13 +1,11 @@
 //! What lines and rosters cost, by worked books, and the order of keys.
 
-use crate::legal::set_of;
-use roster_book::{BookFault, Command, Watched, read_book};
+use crate::legal::{problem_of, set_of};
 use roster_cost::{
     Key, cost_at, fixed_flight, line_cost, one_pairing_more, open_number, order_of_keys,
     pairing_flight, roster_cost, set_flight, set_units, shares_add_up, units_of_set,
 };
-use roster_problem::{Problem, Set};
-use std::alloc::Global;
+use roster_problem::Set;
 use std::test::Fail;
 
 // A has no target, and B one of the flight of P1. P1 flies 480 minutes in March, P2 none. Each minute
@@ -26,14 +24,9 @@ cost,A,P1,7
 cost,B,P1,-3
 ";
 
-fn problem_of(alloc: Global) -> Result<Problem, BookFault> {
-    let mut reader = Watched::new(BOOK);
-    Ok(read_book(alloc, &mut reader, Command::Solve)?.problem)
-}
-
 #[test]
 fn a_line_costs_its_units_and_the_missed_target(rt: HostRuntime) -> Result<(), Fail> {
-    let problem = problem_of(rt.alloc())?;
+    let problem = problem_of(rt.alloc(), BOOK)?;
     assert!(rt; problem.persons().len() == 2 && problem.pairings().len() == 2);
     let first = set_of(&problem, &[0, 2]).ok_or("a set")?;
     assert!(rt; line_cost(&problem, 0, &Set::empty()) == 0);
@@ -47,7 +40,7 @@ fn a_line_costs_its_units_and_the_missed_target(rt: HostRuntime) -> Result<(), F
 
 #[test]
 fn a_line_costs_what_its_pairings_bring_one_by_one(rt: HostRuntime) -> Result<(), Fail> {
-    let problem = problem_of(rt.alloc())?;
+    let problem = problem_of(rt.alloc(), BOOK)?;
     assert!(rt; problem.persons().len() == 2 && problem.pairings().len() == 2);
     let none = fixed_flight(&problem, 1);
     assert!(rt; none == 0);
@@ -63,7 +56,7 @@ fn a_line_costs_what_its_pairings_bring_one_by_one(rt: HostRuntime) -> Result<()
 
 #[test]
 fn a_roster_costs_its_open_pairings_and_its_lines(rt: HostRuntime) -> Result<(), Fail> {
-    let problem = problem_of(rt.alloc())?;
+    let problem = problem_of(rt.alloc(), BOOK)?;
     assert!(rt; problem.pairings().len() == 2);
     assert!(rt; open_number(&problem) == 2);
     assert!(rt; roster_cost(&problem, &[2, 2]) == 630);

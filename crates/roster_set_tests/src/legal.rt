@@ -2,7 +2,7 @@
 
 ghost use Rattle.std.specs.Prelude.{◌<◌, All, IfSome, length};
 
-use roster_book::{Command, Watched, read_book};
+use roster_book::{BookFault, Command, Watched, read_book};
 use roster_legal::{Judge, first_broken, is_legal, locked, merge};
 use roster_model::limits::MOST_PAIRINGS;
 use roster_problem::{Problem, Rule, Set};
@@ -45,6 +45,12 @@ fn long_book(alloc: Global) -> Result<Vec<u8>, AllocError> {
     Ok(book)
 }
 
+/// The problem of a book.
+pub fn problem_of(alloc: Global, book: &[u8]) -> Result<Problem, BookFault> {
+    let mut reader = Watched::new(book);
+    Ok(read_book(alloc, &mut reader, Command::Solve)?.problem)
+}
+
 /// The pairings at whose places the list has the number 0.
 #[tactic(auto, using(roster_model::proofs::SetLemmas::places_of_number))]
 pub fn set_of(problem: &Problem, places: &[u16]) -> Option<Set>
@@ -59,8 +65,7 @@ pub fn set_of(problem: &Problem, places: &[u16]) -> Option<Set>
 #[test]
 fn as_many_duties_as_pairings(rt: HostRuntime) -> Result<(), Fail> {
     let book = long_book(rt.alloc())?;
-    let mut reader = Watched::new(book.as_slice());
-    let problem = read_book(rt.alloc(), &mut reader, Command::Solve)?.problem;
+    let problem = problem_of(rt.alloc(), &book)?;
     let set = set_of(&problem, &[0; MOST_PAIRINGS]).ok_or("a set")?;
     assert!(rt; problem.persons().len() == 1);
     assert!(rt; merge(rt.alloc(), &problem, 0, &set)?.len() == MOST_PAIRINGS);
@@ -86,8 +91,7 @@ duty,Q3,C,A,BAS,2024-03-04T08:00Z,2024-03-04T10:00Z
 
 #[test]
 fn a_judge_judges_sets_one_after_another(rt: HostRuntime) -> Result<(), Fail> {
-    let mut reader = Watched::new(LOCKED);
-    let problem = read_book(rt.alloc(), &mut reader, Command::Solve)?.problem;
+    let problem = problem_of(rt.alloc(), LOCKED)?;
     assert!(rt; problem.persons().len() == 2);
     let both = set_of(&problem, &[0, 0]).ok_or("a set")?;
     let mut judge = Judge::new(rt.alloc(), &problem);
@@ -100,8 +104,7 @@ fn a_judge_judges_sets_one_after_another(rt: HostRuntime) -> Result<(), Fail> {
 
 #[test]
 fn carried_minutes_lock(rt: HostRuntime) -> Result<(), Fail> {
-    let mut reader = Watched::new(LOCKED);
-    let problem = read_book(rt.alloc(), &mut reader, Command::Solve)?.problem;
+    let problem = problem_of(rt.alloc(), LOCKED)?;
     assert!(rt; problem.persons().len() == 2);
     assert!(rt; locked(rt.alloc(), &problem, 0)?.is_none());
     assert!(rt; locked(rt.alloc(), &problem, 1)? == Some(Rule::FlightYear));
