@@ -11,6 +11,7 @@ use Rattle.std.proofs.lemmas.Bool.Decides.{nat_tests}
 use Rattle.std.proofs.lemmas.Str.Parse.{IsDigitsTest, IsNumeralModel, numerals_by_value, parse_signed_minus, parse_signed_plain, digits_value_short}
 use Rattle.roster_model.specs.Form.{is_number, number_of, unsigned_part}
 use Rattle.roster_book.proofs.Tests.{both_of}
+use Rattle.roster_model.specs.declared.limits.TheConstants.{MOST_DIGITS}
 
 digit_range : (c : ℕ) → is_ascii_digit c ≡ true → IsInRange 48 57 c
 digit_range c h = grind (arith, nat_tests)
@@ -66,15 +67,15 @@ no_sign c cs h = let r = digit_range c (both_of (is_ascii_digit c) (list_all is_
 parses_minus : {E : Type 0} (ds : List ℕ) (r : Result ℤ E) → ParsesSigned w64 10 (45 ∷ ds) r → is_number (45 ∷ ds) ≡ true → result_ok r ≡ Some (number_of (45 ∷ ds))
 unfolding is_number number_of
 parses_minus ds r p h =
-    let b = both_of (is_in_range 1 12 (length ds)) (list_all is_ascii_digit ds) h in
-    let short = digits_value_short own ds 12 b.1 (grind (arith, nat_tests)) in
+    let b = both_of (is_in_range 1 MOST_DIGITS (length ds)) (list_all is_ascii_digit ds) h in
+    let short = digits_value_short own ds MOST_DIGITS b.1 (grind (arith, nat_tests)) in
     let some : 0 < length ds = grind (arith, nat_tests) in
     some_where r _ _ (parse_signed_minus own w64 (45 ∷ ds) r p refl) (b.1, some, omega arith)
 
-parses_plain : {E : Type 0} (c : ℕ) (cs : List ℕ) (r : Result ℤ E) → ParsesSigned w64 10 (c ∷ cs) r → AreDigits (c ∷ cs) → length (c ∷ cs) ≤ 12 → result_ok r ≡ Some (pos (digits_value 10 (c ∷ cs)))
+parses_plain : {E : Type 0} (c : ℕ) (cs : List ℕ) (r : Result ℤ E) → ParsesSigned w64 10 (c ∷ cs) r → AreDigits (c ∷ cs) → length (c ∷ cs) ≤ MOST_DIGITS → result_ok r ≡ Some (pos (digits_value 10 (c ∷ cs)))
 parses_plain c cs r p h l =
     let n = no_sign c cs h in
-    let short = digits_value_short own (c ∷ cs) 12 h l in
+    let short = digits_value_short own (c ∷ cs) MOST_DIGITS h l in
     some_where r _ _ (parse_signed_plain own w64 (c ∷ cs) r p n.0 n.1) (h, omega arith, omega arith)
 
 parses_by_sign : {E : Type 0} (c : ℕ) (cs : List ℕ) (m : Bool) → (c == 45) ≡ m → (r : Result ℤ E) → ParsesSigned w64 10 (c ∷ cs) r → is_number (c ∷ cs) ≡ true → result_ok r ≡ Some (number_of (c ∷ cs))
@@ -86,9 +87,9 @@ parses_by_sign c cs true e r p h =
     again c p h minus
 parses_by_sign c cs false e r p h =
     let digits : unsigned_part (c ∷ cs) ≡ c ∷ cs = rw e refl in
-    let b = both_of (is_in_range 1 12 (length (unsigned_part (c ∷ cs)))) (list_all is_ascii_digit (unsigned_part (c ∷ cs))) h in
+    let b = both_of (is_in_range 1 MOST_DIGITS (length (unsigned_part (c ∷ cs)))) (list_all is_ascii_digit (unsigned_part (c ∷ cs))) h in
     let all : AreDigits (c ∷ cs) = rw digits at b.1 in
-    let short : is_in_range 1 12 (length (c ∷ cs)) ≡ true = rw digits at b.0 in
+    let short : is_in_range 1 MOST_DIGITS (length (c ∷ cs)) ≡ true = rw digits at b.0 in
     let n = no_sign c cs all in
     let found = parses_plain c cs r p all (grind (arith, nat_tests)) in
     rw e (let plus : (c == 43) ≡ false = grind (arith, nat_tests, n.0) in rw plus found)

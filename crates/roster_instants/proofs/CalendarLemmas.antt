@@ -6,6 +6,7 @@ use Rattle.std.proofs.lemmas.Bool.{and_left, and_right, and_from, lt-leb, le-leb
 use Rattle.std.specs.Int.{is_in_range}
 use Rattle.roster_model.specs.Form.{has_shape, number_at}
 use Rattle.roster_model.specs.Calendar.{Period, period_of, is_instant, instant_of, is_real_date, day_number}
+use Rattle.roster_model.specs.declared.limits.TheConstants.{FIRST_YEAR, LAST_YEAR, FIRST_MONTH_YEAR, LAST_MONTH_YEAR}
 
 -- a test that says no
 none_if : {X : Type 0} (test : Bool) (x : X) → test ≡ false → None ≡ (if test then Some x else None)
@@ -21,7 +22,7 @@ unfolding period_of
 period-unshaped text e = none_if _ _ (and_left _ _ (and_left _ _ e))
 
 -- nor is one with a year or a month out of range
-pub period-no_year : (text : List ℕ) → is_in_range 1971 9997 (number_at text 0 4) ≡ false → None ≡ period_of text
+pub period-no_year : (text : List ℕ) → is_in_range FIRST_MONTH_YEAR LAST_MONTH_YEAR (number_at text 0 4) ≡ false → None ≡ period_of text
 unfolding period_of
 period-no_year text e = none_if _ _ (and_left _ _ (and_right _ _ e))
 
@@ -31,13 +32,13 @@ period-no_month text e = none_if _ _ (and_right _ _ e)
 
 -- and every other text is the month that its numbers name
 pub period-read : (text : List ℕ) → has_shape (codes "0000-00") text ≡ true
-    → is_in_range 1971 9997 (number_at text 0 4) ≡ true → is_in_range 1 12 (number_at text 5 7) ≡ true
+    → is_in_range FIRST_MONTH_YEAR LAST_MONTH_YEAR (number_at text 0 4) ≡ true → is_in_range 1 12 (number_at text 5 7) ≡ true
     → Some (record { year = number_at text 0 4; month = number_at text 5 7 }) ≡ period_of text
 unfolding period_of
 period-read text shape year month = some_if _ _ (and_from _ _ (and_from _ _ shape year) month)
 
 -- small numbers stay what they are in a signed type
-pub in_i16 : (n : ℕ) → n ≤ 9998 → unsigned_abs (to_z w16 n) ≡ n
+pub in_i16 : (n : ℕ) → n ≤ LAST_YEAR → unsigned_abs (to_z w16 n) ≡ n
 in_i16 n h = grind (arith, ints)
 
 pub in_i8 : (n : ℕ) → n ≤ 99 → unsigned_abs (to_z w8 n) ≡ n
@@ -47,10 +48,10 @@ abbrev record_of : ℕ → ℕ → Period
 record_of year month = record { year = year; month = month }
 
 -- a year and a month that are kept in signed types
-pub same_period : (y m year month : ℕ) → is_in_range 1971 9997 year ≡ true → is_in_range 1 12 month ≡ true → y ≡ year → m ≡ month
+pub same_period : (y m year month : ℕ) → is_in_range FIRST_MONTH_YEAR LAST_MONTH_YEAR year ≡ true → is_in_range 1 12 month ≡ true → y ≡ year → m ≡ month
     → record_of (unsigned_abs (to_z w16 y)) (unsigned_abs (to_z w8 m)) ≡ record_of year month
 same_period y m year month year_in month_in same_year same_month =
-    let bound : y ≤ 9998 = grind (arith, nat_tests) in
+    let bound : y ≤ LAST_YEAR = grind (arith, nat_tests) in
     let small : m ≤ 99 = grind (arith, nat_tests) in
     rw (in_i16 y bound, in_i8 m small, same_year, same_month)
 
@@ -62,7 +63,7 @@ unfolding instant_of is_instant
 instant-unshaped text e = none_if _ _ (and_left _ _ (and_left _ _ (and_left _ _ (and_left _ _ e))))
 
 -- nor is one with a year out of range, or of no date
-pub instant-no_year : (text : List ℕ) → is_in_range 1970 9998 (number_at text 0 4) ≡ false → None ≡ instant_of text
+pub instant-no_year : (text : List ℕ) → is_in_range FIRST_YEAR LAST_YEAR (number_at text 0 4) ≡ false → None ≡ instant_of text
 unfolding instant_of is_instant
 instant-no_year text e = none_if _ _ (and_left _ _ (and_left _ _ (and_left _ _ (and_right _ _ e))))
 
@@ -81,7 +82,7 @@ instant-no_minute text e = none_if _ _ (and_right _ _ (lt-leb _ _ e))
 
 -- and every other text is the instant that its numbers name
 pub instant-read : (text : List ℕ) (day hour minute : ℕ) → has_shape (codes "0000-00-00T00:00Z") text ≡ true
-    → is_in_range 1970 9998 (number_at text 0 4) ≡ true
+    → is_in_range FIRST_YEAR LAST_YEAR (number_at text 0 4) ≡ true
     → is_real_date (number_at text 0 4) (number_at text 5 7) (number_at text 8 10) ≡ true
     → day ≡ day_number (number_at text 0 4) (number_at text 5 7) (number_at text 8 10)
     → hour ≡ number_at text 11 13 → hour ≤ 23 → minute ≡ number_at text 14 16 → minute ≤ 59

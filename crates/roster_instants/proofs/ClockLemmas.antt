@@ -29,6 +29,7 @@ use Rattle.jiff.specs.Placed.{IsPosixZone}
 use Rattle.roster_model.specs.Clocks.{year_begins, year_ends, change_in, offset_ahead, offset_behind, offset_by, offset_at, moment, second_at}
 use Rattle.roster_instants.proofs.MarkLemmas.{nanos, IsNear, IsMark, IsNear-mark, clamp-mark, clamp_bounds, near-add, near-sub, same_window, same_span}
 use Rattle.roster_instants.specs.Rule.{IsRule, rule_of}
+use Rattle.roster_instants.specs.declared.clocks.TheConstants.{LAST_DAY}
 
 -- ---- the moments of a rule
 
@@ -174,7 +175,7 @@ offset_is zone dt year at is_year is_at inner = by_summer year at zone.std_offse
 -- ---- the instant of an hour of a day
 
 -- the year of such a day is an inner one
-pub inner : (dt : DateTime) (day : ℕ) → epoch_day dt.date ≡ pos day → day ≤ 2_932_300 → IsInner dt.date.year
+pub inner : (dt : DateTime) (day : ℕ) → epoch_day dt.date ≡ pos day → day ≤ LAST_DAY → IsInner dt.date.year
 inner dt day is to =
     let place = epoch_day-ordinal dt.date in
     let bound = day_of_year_bound dt.date.year dt.date.month dt.date.day (civil dt.date) in
@@ -191,7 +192,7 @@ year_is dt day is = sym (year_of_day-date dt.date) ∙ ap year_of_day is
 less : (a b : ℤ) → nanos a -ℤ nanos b ≡ nanos (a -ℤ b)
 less a b = omega (arith, signed_arith)
 
-pub instant_is : (zone : Rule) (dt : DateTime) (day hour : ℕ) → epoch_day dt.date ≡ pos day → time_nanos dt.time ≡ hour * 3_600_000_000_000 → day ≤ 2_932_300
+pub instant_is : (zone : Rule) (dt : DateTime) (day hour : ℕ) → epoch_day dt.date ≡ pos day → time_nanos dt.time ≡ hour * 3_600_000_000_000 → day ≤ LAST_DAY
     → instant_of dt (compatible_offset (rule.ambiguous_at zone dt)) ≡ nanos (second_at (tz_view zone) day hour)
 unfolding second_at
 instant_is zone dt day hour is time to =
@@ -204,7 +205,7 @@ instant_is zone dt day hour is time to =
     ∙ less (moment day hour) (offset_at (tz_view zone) (year_of_day (pos day)) (moment day hour))
 
 -- a zone that follows a rule, and one that a text stands for
-pub instant_of_rule : (zone : TimeZone) (dt : DateTime) (day hour : ℕ) → IsRule zone → epoch_day dt.date ≡ pos day → time_nanos dt.time ≡ hour * 3_600_000_000_000 → day ≤ 2_932_300
+pub instant_of_rule : (zone : TimeZone) (dt : DateTime) (day hour : ℕ) → IsRule zone → epoch_day dt.date ≡ pos day → time_nanos dt.time ≡ hour * 3_600_000_000_000 → day ≤ LAST_DAY
     → instant_of dt (compatible_offset (ambiguous_at zone dt)) ≡ nanos (second_at (rule_of zone) day hour)
 unfolding ambiguous_at
 instant_of_rule (Posix zone) dt day hour has is time to = instant_is zone dt day hour is time to

@@ -10,6 +10,8 @@ use Rattle.jiff_core.specs.Calendar.{IsDate, days_in_month, days_from_civil, day
 use Rattle.jiff_core.specs.Date.{IsYmd, epoch_day}
 use Rattle.jiff_core.specs.declared.civil.date.Date.{Date}
 use Rattle.roster_model.specs.Calendar.{is_real_date, day_number}
+use Rattle.roster_model.specs.declared.limits.TheConstants.{FIRST_YEAR, LAST_YEAR, FIRST_MONTH_YEAR, LAST_MONTH_YEAR}
+use Rattle.roster_instants.specs.declared.clocks.TheConstants.{EARLIEST_MONTH, LATEST_MONTH}
 
 is_between : (low high n : ℕ) → pos low ≤ℤ pos n → pos n ≤ℤ pos high → is_in_range low high n ≡ true
 is_between low high n above below = and_from _ _ (le-leb low n (omega (arith, ints))) (le-leb n high (omega (arith, ints)))
@@ -59,30 +61,30 @@ Ok-from_ok (Ok y) x e = cc
 Ok-from_ok (Err d) x e = cc
 
 -- a number below 10000 in a signed type
-pub year_in_i16 : (n : ℕ) → n ≤ 9998 → to_z w16 n ≡ pos n
+pub year_in_i16 : (n : ℕ) → n ≤ LAST_YEAR → to_z w16 n ≡ pos n
 year_in_i16 n h = omega (arith, ints)
 
 pub two_digits_in_i8 : (n : ℕ) → n < 100 → to_z w8 n ≡ pos n
 two_digits_in_i8 n h = omega (arith, ints)
 
 -- the same of three unsigned numbers, in signed types
-pub day_of_parts : (date : Date) (year month day : ℕ) → 1970 ≤ year → year ≤ 9998 → month < 100 → day < 100
+pub day_of_parts : (date : Date) (year month day : ℕ) → FIRST_YEAR ≤ year → year ≤ LAST_YEAR → month < 100 → day < 100
     → IsYmd (to_z w16 year) (to_z w8 month) (to_z w8 day) date → epoch_day date ≡ pos (day_number year month day)
 day_of_parts date year month day from to month_fits day_fits is =
     day_of_date date year month day from (rw (← year_in_i16 year to, ← two_digits_in_i8 month month_fits, ← two_digits_in_i8 day day_fits) is)
 
--- a year later there are 365 days before it
-pub day_from_1971 : (year month day : ℕ) → 1971 ≤ year → 1 ≤ day → 365 ≤ day_number year month day
-day_from_1971 year month day from first =
+-- no day of a month is before the earliest one's first
+pub day_from_earliest : (year month day : ℕ) → FIRST_MONTH_YEAR ≤ year → 1 ≤ day → EARLIEST_MONTH ≤ day_number year month day
+day_from_earliest year month day from first =
     let more : day_count (pos 1970) 1 1 + 365 ≤ day_count (pos year) 1 1 = day_count-later_year (pos 1970) (pos year) (omega (arith, ints)) (omega (arith, ints)) in
     let in_year = day_count-day_of_year (pos year) month day first in
     let number = days_from_civil-day_count (pos year) month day in
     let same = day_number_is year month day (omega arith) first in
     omega (arith, ints, day_count-epoch)
 
--- a month of the year 9997 or before begins two years before the last day that there is
-pub day_to_9997 : (year month : ℕ) → 1971 ≤ year → year ≤ 9997 → 1 ≤ month → month ≤ 12 → day_number year month 1 ≤ 2_932_167
-day_to_9997 year month from to low high =
+-- a month begins two years before the last day that there is
+pub day_to_latest : (year month : ℕ) → FIRST_MONTH_YEAR ≤ year → year ≤ LAST_MONTH_YEAR → 1 ≤ month → month ≤ 12 → day_number year month 1 ≤ LATEST_MONTH
+day_to_latest year month from to low high =
     let rest = day_count-later_year (pos year) (pos 9998) (omega (arith, signed_arith)) (omega (arith, signed_arith)) in
     let last = day_count-later_year (pos 9998) (pos 9999) (omega (arith, signed_arith)) (omega (arith, signed_arith)) in
     let end = day_count-later_year (pos 9999) (pos 10000) (omega (arith, signed_arith)) (omega (arith, signed_arith)) in

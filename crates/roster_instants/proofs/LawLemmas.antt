@@ -17,7 +17,7 @@ use Rattle.roster_model.specs.Calendar.{Period, Days, days_of_window, first_day}
 use Rattle.roster_model.specs.Clocks.{second_at, is_minute_at, minute_at}
 use Rattle.roster_model.specs.Zone.{are_minutes}
 use Rattle.roster_instants.proofs.ClockLemmas.{instant_of_rule, rule_of_text}
-use Rattle.roster_instants.proofs.DayLemmas.{day_from_1971, day_to_9997}
+use Rattle.roster_instants.proofs.DayLemmas.{day_from_earliest, day_to_latest}
 use Rattle.roster_instants.proofs.MarkLemmas.{nanos}
 use Rattle.roster_instants.proofs.SecondLemmas.{IsHour, instant_bounds}
 use Rattle.roster_instants.specs.Rule.{rule_of}
@@ -26,8 +26,8 @@ use Rattle.roster_instants.specs.Laws.{IsMonth, IsHourOf, IsCompatible, HasCompa
 -- an hour of a window, on a day that a window may hold
 hour_of : (period : Period) (i hour : ℕ) (dt : DateTime) → IsMonth period → i ≤ days_of_window period → hour < 24 → IsHourOf period i hour dt → IsHour dt (first_day period + i) hour
 hour_of period i hour dt month within below is =
-    let low = day_from_1971 period.year period.month 1 month.from (omega arith) in
-    let high = day_to_9997 period.year period.month month.from month.to month.low month.high in
+    let low = day_from_earliest period.year period.month 1 month.from (omega arith) in
+    let high = day_to_latest period.year period.month month.from month.to month.low month.high in
     let days = (days_in_month_bounds (pos period.year) period.month).0 in
     record { date = is.date; time = is.time; from = omega arith; to = omega arith; within = below }
 

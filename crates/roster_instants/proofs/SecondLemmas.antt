@@ -17,14 +17,15 @@ use Rattle.jiff_tz.specs.declared.timezone.TimeZone.{TimeZone}
 use Rattle.roster_model.specs.Clocks.{second_at}
 use Rattle.roster_instants.proofs.MarkLemmas.{nanos}
 use Rattle.roster_instants.proofs.ClockLemmas.{moment_nanos, instant_of_rule}
+use Rattle.roster_instants.specs.declared.clocks.TheConstants.{FIRST_DAY, LAST_DAY}
 use Rattle.roster_instants.specs.Rule.{IsRule, rule_of}
 
 -- the datetime shows this hour of this day, which a window may hold
 pub record IsHour (dt : DateTime) (day hour : ℕ) : Type 0 where
   pub date : epoch_day dt.date ≡ pos day
   pub time : time_nanos dt.time ≡ hour * 3_600_000_000_000
-  pub from : 330 ≤ day
-  pub to : day ≤ 2_932_300
+  pub from : FIRST_DAY ≤ day
+  pub to : day ≤ LAST_DAY
   pub within : hour < 24
 
 -- its instant by any offset lies between 1970 and 9999

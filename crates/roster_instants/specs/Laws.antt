@@ -14,11 +14,12 @@ use Rattle.jiff.specs.Placed.{IsPosixZone}
 use Rattle.roster_model.specs.Calendar.{Period, Days, days_of_month, days_of_window, first_day}
 use Rattle.roster_model.specs.Clocks.{second_at}
 use Rattle.roster_model.specs.Zone.{days_of_zone}
+use Rattle.roster_model.specs.declared.limits.TheConstants.{FIRST_MONTH_YEAR, LAST_MONTH_YEAR}
 
--- the months 1971-01 to 9997-12
+-- the months of the years that are read
 pub record IsMonth (period : Period) : Type 0 where
-  pub from : 1971 ≤ period.year
-  pub to : period.year ≤ 9997
+  pub from : FIRST_MONTH_YEAR ≤ period.year
+  pub to : period.year ≤ LAST_MONTH_YEAR
   pub low : 1 ≤ period.month
   pub high : period.month ≤ 12
 

@@ -1,4 +1,4 @@
-//! The clocks of a place, by the rule of its zone text.
+//! The clocks of a base, by the rule of its zone text.
 
 ghost use Rattle.std.specs.Prelude.{◌≡◌, ◌<◌, ◌≤◌, ◌+◌, ◌*◌, pos, IfOk};
 ghost use Rattle.std.specs.List.{list_all, range_with_len};
@@ -12,6 +12,7 @@ use crate::minute::Minute;
 use jiff::civil::DateTime;
 use jiff::tz::TimeZone;
 use jiff_core::civil::{self, Date, Time};
+use roster_model::limits::{DAYS_BEFORE, MOST_DAYS};
 use std::alloc::{AllocError, Global};
 use std::marker::Model;
 
@@ -22,10 +23,21 @@ pub(crate) const EIGHT: u8 = 8;
 
 pub(crate) const TEN: u8 = 22;
 
-/// The clocks of a place whose zone follows a rule.
-///
-/// Days are told by their numbers, from 0 for 1970-01-01. Those that a window may hold lie from 330,
-/// which is 1970-11-27, to 2932300, some days into the year 9998.
+/// The number of 1 January 1971, before which no month begins. Days are told by their numbers, from 0
+/// for 1970-01-01.
+pub(crate) const EARLIEST_MONTH: usize = 365;
+
+/// The number of 1 January 9998, after which no month begins.
+pub(crate) const LATEST_MONTH: usize = 2_932_167;
+
+/// The first day that a window may hold.
+pub(crate) const FIRST_DAY: usize = EARLIEST_MONTH - DAYS_BEFORE;
+
+/// The last day that a window may hold or end with.
+pub(crate) const LAST_DAY: usize = LATEST_MONTH + MOST_DAYS;
+
+/// The clocks of a base, whose zone follows a rule. They are asked for days from [`FIRST_DAY`] to
+/// [`LAST_DAY`].
 #[derive(Drop)]
 pub(crate) struct Clocks {
     zone: TimeZone<'static>,
@@ -54,8 +66,8 @@ impl Clocks {
 
     /// The instant for which an hour of a day stands, in seconds since 1970-01-01T00:00Z.
     fn second_at(&self, day: u32, hour: u8) -> u64
-        requires from { 330 ≤ day }
-        requires to { day ≤ 2_932_300 }
+        requires from { FIRST_DAY ≤ day }
+        requires to { day ≤ LAST_DAY }
         requires hour { hour < 24 }
         ensures value { pos result ≡ second_at self.now day hour }
         ensures bound { result ≤ 299_999_999_999 }
@@ -66,8 +78,8 @@ impl Clocks {
 
     /// Whether this instant is a whole minute.
     fn is_minute_at(&self, day: u32, hour: u8) -> bool
-        requires from { 330 ≤ day }
-        requires to { day ≤ 2_932_300 }
+        requires from { FIRST_DAY ≤ day }
+        requires to { day ≤ LAST_DAY }
         requires hour { hour < 24 }
         ensures { result ≡ is_minute_at self.now day hour }
     {
@@ -76,8 +88,8 @@ impl Clocks {
 
     /// The minute that this instant lies in.
     fn minute_at(&self, day: u32, hour: u8) -> Minute
-        requires from { 330 ≤ day }
-        requires to { day ≤ 2_932_300 }
+        requires from { FIRST_DAY ≤ day }
+        requires to { day ≤ LAST_DAY }
         requires hour { hour < 24 }
         ensures { result ≡ minute_at self.now day hour }
     {
@@ -86,8 +98,8 @@ impl Clocks {
 
     /// Whether an hour is a whole minute on each of `count` days.
     pub(crate) fn are_minutes(&self, hour: u8, first: u32, count: u32) -> bool
-        requires from { 330 ≤ first }
-        requires to { first + count ≤ 2_932_300 }
+        requires from { FIRST_DAY ≤ first }
+        requires to { first + count ≤ LAST_DAY }
         requires hour { hour < 24 }
         ensures { result ≡ are_minutes self.now hour first count }
     {
@@ -96,8 +108,8 @@ impl Clocks {
 
     /// Whether 00:00, 08:00, 22:00 and the next day's 00:00 follow one another.
     fn rises_on(&self, day: u32) -> bool
-        requires from { 330 ≤ day }
-        requires to { day < 2_932_300 }
+        requires from { FIRST_DAY ≤ day }
+        requires to { day < LAST_DAY }
         ensures { result ≡ rises_on self.now day }
     {
         let eight = self.minute_at(day, EIGHT);
@@ -109,8 +121,8 @@ impl Clocks {
 
     /// Whether they do so on each of `count` days.
     pub(crate) fn rise(&self, first: u32, count: u32) -> bool
-        requires from { 330 ≤ first }
-        requires to { first + count ≤ 2_932_300 }
+        requires from { FIRST_DAY ≤ first }
+        requires to { first + count ≤ LAST_DAY }
         ensures { result ≡ list_all (λ day. rises_on self.now day) (range_with_len first count) }
     {
         (first..first + count).all(|day| self.rises_on(day))
@@ -124,8 +136,8 @@ impl Clocks {
         first: u32,
         count: u32,
     ) -> Result<Vec<Minute>, AllocError>
-        requires from { 330 ≤ first }
-        requires to { first + count ≤ 2_932_300 }
+        requires from { FIRST_DAY ≤ first }
+        requires to { first + count ≤ LAST_DAY }
         requires hour { hour < 24 }
         ensures { IfOk result (λ instants.
             instants.items ≡ instants_at self.now hour first count) }
@@ -138,7 +150,7 @@ impl Clocks {
 
 /// What clocks show at an hour of a day.
 fn moment(day: u32, hour: u8) -> DateTime
-    requires to { day ≤ 2_932_300 }
+    requires to { day ≤ LAST_DAY }
     requires hour { hour < 24 }
     ensures date { epoch_day result.date ≡ pos day }
     ensures time { time_nanos result.time ≡ hour * 3_600_000_000_000 }

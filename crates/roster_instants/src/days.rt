@@ -3,11 +3,13 @@
 ghost use Rattle.std.specs.Prelude.{◌≡◌, ◌+◌, ◌<◌, ◌≤◌, ℕ, true, pos, Some, Ok, IfOk, IfErr, MatchOption, length, slice_get};
 ghost use Rattle.std.specs.List.Sorted.{IsNonDecreasing, IsPartitionPoint, IsStrictlyIncreasing};
 ghost use Rattle.jiff_core.specs.Date.{IsYmd, epoch_day};
-ghost use Rattle.roster_model.specs.Calendar.{IsTable, IsDayOf, day_number, days_of_month, days_of_window, first_day};
+ghost use Rattle.roster_model.specs.Calendar.{IsTable, IsDayOf, day_number, days_of_month, days_of_window, first_day, month_end, month_start};
 ghost use Rattle.roster_model.specs.Zone.{days_of_zone, has_minutes, rises, table_of};
 ghost use Rattle.roster_instants.specs.Refusals.{IsFaultOf};
 
-use crate::clocks::{Clocks, EIGHT, MIDNIGHT, TEN};
+use crate::clocks::{
+    Clocks, EARLIEST_MONTH, EIGHT, FIRST_DAY, LAST_DAY, LATEST_MONTH, MIDNIGHT, TEN,
+};
 use crate::minute::{Minute, number_of};
 use crate::period::Period;
 use jiff::civil::{self, Date};
@@ -130,14 +132,14 @@ impl BaseDays {
 
     /// The instant at which the month begins.
     pub fn month_start(&self) -> Minute
-        ensures { slice_get self.now.mid DAYS_BEFORE ≡ Some result }
+        ensures { result ≡ month_start self.now }
     {
         self.mid[DAYS_BEFORE]
     }
 
     /// The instant at which the month ends.
     pub fn month_end(&self) -> Minute
-        ensures value { slice_get self.now.mid (DAYS_BEFORE + self.now.month_days) ≡ Some result }
+        ensures value { result ≡ month_end self.now }
         ensures table { IsTable self.now }
     {
         self.mid[DAYS_BEFORE + self.month_days]
@@ -204,8 +206,8 @@ struct Window {
 fn window_of(period: Period) -> Window
     ensures first { result.first ≡ first_day period }
     ensures days { result.days ≡ days_of_window period }
-    ensures from { 330 ≤ result.first }
-    ensures to { result.first + result.days < 2_932_300 }
+    ensures from { FIRST_DAY ≤ result.first }
+    ensures to { result.first + result.days < LAST_DAY }
 {
     Window {
         first: first_day(period),
@@ -249,8 +251,8 @@ fn table(alloc: Global, clocks: &Clocks, period: Period) -> Result<BaseDays, All
 fn first_of_month(period: Period) -> Date
     ensures value { IsYmd (pos period.year) (pos period.month) (pos 1) result }
     ensures number { epoch_day result ≡ pos (day_number period.year period.month 1) }
-    ensures from { 365 ≤ day_number period.year period.month 1 }
-    ensures to { day_number period.year period.month 1 ≤ 2_932_167 }
+    ensures from { EARLIEST_MONTH ≤ day_number period.year period.month 1 }
+    ensures to { day_number period.year period.month 1 ≤ LATEST_MONTH }
 {
     civil::date(period.year(), period.month(), 1)
 }
@@ -267,8 +269,8 @@ fn days_of_month(period: Period) -> u32
 /// The number of the window's first day.
 fn first_day(period: Period) -> u32
     ensures value { result ≡ first_day period }
-    ensures from { 330 ≤ result }
-    ensures to { result ≤ 2_932_132 }
+    ensures from { FIRST_DAY ≤ result }
+    ensures to { result + DAYS_BEFORE ≤ LATEST_MONTH }
 {
     number_of(first_of_month(period)) - DAYS_BEFORE as u32
 }

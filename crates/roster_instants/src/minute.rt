@@ -8,7 +8,7 @@ ghost use Rattle.roster_model.specs.Calendar.{day_number, is_real_date, instant_
 
 use crate::text::{has_shape, is_in_range, number_at};
 use jiff::civil::Date;
-use roster_model::limits::LAST_INSTANT;
+use roster_model::limits::{FIRST_YEAR, LAST_INSTANT, LAST_YEAR};
 use std::marker::Model;
 
 /// An instant: whole minutes since 1970-01-01T00:00Z, from 0 to [`LAST_INSTANT`], which the type keeps.
@@ -85,8 +85,8 @@ pub(crate) fn number_of(date: Date) -> u32
 /// The day number of a date of the years 1970 to 9998, from 0 for 1970-01-01, if the calendar has
 /// the date.
 fn day_number(year: u16, month: u16, day: u16) -> Option<u32>
-    requires from { 1970 ≤ year }
-    requires to { year ≤ 9998 }
+    requires from { FIRST_YEAR ≤ year }
+    requires to { year ≤ LAST_YEAR }
     requires month_fits { month < 100 }
     requires day_fits { day < 100 }
     ensures { MatchOption result (is_real_date year month day ≡ false)
@@ -107,7 +107,7 @@ pub fn read_minute(text: &[u8]) -> Option<Minute>
     let year = number_at(text, 0, 4);
     let hour = number_at(text, 11, 13);
     let minute = number_at(text, 14, 16);
-    if !is_in_range(1970, 9998, year) || hour > 23 || minute > 59 {
+    if !is_in_range(FIRST_YEAR, LAST_YEAR, year) || hour > 23 || minute > 59 {
         return None;
     }
     let day = day_number(year, number_at(text, 5, 7), number_at(text, 8, 10))?;

@@ -4,6 +4,7 @@ ghost use Rattle.std.specs.Prelude.{◌≡◌, ◌≤◌, pos};
 ghost use Rattle.roster_model.specs.Calendar.{period_of};
 
 use crate::text::{has_shape, is_in_range, number_at};
+use roster_model::limits::{FIRST_MONTH_YEAR, LAST_MONTH_YEAR};
 use std::marker::Model;
 
 /// A month of a year, from 1971-01 to 9997-12, which the type keeps.
@@ -15,13 +16,14 @@ pub struct Period {
 
 impl Model for Period {
     ghost use Rattle.std.specs.Prelude.{◌≤ℤ◌, pos, unsigned_abs};
+    ghost use Rattle.roster_model.specs.declared.limits.TheConstants.{FIRST_MONTH_YEAR, LAST_MONTH_YEAR};
     ghost use Rattle.roster_model.specs.Calendar.{Period as Month};
 
     ghost Value = { Month };
 
     ghost view = { λ p. record { year = unsigned_abs p.year; month = unsigned_abs p.month } };
 
-    ghost invariant = { λ p. (pos 1971 ≤ℤ p.year) × (p.year ≤ℤ pos 9997) × (pos 1 ≤ℤ p.month)
+    ghost invariant = { λ p. (pos FIRST_MONTH_YEAR ≤ℤ p.year) × (p.year ≤ℤ pos LAST_MONTH_YEAR) × (pos 1 ≤ℤ p.month)
         × (p.month ≤ℤ pos 12) };
 
     ghost inverse = { λ m. record { year = pos m.year; month = pos m.month } };
@@ -37,7 +39,7 @@ impl Period {
         }
         let year = number_at(text, 0, 4);
         let month = number_at(text, 5, 7);
-        if !is_in_range(1971, 9997, year) || !is_in_range(1, 12, month) {
+        if !is_in_range(FIRST_MONTH_YEAR, LAST_MONTH_YEAR, year) || !is_in_range(1, 12, month) {
             return None;
         }
         Some(Period {
@@ -49,8 +51,8 @@ impl Period {
     /// The year, from 1971 to 9997.
     pub fn year(self) -> i16
         ensures value { result ≡ pos self.year }
-        ensures from { 1971 ≤ self.year }
-        ensures to { self.year ≤ 9997 }
+        ensures from { FIRST_MONTH_YEAR ≤ self.year }
+        ensures to { self.year ≤ LAST_MONTH_YEAR }
     {
         self.year
     }

@@ -1,9 +1,9 @@
 -- The rule that is broken first is one alone, that there is none or one can't be refuted, and what the
 -- limits say of a person with a set.
-use Rattle.std.proofs.Common.{◌≡◌, ℕ, zero, suc, ◌<◌, ◌⊎◌, List, Option, Some, None, refl, sym, ap, subst, inl, inr, arith}
+use Rattle.std.proofs.Common.{◌≡◌, ℕ, zero, suc, ◌<◌, ◌⊎◌, List, Option, Some, None, length, refl, sym, ap, subst, inl, inr, arith}
 use Rattle.std.specs.Prelude.{◌↔◌, IsTrue, Bool, option_map, unwrap_or}
 use Rattle.std.proofs.lemmas.Bool.{cases_lt, cases_order}
-use Rattle.roster_model.proofs.RuleLemmas.{HoldBelow, below-all, one_of_rank}
+use Rattle.roster_model.proofs.RuleLemmas.{HoldBelow, by_rank, below-all, one_of_rank}
 use Rattle.roster_model.specs.Calendar.{Days}
 use Rattle.roster_model.specs.Problem.{Problem, home_of, year_of, eleven_of}
 use Rattle.roster_model.specs.records.Crew.{Person}
@@ -56,7 +56,7 @@ judged problem k set (suc n) none =
 
 pub has_first_broken : (problem : Problem) (k : ℕ) (set : List ℕ) → ¬ ¬ ((broken : Option Rule) × IsFirstBroken problem k set broken)
 has_first_broken problem k set none =
-    judged problem k set 11 (λ all. elim all [
+    judged problem k set (length by_rank) (λ all. elim all [
       | inl held ↦ none (None, below-all (Holds problem k set) held)
       | inr found ↦ none (Some found.0, found.1)
     ])

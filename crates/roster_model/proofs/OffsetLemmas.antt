@@ -154,12 +154,12 @@ sizes (pos a) (negsuc b) most up down = omega (arith, signed_arith)
 sizes (negsuc a) (pos b) most up down = omega (arith, signed_arith)
 sizes (negsuc a) (negsuc b) most up down = omega (arith, signed_arith)
 
-in_minutes : (a b : ℕ) → a ≤ b + 2_865_600 → a / 60 ≤ b / 60 + 47_760
+in_minutes : (a b : ℕ) → a ≤ b + 60 * MOST_MONTH_MINUTES → a / 60 ≤ b / 60 + MOST_MONTH_MINUTES
 in_minutes a b h = omega arith
 
-moments : (day n : ℕ) (a b : ℤ) → n ≤ 31 → IsBelow 93_600 a → IsBelow 93_600 b → unsigned_abs (moment (day + n) 0 -ℤ b) ≤ unsigned_abs (moment day 0 -ℤ a) + 2_865_600
+moments : (day n : ℕ) (a b : ℤ) → n ≤ 31 → IsBelow 93_600 a → IsBelow 93_600 b → unsigned_abs (moment (day + n) 0 -ℤ b) ≤ unsigned_abs (moment day 0 -ℤ a) + 60 * MOST_MONTH_MINUTES
 moments day n a b few first second =
-    sizes (moment (day + n) 0 -ℤ b) (moment day 0 -ℤ a) 2_865_600
+    sizes (moment (day + n) 0 -ℤ b) (moment day 0 -ℤ a) (60 * MOST_MONTH_MINUTES)
     (omega (arith, signed_arith, first.behind, first.ahead, second.behind, second.ahead))
     (omega (arith, signed_arith, first.behind, first.ahead, second.behind, second.ahead))
 

@@ -32,9 +32,6 @@ one_of_rank a b same = same_Some a b (sym (at_rank a) ∙ ap (slice_get by_rank)
 abbrev pub HoldBelow : (Rule → Type 0) → ℕ → Type 0
 HoldBelow Says n = (rule : Rule) → rank_of rule < n → Says rule
 
-pub below-none : (Says : Rule → Type 0) → HoldBelow Says 0
-below-none Says rule before = absurd (omega arith)
-
 pub below-more : (Says : Rule → Type 0) (a : Rule) → HoldBelow Says (rank_of a) → Says a → HoldBelow Says (suc (rank_of a))
 below-more Says a below here rule before =
     elim (cases_eq (rank_of rule) (rank_of a)) [
@@ -42,7 +39,7 @@ below-more Says a below here rule before =
       | inr other ↦ below rule (omega arith)
     ]
 
-pub below-all : (Says : Rule → Type 0) → HoldBelow Says 11 → (rule : Rule) → Says rule
+pub below-all : (Says : Rule → Type 0) → HoldBelow Says (length by_rank) → (rule : Rule) → Says rule
 below-all Says below rule = below rule (slice_get_within by_rank (rank_of rule) rule (at_rank rule))
 
 -- ---- the rules in their order, by other names
@@ -56,7 +53,7 @@ rank_at rule_of names i d all inside =
     let long : length by_rank ≡ length names = ap length (sym all) ∙ length-map names rule_of in
     let name : rule_of (get_or names i d) ≡ get_or by_rank i (rule_of d) =
     sym (get_or-map rule_of names i d (rule_of d) inside) ∙ ap (λ rules. get_or rules i (rule_of d)) all in
-    ap rank_of name ∙ sym (get_or-map rank_of by_rank i (rule_of d) 0 (omega arith)) ∙ get_or-range_with_len 0 11 i 0 (omega arith) ∙ omega arith
+    ap rank_of name ∙ sym (get_or-map rank_of by_rank i (rule_of d) 0 (omega arith)) ∙ get_or-range_with_len 0 (length by_rank) i 0 (omega arith) ∙ omega arith
 
 -- what the next one says is so too,
 pub below-next : {X : Type 0} (Says : Rule → Type 0) (rule_of : X → Rule) (names : List X) (i : ℕ) (d : X) → AreByRank rule_of names → i < length names → HoldBelow Says i → Says (rule_of (get_or names i d)) → HoldBelow Says (i + 1)

@@ -3,7 +3,7 @@
 use Rattle.std.specs.Prelude.{ℕ, ◌+◌, ◌-◌, ◌*◌, ◌≡◌, ◌<◌, ◌≤◌, Bool, ◌&&◌, if◌then◌else◌, List, length, slice_get, slice_index, Option, Some, None, pos, unsigned_abs, min, max, nat_le, codes}
 use Rattle.std.specs.Int.{is_in_range}
 use Rattle.jiff_core.specs.Calendar.{days_in_month, days_from_civil}
-use Rattle.roster_model.specs.declared.limits.TheConstants.{DAYS_BEFORE, DAYS_AFTER, MOST_MONTH_MINUTES}
+use Rattle.roster_model.specs.declared.limits.TheConstants.{FIRST_YEAR, LAST_YEAR, FIRST_MONTH_YEAR, LAST_MONTH_YEAR, DAYS_BEFORE, DAYS_AFTER, MOST_MONTH_MINUTES}
 use Rattle.roster_model.specs.Form.{has_shape, number_at}
 
 -- days since 1 January 1970, for a date not before it
@@ -18,7 +18,7 @@ is_real_date year month day =
 -- `YYYY-MM-DDTHH:MMZ`: a real date of the years 1970 to 9998, from 00:00 to 23:59
 unfoldable pub is_instant : List ℕ → Bool
 is_instant text =
-    has_shape (codes "0000-00-00T00:00Z") text && is_in_range 1970 9998 (number_at text 0 4)
+    has_shape (codes "0000-00-00T00:00Z") text && is_in_range FIRST_YEAR LAST_YEAR (number_at text 0 4)
     && is_real_date (number_at text 0 4) (number_at text 5 7) (number_at text 8 10)
     && nat_le (number_at text 11 13) 23
     && nat_le (number_at text 14 16) 59
@@ -40,7 +40,7 @@ pub record Period : Type 0 where
 -- `YYYY-MM`: a month of the years 1971 to 9997
 unfoldable pub period_of : List ℕ → Option Period
 period_of text =
-    if has_shape (codes "0000-00") text && is_in_range 1971 9997 (number_at text 0 4)
+    if has_shape (codes "0000-00") text && is_in_range FIRST_MONTH_YEAR LAST_MONTH_YEAR (number_at text 0 4)
     && is_in_range 1 12 (number_at text 5 7)
     then Some (record { year = number_at text 0 4; month = number_at text 5 7 }) else None
 

@@ -58,6 +58,18 @@ pub const MOST_UNITS: u32 = 1_000_000_000;
 /// What it costs that a person's flight misses the target by a minute, at most.
 pub const MOST_WEIGHT: u32 = 1_000_000_000;
 
+/// The first year of an instant.
+pub const FIRST_YEAR: u16 = 1970;
+
+/// The last year of an instant.
+pub const LAST_YEAR: u16 = 9998;
+
+/// The first year of a month: its window begins in the year before, at the earliest.
+pub const FIRST_MONTH_YEAR: u16 = FIRST_YEAR + 1;
+
+/// The last year of a month: its window ends in the year after, at the latest.
+pub const LAST_MONTH_YEAR: u16 = LAST_YEAR - 1;
+
 /// The last instant of all, in minutes since 1970-01-01T00:00Z: none of the years that are read comes
 /// near it.
 pub const LAST_INSTANT: u64 = 5_000_000_000;

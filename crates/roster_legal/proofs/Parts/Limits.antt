@@ -4,7 +4,7 @@ use Rattle.std.specs.Prelude.{filter}
 use Rattle.std.proofs.lemmas.List.Filters.{sum_by-filter_both}
 use Rattle.roster_model.proofs.LimitLemmas.{KeepsLimit-lighter, in_month-lighter}
 use Rattle.roster_model.specs.Calendar.{Days}
-use Rattle.roster_model.specs.declared.profile.TheConstants.{MOST_DUTY_IN_7_DAYS, MOST_DUTY_IN_14_DAYS, MOST_DUTY_IN_28_DAYS, MOST_FLIGHT_IN_28_DAYS}
+use Rattle.roster_model.specs.declared.profile.TheConstants.{SHORT_RUN, MIDDLE_RUN, LONG_RUN, MOST_DUTY_IN_7_DAYS, MOST_DUTY_IN_14_DAYS, MOST_DUTY_IN_28_DAYS, MOST_FLIGHT_IN_28_DAYS}
 use Rattle.roster_model.specs.records.Duty.{Duty}
 use Rattle.roster_model.specs.Rules.{Rule, BaseRule, OverlapRule, LeaveRule, RestRule, RecoveryRule, Duty7Rule, Duty14Rule, Duty28Rule, Flight28Rule, FlightYearRule, Flight12Rule, HoldsLimit}
 use Rattle.roster_model.specs.Rules.Limits.{KeepsLimit}
@@ -32,13 +32,13 @@ HoldsLimit-filter days test list year eleven LeaveRule holds = tt
 HoldsLimit-filter days test list year eleven RestRule holds = tt
 HoldsLimit-filter days test list year eleven RecoveryRule holds = tt
 HoldsLimit-filter days test list year eleven Duty7Rule holds =
-    KeepsLimit-filter duty_between days test list 7 MOST_DUTY_IN_7_DAYS holds
+    KeepsLimit-filter duty_between days test list SHORT_RUN MOST_DUTY_IN_7_DAYS holds
 HoldsLimit-filter days test list year eleven Duty14Rule holds =
-    KeepsLimit-filter duty_between days test list 14 MOST_DUTY_IN_14_DAYS holds
+    KeepsLimit-filter duty_between days test list MIDDLE_RUN MOST_DUTY_IN_14_DAYS holds
 HoldsLimit-filter days test list year eleven Duty28Rule holds =
-    KeepsLimit-filter duty_between days test list 28 MOST_DUTY_IN_28_DAYS holds
+    KeepsLimit-filter duty_between days test list LONG_RUN MOST_DUTY_IN_28_DAYS holds
 HoldsLimit-filter days test list year eleven Flight28Rule holds =
-    KeepsLimit-filter flight_between days test list 28 MOST_FLIGHT_IN_28_DAYS holds
+    KeepsLimit-filter flight_between days test list LONG_RUN MOST_FLIGHT_IN_28_DAYS holds
 HoldsLimit-filter days test list year eleven FlightYearRule holds =
     let fewer = month_flight-filter days test list in omega (arith, fewer, holds)
 HoldsLimit-filter days test list year eleven Flight12Rule holds =

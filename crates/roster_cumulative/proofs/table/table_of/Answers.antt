@@ -3,14 +3,15 @@ use Rattle.std.specs.List.{sum_by}
 use Rattle.std.proofs.lemmas.List.Sums.{sum_by_more}
 use Rattle.std.proofs.lemmas.Option.{get_or_from_slice_get, slice_get_within}
 use Rattle.roster_model.specs.records.Duty.{Duty}
+use Rattle.roster_model.specs.declared.limits.TheConstants.{MOST_DAYS}
 use Rattle.roster_cumulative.specs.Table.{minutes_of}
 use Rattle.roster_cumulative.proofs.OnDay.{zeros}
 use Rattle.roster_cumulative.proofs.table.table_of.Goals as goal
 
 pub loop-k-init : goal.loop-k-init
 loop-k-init c = record {
-  value = λ i. zeros 80 i;
-  bound = λ i. omega (arith, zeros 80 i);
+  value = λ i. zeros MOST_DAYS i;
+  bound = λ i. omega (arith, zeros MOST_DAYS i);
 }
 
 pub loop-k-preserved : goal.loop-k-preserved

@@ -2,6 +2,7 @@ use Rattle.std.proofs.Common.{arith, ◌∙◌, ◌≡◌, sym, ap, Some, codes,
 use Rattle.std.specs.Int.{is_in_range}
 use Rattle.roster_instants.proofs.TextLemmas.{digits_at}
 use Rattle.roster_instants.proofs.CalendarLemmas.{instant-unshaped, instant-no_year, instant-no_date, instant-no_hour, instant-no_minute, instant-read}
+use Rattle.roster_model.specs.declared.limits.TheConstants.{FIRST_YEAR, LAST_YEAR}
 use Rattle.roster_instants.proofs.minute.read_minute.Goals as goal
 use Rattle.roster_instants.proofs.minute.read_minute.Goals.{then-not-is_in_range-via-then-not-is_in_range, then-not-is_in_range-via-else-not-is_in_range+then-hour-gt23, then-not-is_in_range-via-else-not-is_in_range+else-hour-gt23+then-minute-gt59}
 
@@ -16,7 +17,7 @@ pub returns-then-not-is_in_range : goal.returns-then-not-is_in_range
 returns-then-not-is_in_range c =
     elim c.then-not-is_in_range.branch [
       | then-not-is_in_range-via-then-not-is_in_range w ↦
-          instant-no_year c.args.text.now (ap (λ n. is_in_range 1970 9998 n) (sym c.number_at-year.ensures.value) ∙ sym c.is_in_range.ensures ∙ w.if-not-is_in_range.true)
+          instant-no_year c.args.text.now (ap (λ n. is_in_range FIRST_YEAR LAST_YEAR n) (sym c.number_at-year.ensures.value) ∙ sym c.is_in_range.ensures ∙ w.if-not-is_in_range.true)
       | then-not-is_in_range-via-else-not-is_in_range+then-hour-gt23 w ↦
           instant-no_hour c.args.text.now (rw (← c.number_at-hour.ensures.value) w.if-hour-gt23.true)
       | then-not-is_in_range-via-else-not-is_in_range+else-hour-gt23+then-minute-gt59 w ↦

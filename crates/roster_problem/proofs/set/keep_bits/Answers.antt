@@ -1,5 +1,4 @@
-use Rattle.std.proofs.Common.{◌≡◌, ℕ, ◌+◌, ◌/◌, ◌^◌, ◌<◌, ◌≤◌, List, length, get_or, set, bit_and, refl, sym, ap, ap₂, ◌∙◌, subst, inl, inr, arith}
-use Rattle.std.specs.Prelude.{All}
+use Rattle.std.proofs.Common.{◌≡◌, ℕ, ◌/◌, ◌^◌, ◌<◌, List, length, get_or, set, bit_and, refl, sym, ap, ap₂, ◌∙◌, subst, inl, inr, arith}
 use Rattle.std.proofs.lemmas.Bool.{cases_eq, cases_lt}
 use Rattle.std.proofs.lemmas.List.{get_or-set_same, get_or-set_other, length-set, get_or_past}
 use Rattle.std.proofs.lemmas.List.Elements.{All-set}
@@ -22,7 +21,7 @@ loop-i-preserved c =
     let words : List ℕ = c.loop-i.words in
     let others : List ℕ = c.args.others.now in
     let both : ℕ = bit_and (get_or words i 0) (get_or others i 0) in
-    let long : length words ≡ 4 = c.loop-i.invariant.long in
+    let long : length words ≡ SET_WORDS = c.loop-i.invariant.long in
     let inside : i < length words = omega arith in
     record {
       long = length-set words i both ∙ long;
@@ -43,8 +42,8 @@ pub returns-clause-bits : goal.returns-clause-bits
 returns-clause-bits c p =
     let words : List ℕ = c.args.words.now in
     let others : List ℕ = c.args.others.now in
-    let long : length c.loop-i.words ≡ 4 = c.loop-i.invariant.long in
-    bit_of_both words others c.loop-i.words p (elim (cases_lt (p / 64) 4) [
+    let long : length c.loop-i.words ≡ SET_WORDS = c.loop-i.invariant.long in
+    bit_of_both words others c.loop-i.words p (elim (cases_lt (p / 64) SET_WORDS) [
       | inl inside ↦ c.loop-i.invariant.done (p / 64) (omega arith)
       | inr past ↦
           get_or_past c.loop-i.words (p / 64) 0 (omega arith)

@@ -1,7 +1,6 @@
 use Rattle.std.proofs.Common.{◌≡◌, ◌+◌, ◌-◌, subst, sym, refl, inl, inr, arith}
 use Rattle.std.proofs.lemmas.Bool.{cases_eq}
-use Rattle.std.proofs.lemmas.Option.{get_or_from_slice_get, slice_get_within}
-use Rattle.roster_model.specs.declared.limits.TheConstants.{DAYS_BEFORE}
+use Rattle.std.proofs.lemmas.Option.{slice_get_within}
 use Rattle.roster_restrules.proofs.Blocks.{EndsInTime, ends_in_block}
 use Rattle.roster_restrules.specs.Block.{IsBlock}
 use Rattle.roster_restrules.proofs.recovery.recovery_ok.Goals as goal
@@ -13,9 +12,8 @@ loop-i-preserved c =
     let i = c.loop-i.i in
     let block = c.first_of_block-first.ensures in
     let next : i ≡ i + 1 - 1 = omega arith in
-    let start = get_or_from_slice_get days.mid DAYS_BEFORE _ 0 c.month_start-month_start.ensures in
     let here = ends_in_block days list c.first_of_block-first.result i _ _ c.requires block c.duty.ensures c.duty-in-loop-i.ensures
-    (λ late. c.ends_in_time.ensures.0 c.if-not-ends_in_time.false (omega (arith, start, late))) in
+    (λ late. c.ends_in_time.ensures.0 c.if-not-ends_in_time.false (omega (arith, c.month_start-month_start.ensures, late))) in
     record {
       block = subst (IsBlock days list c.first_of_block-first.result) next block;
       kept = λ j below.

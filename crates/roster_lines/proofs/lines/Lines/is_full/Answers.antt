@@ -1,5 +1,6 @@
 use Rattle.std.proofs.Common.{◌≡◌, length, eq-eqb, sym, ap, ◌∙◌, arith}
 use Rattle.std.proofs.lemmas.Bool.{eqb-true}
+use Rattle.roster_model.specs.declared.limits.TheConstants.{MOST_LINES}
 use Rattle.roster_lines.proofs.TreeLemmas.{length-entries_in}
 use Rattle.roster_lines.proofs.lines.Lines.is_full.Goals as goal
 
@@ -9,6 +10,6 @@ returns c =
     let items = c.self.inside.lines.ok.0 in
     let few = c.self.invariant.few in
     let count = c.len.ensures in (
-      λ h. let full : c.len.result ≡ 60000 = eqb-true c.len.result 60000 h in omega arith,
-      λ full. eq-eqb c.len.result 60000 (omega arith),
+      λ h. let full : c.len.result ≡ MOST_LINES = eqb-true c.len.result MOST_LINES h in omega arith,
+      λ full. eq-eqb c.len.result MOST_LINES (omega arith),
     )
