@@ -2,8 +2,6 @@
 use Rattle.std.specs.Prelude.{◌≡◌, ℕ, Option, Some, None}
 use Rattle.roster_book.specs.declared.code.Code.{Code}
 use Rattle.roster_book.specs.declared.code.Code.TheVariants as codes
-use Rattle.roster_book.specs.declared.command.Command.{Command}
-use Rattle.roster_book.specs.declared.command.Command.TheVariants as commands
 use Rattle.roster_book.specs.declared.fault.BookFault.{BookFault}
 use Rattle.roster_book.specs.declared.fault.BookFault.TheVariants as faults
 use Rattle.roster_book.specs.declared.kind.Kind.{Kind}
@@ -41,10 +39,6 @@ kind_of kinds.Sector = record_model.SectorRecord
 kind_of kinds.Leave = record_model.LeaveRecord
 kind_of kinds.Cost = record_model.CostRecord
 kind_of kinds.Assign = record_model.AssignRecord
-
-abbrev pub command_of : Command → record_model.Command
-command_of commands.Solve = record_model.Solve
-command_of commands.Check = record_model.Check
 
 -- A record whose code is this, or that has none, is refused: for that code, or for want of memory
 -- where it has none.

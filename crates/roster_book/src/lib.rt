@@ -4,7 +4,6 @@
 //! book with the roster that its assignments give, or that fault. Values are those of
 //! `roster_problem`, given again here. In reading order:
 //!
-//! - `command`: what the program is asked to do
 //! - `code`: what may be wrong with a record
 //! - `refusal`: why a record isn't taken
 //! - `forms`: the forms of a record's fields
@@ -20,7 +19,6 @@
 
 mod book;
 mod code;
-mod command;
 mod draft;
 mod duties;
 mod fault;
@@ -33,11 +31,10 @@ mod refusal;
 
 pub use book::Book;
 pub use code::Code;
-pub use command::Command;
 pub use fault::BookFault;
 pub use reading::read_book;
 pub use roster_problem::{
-    Base, Cost, Costs, Duty, DutyList, Holder, Leave, Name, Pairing, Person, Places, Problem,
-    Roster, Rule, Sector, Set, duties_in_order,
+    Base, Command, Cost, Costs, Duty, DutyList, Holder, Leave, Name, Pairing, Person, Places,
+    Problem, Roster, Rule, Sector, Set, duties_in_order,
 };
 pub use roster_watched::Watched;

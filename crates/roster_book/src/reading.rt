@@ -3,17 +3,17 @@
 ghost use Rattle.std.specs.Prelude.{◌≡◌, ◌≢◌, ◌↔◌, [], ◌∷◌, true, false, IfSome, IfOk, IfErr, IsErrOf, MatchResult};
 ghost use Rattle.csv.specs.Records.{fields_of};
 ghost use Rattle.roster_book.specs.Reading.{AreSeen, IsBookOf, IsOpen, OfKnown, OfTold, TellsFirst, records_left};
-ghost use Rattle.roster_book.specs.View.{command_of};
+ghost use Rattle.roster_problem.specs.View.{command_of};
 ghost use Rattle.roster_watched.specs.Watch.{inner_of, has_failed};
 
 use crate::book::Book;
 use crate::code::Code;
-use crate::command::Command;
 use crate::draft::Draft;
 use crate::fault::BookFault;
 use crate::refusal::Refusal;
 use csv::{ByteRecord, Reader, ReaderBuilder};
 use roster_model::limits::MOST_RECORDS;
+use roster_problem::Command;
 use roster_watched::Watched;
 use std::alloc::{AllocError, Global};
 use std::io::Read;

@@ -4,8 +4,8 @@ use Rattle.clap.specs.Words.{App, Kinds, IsAmong, kind_of, new_app, subcommand_o
 use Rattle.clap.specs.declared.error.kind.ErrorKind.TheVariants.{OutOfMemory}
 use Rattle.roster_commandline.specs.declared.line.LineFault.{LineFault}
 use Rattle.roster_commandline.specs.declared.line.LineFault.TheVariants as faults
-use Rattle.roster_book.specs.declared.command.Command.{Command}
-use Rattle.roster_book.specs.declared.command.Command.TheVariants as commands
+use Rattle.roster_problem.specs.declared.command.Command.{Command}
+use Rattle.roster_problem.specs.declared.command.Command.TheVariants as commands
 
 -- `roster` with its subcommands, of which one has to be given
 abbrev pub bare_app : App

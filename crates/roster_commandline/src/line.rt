@@ -3,11 +3,11 @@
 ghost use Rattle.std.specs.Prelude.{◌≡◌, ◌≢◌, true, false, IfOk, IfErr, Some, map, []};
 ghost use Rattle.clap.specs.Words.{app_of, takes, fault_of, kind_of, HasKind, Kinds};
 ghost use Rattle.roster_commandline.specs.Line.{roster_app, command_name, spelling, NamesMemory, TellsKind};
-ghost use Rattle.roster_book.specs.declared.command.Command.{Command as Asked};
-ghost use Rattle.clap.specs.declared.builder.command.Command.TheViews.{out-Command as fields_of};
+ghost use Rattle.roster_problem.specs.declared.command.Command as asked;
+ghost use Rattle.clap.specs.declared.builder.command.Command.TheViews as views;
 
 use clap::error::ErrorKind;
-use roster_book::Command;
+use roster_problem::Command;
 use std::alloc::{AllocError, Global};
 use std::convert::AsStr;
 use thiserror::Error;
@@ -37,7 +37,7 @@ impl From<AllocError> for LineFault {
 /// The program's command line.
 fn roster<'a>(alloc: Global) -> Result<clap::Command<'a>, AllocError>
     ensures app { IfOk result (λ c. app_of c ≡ roster_app) }
-    ensures local { IfOk result (λ c. (fields_of c).has_globals ≡ false) }
+    ensures local { IfOk result (λ c. (views.out-Command c).has_globals ≡ false) }
 {
     let solve = clap::Command::new(alloc, "solve").about(
         "Writes the best roster of the book on standard input",
@@ -64,7 +64,7 @@ pub fn read_line<'a, S: AsStr>(alloc: Global, words: &'a [S]) -> Result<(Command
     ensures kind { fault_of roster_app (map S.text words.entry.now) ≢ []
         → IfErr result (TellsKind (fault_of roster_app (map S.text words.entry.now))) }
     // Where clap takes the words and they name a command, only want of memory can come.
-    ensures taken { (command : Asked) → takes roster_app (map S.text words.entry.now) ≡ true
+    ensures taken { (command : asked.Command) → takes roster_app (map S.text words.entry.now) ≡ true
         → command_name (map S.text words.entry.now) ≡ Some (spelling command)
         → IfErr result (λ e. e ≡ LineFault.Memory) }
 {

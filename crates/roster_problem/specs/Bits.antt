@@ -11,7 +11,7 @@ use Rattle.std.proofs.lemmas.Slice.Eq.{bytes_eq-Decides}
 use Rattle.std.proofs.lemmas.List.{ext_get_or}
 use Rattle.std.proofs.lemmas.List.Elements.{All-nil, All-append, All-weaker, All-push}
 use Rattle.std.proofs.lemmas.Nat.{div-mul-add, mod-mul-add}
-use Rattle.std.proofs.lemmas.Nat.Bits.{bit_at-lt, bit_at_above, bit_at_cat_low, bit_at_cat_high, bit_at-zero, same_from_bits_below}
+use Rattle.std.proofs.lemmas.Nat.Bits.{bit_at-lt, bit_at_cat_low, bit_at_cat_high, same_from_bits_below}
 use Rattle.roster_model.specs.declared.limits.TheConstants.{MOST_PAIRINGS}
 use Rattle.roster_model.specs.Rules.{is_among}
 use Rattle.roster_model.proofs.SetLemmas.{Ascends, Ascends-push, is_among-append, same_set}
@@ -88,10 +88,6 @@ places_in_set words set up within bits =
     ∙ bits p)
 
 -- ---- the words of a set
-
-bit_of : (b : Bool) (i : ℕ) → 0 < i → bit_at (cond b 1 0) i ≡ 0
-bit_of true i some = bit_at_above 1 1 i (omega arith) some
-bit_of false i some = bit_at-zero i
 
 bit_first : (b : Bool) → bit_at (cond b 1 0) 0 ≡ cond b 1 0
 bit_first true = refl

@@ -3,7 +3,7 @@
 ghost use Rattle.std.specs.Prelude.{◌≡◌, ◌<◌, ◌≤◌, ◌↔◌, ◌==◌, ℕ, Bool, false, [], Some, All, IsTrue, filter, length, slice_get};
 ghost use Rattle.std.specs.List.Sorted.{IsStrictlyIncreasing};
 ghost use Rattle.roster_model.specs.Rules.{is_among};
-ghost use Rattle.roster_model.specs.records.Duty.{Duty as Entry};
+ghost use Rattle.roster_model.specs.records.Duty as model;
 ghost use Rattle.roster_problem.specs.Duties.{passes_at, picked};
 
 use crate::duty::Duty;
@@ -40,7 +40,7 @@ impl<'a> DutyList<'a> {
         ensures value { result ≡ picked duties.now positions.items }
 
         // Ascending positions of just the duties that pass a test: they are what a filter keeps.
-        ensures filtered { (test : Entry → Bool) → IsStrictlyIncreasing positions.items
+        ensures filtered { (test : model.Duty → Bool) → IsStrictlyIncreasing positions.items
             → ((i : ℕ) → is_among positions.items i ≡ passes_at test duties.now i)
             → result ≡ filter test duties.now }
     {

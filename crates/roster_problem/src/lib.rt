@@ -15,9 +15,11 @@
 //! - `duty_list`: the duties of one person
 //! - `rule`: the rules by name
 //! - `roster`: who flies what
+//! - `command`: what is asked of a problem
 #![tactic(auto)]
 
 mod base;
+mod command;
 mod cost;
 mod costs;
 mod duty;
@@ -35,6 +37,7 @@ mod sector;
 mod set;
 
 pub use base::Base;
+pub use command::Command;
 pub use cost::Cost;
 pub use costs::Costs;
 pub use duty::{Duty, Holder};

@@ -1,19 +1,15 @@
 -- What is answered to a book, where it was answered to its problem.
-use Rattle.std.proofs.Common.{◌≡◌, ℕ, List, Option, Some, None, refl, ap, subst, inl, inr}
-use Rattle.std.specs.Prelude.{IsErrOf, OnOk, Result, Ok, Err, slice_get}
+use Rattle.std.proofs.Common.{◌≡◌, ℕ, List, Option, Some, None, refl, subst, inl, inr}
+use Rattle.std.specs.Prelude.{IsErrOf, OnOk, Result, Ok, Err}
 use Rattle.roster_book.specs.Reading.{IsBookOf, OfTold}
 use Rattle.roster_book.specs.declared.book.Book.{Book}
 use Rattle.roster_model.specs.Answer.{IsAnswer, IsProblemFault, IsRefusal, IsReport, Reports, records_of}
-use Rattle.roster_model.specs.Code.{TooManyLines, number_of_code}
-use Rattle.roster_model.specs.Faults.{Fault, first_fault}
-use Rattle.roster_model.specs.Lines.{IsFirstCrowded}
-use Rattle.roster_model.specs.Problem.{Problem}
-use Rattle.roster_model.specs.Record.{Command, Record, Solve}
+use Rattle.roster_model.specs.Faults.{Fault}
+use Rattle.roster_model.specs.Record.{Command, Record}
 use Rattle.roster_model.specs.records.Assign.{assigned_in}
-use Rattle.roster_model.specs.records.Crew.{Person}
 use Rattle.roster_report.specs.declared.fault.TextFault.{TextFault}
 use Rattle.roster_report.specs.declared.fault.TextFault.TheVariants as faults
-use Rattle.roster_run.specs.Run.{IsFaultLine, IsProblemAnswer, IsProblemRefusal, IsProblemReport, status_of}
+use Rattle.roster_run.specs.Run.{IsProblemAnswer, IsProblemRefusal, IsProblemReport, status_of}
 use Rattle.roster_run.specs.declared.status.Status.TheVariants as statuses
 use Rattle.roster_run.proofs.IsAnswer.{no_fault}
 
@@ -48,28 +44,6 @@ refusal_of_book command records book is text p = record {
 pub answer_of_book : (command : Command) (records : List Record) (book : Book) → IsBookOf command records book → (text : List ℕ) → IsProblemAnswer command book.problem book.assigned text → IsAnswer command records text
 answer_of_book command records book is text (inl p) = inl (refusal_of_book command records book is text p)
 answer_of_book command records book is text (inr p) = inr (report_of_book command records book is text p)
-
--- ---- the line of a fault
-
-pub refusal_of_record : (command : Command) (records : List Record) (row code : ℕ) → first_fault command records ≡ Some (record { row = row; code = code }) → (text : List ℕ) → IsFaultLine row code text → IsRefusal command records text
-refusal_of_record command records row code first text line = record {
-  fault = record { row = row; code = code };
-  first = inl first;
-  written = line;
-}
-
-pub refusal_of_crowd : (problem : Problem) (k : ℕ) (person : Person) (code : ℕ) → IsFirstCrowded problem k → slice_get problem.persons k ≡ Some person → code ≡ number_of_code TooManyLines → (text : List ℕ) → IsFaultLine person.row code text → IsProblemRefusal Solve problem text
-refusal_of_crowd problem k person code crowded there number text line = record {
-  fault = record { row = person.row; code = code };
-  told = record {
-    k = k;
-    person = person;
-    there = there;
-    crowded = crowded;
-    told = ap (λ (n : ℕ). let fault : Fault = record { row = person.row; code = n } in fault) number;
-  };
-  written = line;
-}
 
 -- ---- how a run ends that wrote a report
 

@@ -4,7 +4,7 @@ ghost use Rattle.std.specs.Prelude.{◌≡◌, ◌≢◌, ◌↔◌, ◌≤◌, 
 ghost use Rattle.roster_model.specs.Answer.{IsAnswer, IsRefusal, IsReport};
 ghost use Rattle.roster_model.specs.Record.{Solve};
 ghost use Rattle.roster_book.specs.Reading.{OfTold};
-ghost use Rattle.roster_book.specs.View.{command_of};
+ghost use Rattle.roster_problem.specs.View.{command_of};
 ghost use Rattle.roster_watched.specs.Watch.{inner_of, has_failed, is_flushed};
 ghost use Rattle.roster_report.specs.Writing.{Writes, WritesPart};
 ghost use Rattle.roster_run.specs.Run.{IsFaultLine, IsProblemAnswer, IsProblemRefusal, IsProblemReport, status_of};

@@ -1,8 +1,8 @@
 use Rattle.std.proofs.Common.{◌≡◌, true, refl, ap, map, ◌∙◌, sym, subst, codes, ◌∷◌, [], Some}
 use Rattle.clap.specs.Words.{takes, fault_of, is_simple_and_free, HasKind}
 use Rattle.clap.proofs.OnLiterals.{clap_on_literals}
-use Rattle.roster_book.specs.declared.command.Command.{Command}
-use Rattle.roster_book.specs.declared.command.Command.TheVariants as commands
+use Rattle.roster_problem.specs.declared.command.Command.{Command}
+use Rattle.roster_problem.specs.declared.command.Command.TheVariants as commands
 use Rattle.roster_commandline.specs.Line.{roster_app, command_name, spelling}
 use Rattle.clap.specs.declared.error.kind.ErrorKind.TheVariants.{MissingSubcommand, DisplayHelp}
 use Rattle.roster_commandline.proofs.line.read_line.Given as given

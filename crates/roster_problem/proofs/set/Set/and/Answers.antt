@@ -1,6 +1,5 @@
-use Rattle.std.proofs.Common.{◌≡◌, ◌&&◌, true, sym, ap₂, ◌∙◌}
+use Rattle.std.proofs.Common.{◌&&◌, sym, ap₂, ◌∙◌}
 use Rattle.std.proofs.lemmas.Bool.{and_parts}
-use Rattle.roster_model.specs.Rules.{is_among}
 use Rattle.roster_problem.specs.Set.{has_bit, IsSet}
 use Rattle.roster_problem.specs.Bits.{is_among-places_in}
 use Rattle.roster_problem.proofs.set.Set.and.Goals.{After-keep_bits}
