@@ -1,4 +1,3 @@
-pub mod Amounts
 pub mod Fields
 pub mod FormFacts
 pub mod Gather

@@ -5,11 +5,12 @@ use Rattle.roster_model.specs.Calendar.{period_of}
 use Rattle.roster_model.specs.Record.{Record, Command, Solve, Check, PeriodRecord, is_of, field}
 use Rattle.roster_model.specs.Code.{Code, NoPeriod, FieldCount, FieldForm, GivenTwice, first_unmet}
 use Rattle.roster_model.specs.Faults.{IsFaultlessSoFar, code_of, code_of_kind, kind_in}
+use Rattle.roster_model.specs.records.Period.{own_conditions}
 use Rattle.roster_book.proofs.Sound.{has_period}
 
--- what a period has to meet by itself
+-- what is wrong with a period by itself
 abbrev pub own_code : Record → Option Code
-own_code fields = first_unmet ((FieldCount, length fields == 2) ∷ (FieldForm, is_some (period_of (field fields 1))) ∷ [])
+own_code fields = first_unmet (own_conditions fields)
 
 -- a period may be in a book for each command
 kind_of_period : (command : Command) (fields : Record) → is_of PeriodRecord fields ≡ true → kind_in command fields ≡ Some PeriodRecord

@@ -1,7 +1,7 @@
 -- What is kept of the records taken so far.
 use Rattle.std.specs.Prelude.{◌≡◌, ◌<◌, ◌+◌, ℕ, List, [], ◌∷◌, ◌++◌, length, Option, Some, None, Result, Ok, Err, IsOk, IsErr, option_map, unwrap_or, slice_get}
 use Rattle.roster_model.specs.Record.{Record, Command, next_row}
-use Rattle.roster_model.specs.Code.{Code, ZoneRefused}
+use Rattle.roster_model.specs.Code as model
 use Rattle.roster_model.specs.Calendar.{Days}
 use Rattle.roster_model.specs.Zone.{ZoneRefusal}
 use Rattle.roster_model.specs.Problem.{Problem, tables_in}
@@ -9,11 +9,12 @@ use Rattle.roster_model.specs.Faults.{IsFaultlessSoFar, code_of}
 use Rattle.roster_model.specs.records.Base.{Base, base_at}
 use Rattle.roster_model.specs.records.Assign.{Assign, assigns_in}
 use Rattle.roster_problem.specs.View.{tables_of}
-use Rattle.roster_book.specs.declared.code.Code.{Code as CodeTold}
+use Rattle.roster_book.specs.declared.code.Code.{Code}
 use Rattle.roster_book.specs.declared.draft.Draft.{Draft}
 use Rattle.roster_book.specs.declared.refusal.Refusal.{Refusal}
 use Rattle.roster_book.specs.declared.refusal.Refusal.TheVariants as refusals
-use Rattle.roster_book.specs.View.{code_of as view_of_code, Refuses}
+use Rattle.roster_book.specs.View as view
+use Rattle.roster_book.specs.View.{Refuses}
 
 -- the tables, without where they lie in memory
 abbrev pub tables_of_draft : Draft → Problem
@@ -48,17 +49,17 @@ base_of_pairing tables p =
 
 -- A record that has to meet these conditions meets them all and makes this entry, or it has the code
 -- of the first that it doesn't meet.
-abbrev pub Judges : {X : Type 0} → Option Code → X → Result X CodeTold → Type 0
+abbrev pub Judges : {X : Type 0} → Option model.Code → X → Result X Code → Type 0
 Judges told entry (Ok x) = (told ≡ None) × (x ≡ entry)
-Judges told entry (Err code) = told ≡ Some (view_of_code code)
+Judges told entry (Err code) = told ≡ Some (view.code_of code)
 
 -- the same where memory may run out in a record without a fault
-abbrev pub Reads : {X : Type 0} → Option Code → X → Result X Refusal → Type 0
+abbrev pub Reads : {X : Type 0} → Option model.Code → X → Result X Refusal → Type 0
 Reads told entry (Ok x) = (told ≡ None) × (x ≡ entry)
 Reads told entry (Err e) = Refuses e told
 
 -- The entry stands behind the others, or the record is refused.
-abbrev pub Pushes : {X : Type 0} → Option Code → X → List X → List X → Result (Unit {0}) Refusal → Type 0
+abbrev pub Pushes : {X : Type 0} → Option model.Code → X → List X → List X → Result (Unit {0}) Refusal → Type 0
 Pushes told entry old new (Ok done) = (told ≡ None) × (new ≡ old ++ entry ∷ [])
 Pushes told entry old new (Err e) = Refuses e told
 
@@ -71,5 +72,5 @@ Takes command row before fields new (Err e) = Refuses e (code_of command before 
 -- A zone's days are found, or it has none, or it has some and memory has run out.
 abbrev pub FindsDays : Result Days ZoneRefusal → Result Days Refusal → Type 0
 FindsDays found (Ok days) = found ≡ Ok days
-FindsDays found (Err (refusals.Fault code)) = (view_of_code code ≡ ZoneRefused) × IsErr found
+FindsDays found (Err (refusals.Fault code)) = (view.code_of code ≡ model.ZoneRefused) × IsErr found
 FindsDays found (Err refusals.Memory) = IsOk found

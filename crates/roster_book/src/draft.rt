@@ -4,18 +4,19 @@ ghost use Rattle.std.specs.Prelude.{◌≡◌, ◌≢◌, ◌<◌, ◌∷◌, []
 ghost use Rattle.std.specs.List.{list_any};
 ghost use Rattle.csv.specs.Records.{fields_of};
 ghost use Rattle.roster_model.specs.Code as model;
-ghost use Rattle.roster_model.specs.Record.{Record, Command as Asked};
+ghost use Rattle.roster_model.specs.Record as records;
+ghost use Rattle.roster_model.specs.Record.{Record};
 ghost use Rattle.roster_model.specs.Problem.{home_of};
 ghost use Rattle.roster_model.specs.Faults.{code_of, first_fault, pairing_without_duty};
-ghost use Rattle.roster_model.specs.records.Pairing.{Pairing as PairingEntry};
+ghost use Rattle.roster_model.specs.records.Pairing as pairings;
 ghost use Rattle.roster_model.specs.records.Duty.{is_held_by_pairing, last_duty};
 ghost use Rattle.roster_book.specs.Draft.{HasRecords, IsDraftOf, Judges, Pushes, Takes, base_of_pairing, contents_of, tables_of_draft};
 ghost use Rattle.roster_book.specs.Reading.{IsBookOf, TellsFirst};
-ghost use Rattle.roster_book.specs.View.{code_of as view_of_code, command_of};
+ghost use Rattle.roster_problem.specs.View.{command_of};
+ghost use Rattle.roster_book.specs.View as view;
 
 use crate::book::Book;
 use crate::code::Code;
-use crate::command::Command;
 use crate::duties::Duties;
 use crate::fault::BookFault;
 use crate::kind::{Kind, kind_in};
@@ -24,7 +25,7 @@ use crate::record::period;
 use crate::refusal::Refusal;
 use csv::ByteRecord;
 use roster_instants::Period;
-use roster_problem::{Base, Costs, Duty, Holder, Leave, Pairing, Person, Problem};
+use roster_problem::{Base, Command, Costs, Duty, Holder, Leave, Pairing, Person, Problem};
 use std::alloc::Global;
 
 /// The tables of the records taken so far, and who is assigned to pairings. Duties are in the order of
@@ -65,7 +66,7 @@ impl Draft {
             (λ draft. IsDraftOf (command_of command) 2 (fields_of fields.now ∷ [])
             (contents_of draft))
             (λ code. code_of (command_of command) [] (fields_of fields.now)
-            ≡ Some (view_of_code code)) }
+            ≡ Some (view.code_of code)) }
     {
         Ok(Draft {
             period: period::read_first(command, fields)?,
@@ -128,12 +129,12 @@ impl Draft {
     /// The book of the records taken, or the row of the first pairing without a duty.
     pub(crate) fn finish(self, alloc: Global) -> Result<Book, BookFault>
         requires records { HasRecords (contents_of self) }
-        ensures told { (command : Asked) (row : ℕ) (records : List Record)
+        ensures told { (command : records.Command) (row : ℕ) (records : List Record)
             → IsDraftOf command row records (contents_of self)
             → MatchResult result (λ book. IsBookOf command records book)
             (λ fault. TellsFirst command records fault) }
         // Memory runs out where no pairing lacks a duty alone.
-        ensures memory { (command : Asked) (row : ℕ) (records : List Record)
+        ensures memory { (command : records.Command) (row : ℕ) (records : List Record)
             → IsDraftOf command row records (contents_of self)
             → IsErrOf result BookFault.Memory → first_fault command records ≡ None }
         ensures device { IfErr result (λ fault. fault ≢ BookFault.Device) }
@@ -203,7 +204,7 @@ impl Draft {
 
     // The row of the first pairing without a duty.
     fn row_without_duty(&self) -> Option<usize>
-        ensures { result ≡ option_map (λ (entry : ℕ × PairingEntry). entry.1.row)
+        ensures { result ≡ option_map (λ (entry : ℕ × pairings.Pairing). entry.1.row)
             (pairing_without_duty (tables_of_draft self.now)) }
     {
         for (place, pairing) in self.pairings.iter().enumerate() {

@@ -1,8 +1,5 @@
 //! Why no book was read.
 
-ghost use Rattle.std.specs.Prelude.{◌≡◌};
-ghost use Rattle.roster_book.specs.declared.fault.BookFault.TheVariants.{Memory as OutOfMemory};
-
 use std::alloc::AllocError;
 use thiserror::Error;
 
@@ -26,7 +23,10 @@ pub enum BookFault {
 }
 
 impl From<AllocError> for BookFault {
-    ghost from_gives = { λ _ fault. fault ≡ OutOfMemory };
+    ghost use Rattle.std.specs.Prelude.{◌≡◌};
+    ghost use Rattle.roster_book.specs.declared.fault.BookFault.TheVariants.{Memory};
+
+    ghost from_gives = { λ _ fault. fault ≡ Memory };
 
     fn from(_error: AllocError) -> BookFault {
         BookFault::Memory

@@ -4,11 +4,12 @@ ghost use Rattle.std.specs.Prelude.{◌≡◌, option_map};
 ghost use Rattle.csv.specs.Records.{fields_of};
 ghost use Rattle.roster_model.specs.Record.{PeriodRecord, is_of};
 ghost use Rattle.roster_model.specs.Faults.{kind_in};
-ghost use Rattle.roster_book.specs.View.{command_of, kind_of};
+ghost use Rattle.roster_problem.specs.View.{command_of};
+ghost use Rattle.roster_book.specs.View.{kind_of};
 
-use crate::command::Command;
 use crate::forms::field;
 use csv::ByteRecord;
+use roster_problem::Command;
 
 /// What a record is about.
 #[derive(Clone, Copy)]
@@ -36,8 +37,10 @@ pub(crate) fn is_period(fields: &ByteRecord) -> bool
 pub(crate) fn kind_in(command: Command, fields: &ByteRecord) -> Option<Kind>
     ensures { option_map kind_of result ≡ kind_in (command_of command) (fields_of fields.now) }
 {
+    if is_period(fields) {
+        return Some(Kind::Period);
+    }
     match field(fields, 0) {
-        b"period" => Some(Kind::Period),
         b"weight" => Some(Kind::Weight),
         b"base" => Some(Kind::Base),
         b"crew" => Some(Kind::Crew),

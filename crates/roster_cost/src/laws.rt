@@ -6,8 +6,8 @@ ghost use Rattle.std.specs.List.Sorted.{IsStrictlyIncreasing};
 ghost use Rattle.std.specs.Ordering.{is_le, is_lt};
 ghost use Rattle.roster_model.specs.Costs.{cost_of, flight_of, line_cost, open_penalties, total};
 ghost use Rattle.roster_model.specs.Places.{open_number, set_of};
-ghost use Rattle.roster_model.specs.Problem.{Problem as Tables, units_of};
-ghost use Rattle.roster_model.specs.Rosters.{Key as Entry, key_le};
+ghost use Rattle.roster_model.specs.Problem.{Problem, units_of};
+ghost use Rattle.roster_model.specs.Rosters.{Key, key_le};
 ghost use Rattle.roster_model.specs.Rules.{is_among};
 ghost use Rattle.roster_problem.specs.Sound.{IsSound};
 ghost use Rattle.roster_cost.specs.Amounts.{IsWithin, minutes_of_pairing, most_units};
@@ -18,10 +18,10 @@ use roster_cumulative::flight_of_one_pairing_more;
 /// What a pairing brings that comes to a set: its units and its flight. With them `cost_at` is the
 /// cost of the larger set.
 pub fn one_pairing_more()
-    ensures units { (problem : Tables) (k p : ℕ) (set : List ℕ)
+    ensures units { (problem : Problem) (k p : ℕ) (set : List ℕ)
         → total (units_of problem k) (set ++ p ∷ [])
         ≡ total (units_of problem k) set +ℤ units_of problem k p }
-    ensures flight { (problem : Tables) (k p : ℕ) (set : List ℕ)
+    ensures flight { (problem : Problem) (k p : ℕ) (set : List ℕ)
         → is_among set p ≡ false
         → flight_of problem k (set ++ p ∷ [])
         ≡ flight_of problem k set + minutes_of_pairing problem k p }
@@ -31,7 +31,7 @@ pub fn one_pairing_more()
 
 /// The units of a set are as far within their limits as `cost_at` asks.
 pub fn units_of_set()
-    ensures { (problem : Tables) (k : ℕ) (set : List ℕ)
+    ensures { (problem : Problem) (k : ℕ) (set : List ℕ)
         → IsSound problem → IsStrictlyIncreasing set
         → All (λ p. p < length problem.pairings) set
         → IsWithin most_units (total (units_of problem k) set) }
@@ -39,7 +39,7 @@ pub fn units_of_set()
 
 /// What a roster costs is what its open pairings cost, and each person's line.
 pub fn shares_add_up()
-    ensures { (problem : Tables) (places : List ℕ)
+    ensures { (problem : Problem) (places : List ℕ)
         → cost_of problem places
         ≡ pos (open_penalties (open_number problem) problem.pairings places)
         +ℤ total (λ k. line_cost problem k (set_of k places))
@@ -48,7 +48,7 @@ pub fn shares_add_up()
 
 /// Keys compare as the definitions say, and equal ones are one.
 pub fn order_of_keys()
-    ensures le { (a b : Entry) → is_le (compare a b) ≡ key_le a b }
-    ensures lt { (a b : Entry) → is_lt (compare a b) ≡ not (key_le b a) }
-    ensures same { (a b : Entry) → (is_same a b ≡ true) ↔ (a ≡ b) }
+    ensures le { (a b : Key) → is_le (compare a b) ≡ key_le a b }
+    ensures lt { (a b : Key) → is_lt (compare a b) ≡ not (key_le b a) }
+    ensures same { (a b : Key) → (is_same a b ≡ true) ↔ (a ≡ b) }
 {}

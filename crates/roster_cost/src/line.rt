@@ -28,7 +28,8 @@ pub fn set_units(problem: &Problem, k: usize, set: &Set) -> i64
 pub(crate) fn missed(problem: &Problem, k: usize, flight: u64) -> u64
     requires person { k < length problem.now.persons }
     requires flight { flight ≤ most_flight }
-    ensures value { result ≡ weight_of problem.now * costs.distance flight (target_of problem.now k) }
+    ensures value { result
+        ≡ weight_of problem.now * costs.distance flight (target_of problem.now k) }
     ensures bound { result ≤ MOST_WEIGHT * (flight + MOST_MINUTES) }
 {
     let persons = problem.persons();

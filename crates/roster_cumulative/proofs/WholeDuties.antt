@@ -1,14 +1,14 @@
 -- Days in a row have no more than whole duties.
-use Rattle.std.proofs.Common.{◌≡◌, ℕ, ◌+◌, ◌-◌, ◌≤◌, ◌<◌, Bool, true, false, cond, List, [], ◌∷◌, length, get_or, arith}
+use Rattle.std.proofs.Common.{ℕ, ◌+◌, ◌-◌, ◌≤◌, ◌<◌, Bool, true, false, cond, List, [], ◌∷◌, length, get_or, arith}
 use Rattle.std.specs.Prelude.{All}
-use Rattle.std.specs.List.{range_with_len, sum_by}
+use Rattle.std.specs.List.{sum_by}
 use Rattle.std.proofs.lemmas.List.Elements.{All-head, All-tail}
 use Rattle.std.proofs.lemmas.List.FromFn.{get_or-range_with_len, length-range_with_len}
 use Rattle.std.proofs.lemmas.List.Sums.{sum_by-cons}
 use Rattle.roster_model.specs.declared.limits.TheConstants.{DAYS_BEFORE}
 use Rattle.roster_model.specs.Calendar.{Days, IsTable, common}
 use Rattle.roster_model.specs.Rules.Limits.{KeepsLimit}
-use Rattle.roster_model.specs.Sums.{duty_between, flight_between, flown_between, in_run, judged_days, on_day}
+use Rattle.roster_model.specs.Sums.{duty_between, flight_between, flown_between, in_run, on_day}
 use Rattle.roster_model.specs.records.Duty.{Duty, Sector}
 use Rattle.roster_cumulative.specs.Table.{minutes_of}
 use Rattle.roster_cumulative.specs.declared.table.Measure.{Measure}

@@ -4,7 +4,7 @@ ghost use Rattle.std.specs.Prelude.{◌≡◌, ◌≤◌, ◌+◌, ◌*◌, ◌�
 ghost use Rattle.std.specs.List.{range_with_len, sum_by};
 ghost use Rattle.std.specs.List.Sorted.{IsStrictlyIncreasing};
 ghost use Rattle.roster_model.specs.Calendar.{Days, IsTable};
-ghost use Rattle.roster_model.specs.Problem.{Problem as Tables};
+ghost use Rattle.roster_model.specs.Problem.{Problem};
 ghost use Rattle.roster_model.specs.Places.{set_of};
 ghost use Rattle.roster_model.specs.Rules.{duty_list, is_among, is_listed};
 ghost use Rattle.roster_model.specs.Sums.{duty_flight, month_flight};
@@ -19,7 +19,7 @@ use roster_model::limits::MOST_MONTH_MINUTES;
 pub fn flight_of_duties()
     ensures listed { (days : Days) (list : List Duty)
         → month_flight days list ≡ sum_by (duty_flight days) list }
-    ensures of_set { (problem : Tables) (days : Days) (k : ℕ) (set : List ℕ)
+    ensures of_set { (problem : Problem) (days : Days) (k : ℕ) (set : List ℕ)
         → month_flight days (duty_list problem k set)
         ≡ sum_by (λ duty. if is_listed k set duty.holder then duty_flight days duty else 0)
         problem.duties }
@@ -29,7 +29,7 @@ pub fn flight_of_duties()
 
 /// A pairing that comes to a set brings the flight of its duties.
 pub fn flight_of_one_pairing_more()
-    ensures { (problem : Tables) (days : Days) (k p : ℕ) (set : List ℕ)
+    ensures { (problem : Problem) (days : Days) (k p : ℕ) (set : List ℕ)
         → is_among set p ≡ false
         → month_flight days (duty_list problem k (set ++ p ∷ []))
         ≡ month_flight days (duty_list problem k set)
@@ -38,7 +38,7 @@ pub fn flight_of_one_pairing_more()
 
 /// So the flight of a set is that of the person's fixed duties, and of the duties of each pairing.
 pub fn flight_of_set()
-    ensures { (problem : Tables) (days : Days) (k : ℕ) (set : List ℕ)
+    ensures { (problem : Problem) (days : Days) (k : ℕ) (set : List ℕ)
         → IsStrictlyIncreasing set
         → month_flight days (duty_list problem k set)
         ≡ month_flight days (filter (is_of_person k) problem.duties)
@@ -48,7 +48,7 @@ pub fn flight_of_set()
 /// Each duty is on the list of one person at most, whatever the places, legal or not: the lists of
 /// the first persons, as many as one likes, have no more duties than there are.
 pub fn one_list_of_each_duty()
-    ensures { (problem : Tables) (places : List ℕ) (persons : ℕ)
+    ensures { (problem : Problem) (places : List ℕ) (persons : ℕ)
         → sum_by (λ k. length (duty_list problem k (set_of k places))) (range_with_len 0 persons)
         ≤ length problem.duties }
 {}

@@ -52,7 +52,8 @@ fn add_sector(table: &mut [u64; MOST_DAYS], days: &BaseDays, sector: Sector)
     requires order { sector.off ≤ sector.on }
     requires light { IsLight MOST_DUTIES table.old }
     ensures { (i : ℕ) → slice_index table.new i ≡ slice_index table.old i
-        + sums.flown_between sector (slice_index days.now.mid i) (slice_index days.now.mid (i + 1)) }
+        + sums.flown_between sector (slice_index days.now.mid i)
+        (slice_index days.now.mid (i + 1)) }
 {
     if sector.operates {
         add_time(table, days, sector.off, sector.on);
@@ -63,7 +64,8 @@ fn add_sector(table: &mut [u64; MOST_DAYS], days: &BaseDays, sector: Sector)
 fn add_flight(table: &mut [u64; MOST_DAYS], days: &BaseDays, duty: &Duty)
     requires light { IsLight (MOST_DUTIES - 1) table.old }
     ensures added { (i : ℕ) → slice_index table.new i ≡ slice_index table.old i
-        + sums.flight_between duty.now (slice_index days.now.mid i) (slice_index days.now.mid (i + 1)) }
+        + sums.flight_between duty.now (slice_index days.now.mid i)
+        (slice_index days.now.mid (i + 1)) }
     ensures bound { (from to : ℕ) → sums.flight_between duty.now from to ≤ LAST_INSTANT }
 {
     prove!(duty.release.get() <= LAST_INSTANT as i64);
@@ -76,7 +78,8 @@ fn add_flight(table: &mut [u64; MOST_DAYS], days: &BaseDays, duty: &Duty)
 fn add_duty(table: &mut [u64; MOST_DAYS], days: &BaseDays, duty: &Duty, measure: Measure)
     requires light { IsLight (MOST_DUTIES - 1) table.old }
     ensures added { (i : ℕ) → slice_index table.new i ≡ slice_index table.old i
-        + minutes_of measure duty.now (slice_index days.now.mid i) (slice_index days.now.mid (i + 1)) }
+        + minutes_of measure duty.now (slice_index days.now.mid i)
+        (slice_index days.now.mid (i + 1)) }
     ensures bound { (from to : ℕ) → minutes_of measure duty.now from to ≤ LAST_INSTANT }
 {
     match measure {

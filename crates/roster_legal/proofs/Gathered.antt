@@ -7,7 +7,7 @@ use Rattle.std.specs.Ordering.{nat_cmp}
 use Rattle.std.specs.Option.{option_map_or}
 use Rattle.std.proofs.Math.Bool.{or-false, or-true}
 use Rattle.std.proofs.lemmas.Bool.{cases_lt, cases_eq, lt-ltb, le-ltb, ltb-true, ne_eqb, both_ways, and_parts, or_parts, or_right, eqb-false}
-use Rattle.std.proofs.lemmas.List.Elements.{All-head, All-tail, All-weaker, recursion_from_All}
+use Rattle.std.proofs.lemmas.List.Elements.{All-weaker, recursion_from_All}
 use Rattle.std.proofs.lemmas.List.Sorted.{IsNonDecreasingBy-from_sort, list_any-IsPermutation}
 use Rattle.std.proofs.lemmas.Map.Keys.{IsDistinct-cons, IsDistinct-head, IsDistinct-tail, IsDistinct-IsPermutation, IsStrictlyIncreasing-from_distinct}
 use Rattle.std.proofs.lemmas.Option.{slice_get_past}
@@ -26,10 +26,6 @@ apart_from x (y ∷ ys) none =
 all_apart : (x : ℕ) (xs ys : List ℕ) → AllByRecursion (λ y. eqb x y ≡ false) xs → is_among ys x ≡ false → AllByRecursion (λ y. eqb x y ≡ false) (xs ++ ys)
 all_apart x [] ys h none = apart_from x ys none
 all_apart x (z ∷ xs) ys h none = (h.0, all_apart x xs ys h.1 none)
-
-pub IsDistinct-none : IsDistinct eqb []
-unfolding IsDistinct
-IsDistinct-none = tt
 
 pub IsDistinct-append : (xs ys : List ℕ) → IsDistinct eqb xs → IsDistinct eqb ys → ((i : ℕ) → is_among xs i ≡ true → is_among ys i ≡ false) → IsDistinct eqb (xs ++ ys)
 IsDistinct-append [] ys first second apart = second

@@ -1,44 +1,44 @@
 //! What follows from the definitions alone.
 
 ghost use Rattle.std.specs.Prelude.{◌≡◌, ℕ, true, List, Option};
-ghost use Rattle.roster_model.specs.Problem.{Problem as Tables};
+ghost use Rattle.roster_model.specs.Problem.{Problem};
 ghost use Rattle.roster_model.specs.Rosters.{AreVerdicts};
 ghost use Rattle.roster_model.specs.Rules.{is_among, AreLocks, IsFirstBroken, IsLegal, Rule};
 ghost use Rattle.roster_problem.specs.Duties.{AreTimed, IsInOrder};
 
 /// A person breaks at most one rule first with a set.
 pub fn one_first_broken()
-    ensures { (problem : Tables) (k : ℕ) (set : List ℕ) (a b : Option Rule)
+    ensures { (problem : Problem) (k : ℕ) (set : List ℕ) (a b : Option Rule)
         → IsFirstBroken problem k set a → IsFirstBroken problem k set b → a ≡ b }
 {}
 
 /// What locks each person is one list at most.
 pub fn one_list_of_locks()
-    ensures { (problem : Tables) (a b : List (Option Rule))
+    ensures { (problem : Problem) (a b : List (Option Rule))
         → AreLocks problem a → AreLocks problem b → a ≡ b }
 {}
 
 /// There is a list of what locks each person: there can't be none. Rules are facts that no test need
 /// decide, so nothing more than that is said.
 pub fn has_locks()
-    ensures { (problem : Tables) → ¬ ¬ ((locks : List (Option Rule)) × AreLocks problem locks) }
+    ensures { (problem : Problem) → ¬ ¬ ((locks : List (Option Rule)) × AreLocks problem locks) }
 {}
 
 /// What each person breaks with their set of a list of places is one list at most.
 pub fn one_list_of_verdicts()
-    ensures { (problem : Tables) (places : List ℕ) (a b : List (Option Rule))
+    ensures { (problem : Problem) (places : List ℕ) (a b : List (Option Rule))
         → AreVerdicts problem places a → AreVerdicts problem places b → a ≡ b }
 {}
 
 /// There is a list of what each person breaks: there can't be none.
 pub fn has_verdicts()
-    ensures { (problem : Tables) (places : List ℕ)
+    ensures { (problem : Problem) (places : List ℕ)
         → ¬ ¬ ((verdicts : List (Option Rule)) × AreVerdicts problem places verdicts) }
 {}
 
 /// What is part of a legal set is legal, where the duties are in their order in time.
 pub fn part_of_legal_is_legal()
-    ensures { (problem : Tables) (k : ℕ) (set part : List ℕ)
+    ensures { (problem : Problem) (k : ℕ) (set part : List ℕ)
         → IsInOrder problem.duties → AreTimed problem.duties
         → ((p : ℕ) → is_among part p ≡ true → is_among set p ≡ true)
         → IsLegal problem k set → IsLegal problem k part }

@@ -127,7 +127,8 @@ impl Table {
         requires person { k < length self.now }
         requires place { p < MOST_PAIRINGS }
         ensures bounds { (result.0 ≤ result.1) × (result.1 ≤ length (lines_at self.now k)) }
-        ensures run { (i : ℕ) (set : List ℕ) → slice_get (sets_of (lines_at self.now k)) i ≡ Some set
+        ensures run { (i : ℕ) (set : List ℕ)
+            → slice_get (sets_of (lines_at self.now k)) i ≡ Some set
             → (slice_get set 0 ≡ Some p) ↔ ((result.0 ≤ i) × (i < result.1)) }
     {
         self.lines(k).run_of(p)

@@ -1,11 +1,10 @@
 -- Keys of rosters are in a total order.
-use Rattle.std.proofs.Common.{◌≡◌, ℕ, ◌<◌, Bool, true, false, not, ◌||◌, ◌&&◌, T, ltb, eqb, Some, nat_cmp, int_cmp, is_lt, Ordering, Less, Equal, Greater, ◌⊎◌, List, [], ◌∷◌, ℤ, ◌<ℤ◌, int_lt, int_eq, refl, sym, ap, ap₂, ◌∙◌, subst, inl, inr, arith}
+use Rattle.std.proofs.Common.{◌≡◌, Bool, true, false, T, int_cmp, Ordering, Less, Equal, Greater, ◌⊎◌, ℤ, ◌<ℤ◌, int_lt, int_eq, refl, sym, ◌∙◌, subst, inl, inr, arith}
 use Rattle.std.specs.Int.Signed.{lt_z_yes}
-use Rattle.std.proofs.lemmas.Bool.{false≢true, ltb-true, lt-ltb, eqb-true, eq-eqb, or_cases, or_left, or_right, and_parts, and_from, cases_order, false_from_ne_true}
-use Rattle.std.proofs.lemmas.Bool.Decides.{Decides-int_eq, nat_tests}
-use Rattle.std.proofs.lemmas.Cmp.{same_from_slice_cmp_tested, int_ranked}
-use Rattle.std.specs.Ordering.{is_some_and, MatchOrdering}
-use Rattle.std.specs.Cmp.Lexicographic.{slice_partial_cmp}
+use Rattle.std.proofs.lemmas.Bool.{false≢true, or_cases, or_left, or_right, and_parts, and_from}
+use Rattle.std.proofs.lemmas.Bool.Decides.{Decides-int_eq}
+use Rattle.std.proofs.lemmas.Cmp.{int_ranked}
+use Rattle.std.specs.Ordering.{MatchOrdering}
 use Rattle.std.proofs.lemmas.Int.{ints}
 use Rattle.roster_model.proofs.PlacesOrder.{places_le-refl, places_le-trans, places_le-antisym, places_le-total}
 use Rattle.roster_model.specs.Places.{places_le}

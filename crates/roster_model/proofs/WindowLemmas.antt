@@ -111,15 +111,6 @@ pub days_of_zone-rule : (period : Period) (text : List ℕ) (days : Days) → da
 unfolding days_of_zone
 days_of_zone-rule period text days h = by_reading period (read_whole text) days h
 
--- The days that a zone text stands for have the window's lengths, the month's days, and rise, and the
--- month is short.
-pub days_of_zone-table : (period : Period) (text : List ℕ) (days : Days) → days_of_zone period text ≡ Ok days → IsTable days × (days.month_days ≡ days_of_month period)
-days_of_zone-table period text days h =
-    let rule = days_of_zone-rule period text days h in
-    let table = days_by_rule-table period rule.0 days rule.2 in
-    let P : Days → Type 0 = λ d. IsTable d × (d.month_days ≡ days_of_month period) in
-    subst P table.2 (table-whole period text rule.0 rule.1 table.1, refl)
-
 -- On each day of a table the instants follow one another,
 pub day-rises : (days : Days) → IsTable days → (i : ℕ) → i < length days.eight
     → (get_or days.mid i 0 < get_or days.eight i 0) × (get_or days.eight i 0 < get_or days.ten i 0) × (get_or days.ten i 0 < get_or days.mid (i + 1) 0)
@@ -185,23 +176,3 @@ night-lasts days table i within =
 
 pub mids-increase : (days : Days) → IsTable days → IsStrictlyIncreasing days.mid
 mids-increase days table = λ k within. let long = table.mid in mid-rises days table k (k + 1) (omega arith) (omega arith)
-
-days_apart : (days : Days) → IsTable days → (t i j : ℕ) → IsDayOf days t i → IsDayOf days t j → i < j → ⊥
-days_apart days table t i j a b before =
-    let below = slice_get_within days.mid j b.begins b.first in
-    let length_is = table.mid in
-    let end = get_or_from_slice_get days.mid (i + 1) a.ends 0 a.next in
-    let begin = get_or_from_slice_get days.mid j b.begins 0 b.first in
-    let last = mid-reached days table i j before (omega arith) in
-    let late = a.before in
-    let early = b.from in
-    omega arith
-
--- An instant has one day.
-pub one_day : (days : Days) → IsTable days → (t i j : ℕ) → IsDayOf days t i → IsDayOf days t j → i ≡ j
-one_day days table t i j a b =
-    elim (cases_order i j) [
-      | inl same ↦ same
-      | inr (inl before) ↦ absurd (days_apart days table t i j a b before)
-      | inr (inr after) ↦ absurd (days_apart days table t j i b a after)
-    ]

@@ -1,8 +1,7 @@
 //! `duty,ID,P,PAIRING,STATION,REPORT,RELEASE`: a duty of a pairing; with C and a person in place of P
 //! and the pairing, a duty that is fixed for the person.
 
-ghost use Rattle.std.specs.Prelude.{◌≡◌, ◌<◌, ◌||◌, [], List, Some, true, false, IfOk, IfSome, IsOk, MatchOption, codes, length, option_map};
-ghost use Rattle.std.specs.Str.{bytes_eq};
+ghost use Rattle.std.specs.Prelude.{◌≡◌, ◌<◌, [], List, Some, true, false, IfOk, IfSome, IsOk, MatchOption, length, option_map};
 ghost use Rattle.csv.specs.Records.{fields_of};
 ghost use Rattle.roster_model.specs.Record.{Record, Command, DutyRecord, minute_of};
 ghost use Rattle.roster_model.specs.Code.{first_unmet};
@@ -19,10 +18,10 @@ use crate::code::Code;
 use crate::draft::Draft;
 use crate::forms::field;
 use crate::named::place_of;
-use crate::record::window::{is_in_window, midnight};
+use crate::record::window::is_in_window;
 use csv::ByteRecord;
 use roster_instants::{BaseDays, Minute, read_minute};
-use roster_model::limits::{DAYS_AFTER, DAYS_BEFORE, MOST_DUTIES};
+use roster_model::limits::MOST_DUTIES;
 use roster_problem::{Base, Duty, Holder, Name, is_identifier};
 use std::alloc::Global;
 
@@ -35,11 +34,18 @@ struct Form {
     release: Minute,
 }
 
-// Whether it is the letter of a pairing's duties, or that of persons'.
-fn is_letter(letter: &[u8]) -> bool
-    ensures { result ≡ (bytes_eq letter.now (codes "P") || bytes_eq letter.now (codes "C")) }
+// Whether it is the letter of a pairing's duties.
+fn is_of_pairing(letter: &[u8]) -> bool
+    ensures { result ≡ model.is_of_pairing letter.now }
 {
-    letter == b"P".as_slice() || letter == b"C".as_slice()
+    letter == b"P".as_slice()
+}
+
+// Whether it is the letter of a person's fixed duties.
+fn is_of_person(letter: &[u8]) -> bool
+    ensures { result ≡ model.is_of_person letter.now }
+{
+    letter == b"C".as_slice()
 }
 
 fn formed(fields: &ByteRecord) -> Option<Form>
@@ -50,7 +56,8 @@ fn formed(fields: &ByteRecord) -> Option<Form>
         × (f.release ≡ minute_of (release_in (fields_of fields.now)))) }
 {
     let id = Name::new(field(fields, 1))?;
-    if !is_letter(field(fields, 2)) || !is_identifier(field(fields, 3)) {
+    let letter = field(fields, 2);
+    if !is_of_pairing(letter) && !is_of_person(letter) || !is_identifier(field(fields, 3)) {
         return None;
     }
     Some(Form {
@@ -74,8 +81,7 @@ fn is_in_sequence(last: Option<&Duty>, report: Minute, release: Minute) -> bool
 fn is_in_month(days: &BaseDays, minute: Minute) -> bool
     ensures { result ≡ model.is_in_month days.now minute }
 {
-    let end = days.days() - DAYS_AFTER;
-    midnight(days, DAYS_BEFORE) <= minute && minute < midnight(days, end)
+    days.month_start() <= minute && minute < days.month_end()
 }
 
 // Whether it isn't the first duty of its pairing, or reports at the pairing's base in the month there.
@@ -95,7 +101,7 @@ impl Draft {
             (length self.now.persons.items) (holder_of holder)) }
     {
         let name = field(fields, 3);
-        if field(fields, 2) == b"P".as_slice() {
+        if is_of_pairing(field(fields, 2)) {
             Some(Holder::Pairing(place_of(&self.pairings, name)?))
         } else {
             Some(Holder::Person(place_of(&self.persons, name)?))

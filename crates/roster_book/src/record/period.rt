@@ -1,29 +1,27 @@
 //! `period,YYYY-MM`: the month of the book.
 
-ghost use Rattle.std.specs.Prelude.{◌≡◌, ◌<◌, ◌==◌, ◌∷◌, [], List, Some, is_some, length, unwrap_or};
+ghost use Rattle.std.specs.Prelude.{◌≡◌, ◌<◌, ◌∷◌, [], List, Some, length};
 ghost use Rattle.csv.specs.Records.{fields_of};
-ghost use Rattle.roster_model.specs.Calendar.{period_of};
-ghost use Rattle.roster_model.specs.Record.{Record, Command as Asked, PeriodRecord, field};
-ghost use Rattle.roster_model.specs.Code as model_codes;
+ghost use Rattle.roster_model.specs.Record as records;
+ghost use Rattle.roster_model.specs.Record.{Record, PeriodRecord};
 ghost use Rattle.roster_model.specs.Code.{first_unmet};
-ghost use Rattle.roster_model.specs.records.Period.{period_in};
+ghost use Rattle.roster_model.specs.records.Period.{month_in, own_conditions, period_in};
 ghost use Rattle.roster_book.specs.Draft.{Judges};
 ghost use Rattle.roster_model.specs.Faults.{code_of, code_of_kind, IsFaultlessSoFar};
-ghost use Rattle.roster_book.specs.View.{code_of as view_of_code, command_of};
+ghost use Rattle.roster_problem.specs.View.{command_of};
+ghost use Rattle.roster_book.specs.View as view;
 
 use crate::code::Code;
-use crate::command::Command;
 use crate::forms::field;
 use crate::kind::is_period;
 use csv::ByteRecord;
 use roster_instants::Period;
+use roster_problem::Command;
 
 // The month, or what is wrong with the record besides being given again.
 fn judge(fields: &ByteRecord) -> Result<Period, Code>
-    ensures { Judges (first_unmet ((model_codes.FieldCount, length (fields_of fields.now) == 2)
-        ∷ (model_codes.FieldForm, is_some (period_of (field (fields_of fields.now) 1))) ∷ []))
-        (unwrap_or (period_of (field (fields_of fields.now) 1)) (record { year = 0; month = 0 }))
-        result }
+    ensures { Judges (first_unmet (own_conditions (fields_of fields.now)))
+        (month_in (fields_of fields.now)) result }
 {
     if fields.len() != 2 {
         return Err(Code::FieldCount);
@@ -44,9 +42,9 @@ pub(crate) fn read_first(command: Command, fields: &ByteRecord) -> Result<Period
 
 /// What is wrong with a period that isn't the first record.
 pub(crate) fn fault_of_later(fields: &ByteRecord) -> Code
-    ensures { (command : Asked) (before : List Record) → 0 < length before
+    ensures { (command : records.Command) (before : List Record) → 0 < length before
         → IsFaultlessSoFar command before
-        → code_of_kind PeriodRecord before (fields_of fields.now) ≡ Some (view_of_code result) }
+        → code_of_kind PeriodRecord before (fields_of fields.now) ≡ Some (view.code_of result) }
 {
     match judge(fields) {
         Ok(_) => Code::GivenTwice,

@@ -8,7 +8,7 @@ ghost use Rattle.roster_model.specs.Faults.{code_of_kind, kind_in};
 ghost use Rattle.roster_model.specs.records.Sector.{is_formed, is_operated, is_positioning, letter_in, off_in, on_in, sector_of};
 ghost use Rattle.roster_book.specs.Draft.{IsDraftOf, Takes, contents_of};
 ghost use Rattle.roster_book.specs.Flown.{fits_at, sector_count};
-ghost use Rattle.roster_book.specs.View.{code_of as view_of_code};
+ghost use Rattle.roster_book.specs.View as view;
 
 use crate::code::Code;
 use crate::draft::Draft;
@@ -60,7 +60,7 @@ impl Draft {
             × (sector_of before (fields_of fields.now)
             ≡ record { duty = Some given.0; sector = given.1 }))
             (λ code. code_of_kind SectorRecord before (fields_of fields.now)
-            ≡ Some (view_of_code code)) }
+            ≡ Some (view.code_of code)) }
         ensures fits { IfOk result (λ given. fits_at self.now.duties given.0 given.1 ≡ true) }
         ensures room { IfOk result (λ _. sector_count self.now.duties < MOST_SECTORS) }
     {

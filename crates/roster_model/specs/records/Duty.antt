@@ -1,6 +1,6 @@
 -- `duty,ID,P,PAIRING,STATION,REPORT,RELEASE`: a duty of a pairing; with C and a person in place of P
 -- and the pairing, a duty that is fixed for the person.
-use Rattle.std.specs.Prelude.{ℕ, ◌+◌, Bool, true, false, not, ◌&&◌, ◌||◌, ◌==◌, if◌then◌else◌, List, [], ◌∷◌, length, Option, Some, None, is_some, option_map, nat_lt, nat_le, unwrap_or, slice_get, codes}
+use Rattle.std.specs.Prelude.{ℕ, Bool, true, false, not, ◌&&◌, ◌||◌, ◌==◌, if◌then◌else◌, List, [], ◌∷◌, length, Option, Some, None, is_some, option_map, nat_lt, nat_le, unwrap_or, slice_get, codes}
 use Rattle.std.specs.List.{filter, last_or}
 use Rattle.std.specs.Option.{option_map_or}
 use Rattle.std.specs.Str.{bytes_eq}
@@ -66,10 +66,16 @@ release_in fields = field fields 6
 
 -- ---- what a record of a duty adds: the records of its sectors come after it
 
+abbrev pub is_of_pairing : List ℕ → Bool
+is_of_pairing letter = bytes_eq letter (codes "P")
+
+abbrev pub is_of_person : List ℕ → Bool
+is_of_person letter = bytes_eq letter (codes "C")
+
 -- its holder, if that was given before: the letter says among which names it is looked up
 abbrev pub holder_in : List Record → Record → Option Holder
 holder_in before fields =
-    if bytes_eq (letter_in fields) (codes "P")
+    if is_of_pairing (letter_in fields)
     then option_map OfPairing (pairing_place before (holder_name_in fields))
     else option_map OfPerson (person_place before (holder_name_in fields))
 
@@ -100,7 +106,7 @@ last_duty duties p = last_or None (filter (λ duty. is_held_by_pairing p duty.ho
 abbrev pub is_formed : Record → Bool
 is_formed fields =
     is_identifier (id_in fields)
-    && (bytes_eq (letter_in fields) (codes "P") || bytes_eq (letter_in fields) (codes "C"))
+    && (is_of_pairing (letter_in fields) || is_of_person (letter_in fields))
     && is_identifier (holder_name_in fields) && is_identifier (station_in fields)
     && is_some (instant_of (report_in fields)) && is_some (instant_of (release_in fields))
 

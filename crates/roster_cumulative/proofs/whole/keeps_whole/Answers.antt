@@ -1,4 +1,4 @@
-use Rattle.std.proofs.Common.{ℕ, ◌≤◌, leb-true, arith}
+use Rattle.std.proofs.Common.{leb-true, arith}
 use Rattle.roster_cumulative.proofs.WholeDuties.{keeps-whole}
 use Rattle.roster_cumulative.proofs.whole.keeps_whole.Goals as goal
 

@@ -1,6 +1,6 @@
 use Rattle.std.proofs.Common.{sym, arith}
 use Rattle.csv.specs.Records.{fields_of}
-use Rattle.roster_book.specs.View.{command_of}
+use Rattle.roster_problem.specs.View.{command_of}
 use Rattle.roster_book.proofs.Sound.{first_is_period}
 use Rattle.roster_book.proofs.Tables.{no_assign, tables_in-first}
 use Rattle.roster_book.proofs.draft.Draft.begin.Goals as goal
