@@ -31,16 +31,18 @@ cost,A,P1,7
 cost,A,P2,-30
 ";
 
-/// Two digits of a number.
-fn digits(n: usize) -> [u8; 2] {
-    [b'0' + (n / 10 % 10) as u8, b'0' + (n % 10) as u8]
+/// The last digit of a number.
+fn digit(n: usize) -> u8 {
+    b'0' + (n % 10) as u8
 }
 
-/// A book of one person, and a pairing with one duty on each of these days of March, at the same hours.
-fn book_of(alloc: Global, days: &[u8]) -> Result<Vec<u8>, AllocError> {
-    let mut book = b"period,2024-03\nbase,BAS,UTC0\ncrew,A,BAS,0,0,0\n".to_vec(alloc)?;
+/// A book of this crew, and a pairing with one duty on each of these days of March, at the same hours.
+pub fn book_of(alloc: Global, crew: &[u8], days: &[u8]) -> Result<Vec<u8>, AllocError> {
+    let mut book = b"period,2024-03\nbase,BAS,UTC0\n".to_vec(alloc)?;
+    book.extend_from_slice(crew)?;
     for (p, day) in days.iter().enumerate() {
-        let (name, day) = (digits(p), digits(usize::from(*day)));
+        let name = [digit(p / 100), digit(p / 10), digit(p)];
+        let day = [digit(usize::from(*day / 10)), digit(usize::from(*day))];
         let parts: [&[u8]; 11] = [
             b"pairing,P",
             &name,
@@ -61,18 +63,18 @@ fn book_of(alloc: Global, days: &[u8]) -> Result<Vec<u8>, AllocError> {
     Ok(book)
 }
 
-/// The problem of that book.
-fn problem_of(alloc: Global, days: &[u8]) -> Result<Problem, Fail> {
-    let book = book_of(alloc, days)?;
+/// The problem of that book with one person.
+pub fn problem_of(alloc: Global, days: &[u8]) -> Result<Problem, Fail> {
+    let book = book_of(alloc, b"crew,A,BAS,0,0,0\n", days)?;
     let mut reader = Watched::new(book.as_slice());
     Ok(read_book(alloc, &mut reader, Command::Solve)?.problem)
 }
 
-/// The set of these pairings, of at most eleven.
+/// The set of these pairings.
 fn set_of(pairings: &[usize]) -> Set {
-    let mut places = [1; 11];
+    let mut places = [1; 256];
     for p in pairings {
-        if *p < 11 {
+        if *p < 256 {
             places[*p] = 0;
         }
     }
@@ -86,12 +88,12 @@ fn stands(lines: &Lines, pairings: &[usize], number: usize) -> bool {
 
 #[test]
 fn pairings_of_one_day_are_lines_alone(rt: HostRuntime) -> Result<(), Fail> {
-    let problem = problem_of(rt.alloc(), &[4; 6])?;
+    let problem = problem_of(rt.alloc(), &[4; 256])?;
     assert!(rt; problem.persons().len() == 1);
     let lines = lines_of(rt.alloc(), &problem, 0)?;
-    assert!(rt; lines.width() == 7);
+    assert!(rt; lines.width() == 257);
     assert!(rt; lines.set(0).is_empty());
-    for i in 1..7 {
+    for i in 1..257 {
         assert!(rt; lines.set(i) == set_of(&[i - 1]));
     }
     Ok(())

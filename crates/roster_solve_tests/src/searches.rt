@@ -1,5 +1,6 @@
 //! The walk of lines beside the plain search.
 
+use crate::lines::{book_of, problem_of};
 use roster_book::{Command, Watched, read_book};
 use roster_combine::{solve, solve_plainly};
 use roster_problem::Roster;
@@ -44,5 +45,16 @@ fn both_searches_find_the_same_roster(rt: HostRuntime) -> Result<(), Fail> {
     assert!(rt; find(rt.alloc(), PAID, &[1, 1], -7)?);
     assert!(rt; find(rt.alloc(), TWO_BASES, &[0, 2, 1], 50)?);
     assert!(rt; find(rt.alloc(), NOBODY, &[0], 100)?);
+    Ok(())
+}
+
+#[test]
+fn searches_of_as_many_pairings_as_may_be(rt: HostRuntime) -> Result<(), Fail> {
+    let nobody = book_of(rt.alloc(), b"", &[4; 256])?;
+    assert!(rt; find(rt.alloc(), &nobody, &[0; 256], 256)?);
+    let problem = problem_of(rt.alloc(), &[4; 256])?;
+    let mut places = [1; 256];
+    places[0] = 0;
+    assert!(rt; is(&solve(rt.alloc(), &problem)?, &places, 255));
     Ok(())
 }
