@@ -33,6 +33,9 @@ fn rules_have_words(rt: HostRuntime) {
     ];
     for (rule, word) in Rule::ALL.iter().zip(words) {
         assert!(rt; rule.word() == word);
+        for other in Rule::ALL {
+            assert!(rt; (*rule == other) == (other.word() == word));
+        }
     }
 }
 
