@@ -1,5 +1,9 @@
-//! Tests of runs, a file for each subject: what no clause says, and each public call that no book of
-//! `data/` reaches. A crate with tests of its own would be proved twice.
+//! Tests of runs: what no clause says, and each public call that no book of `data/` reaches. A crate
+//! with tests of its own would be proved twice. In reading order:
+//!
+//! - `runs`: runs over memory, and how they end
+//! - `devices`: readers and writers that fail, and then go on
+//! - `faults`: the texts of faults
 #![tactic(auto)]
 
 #[cfg(test)]
