@@ -8,7 +8,6 @@ use Rattle.roster_model.specs.Problem.{Problem, tables_in}
 use Rattle.roster_model.specs.Faults.{IsFaultlessSoFar, code_of}
 use Rattle.roster_model.specs.records.Base.{Base, base_at}
 use Rattle.roster_model.specs.records.Assign.{Assign, assigns_in}
-use Rattle.roster_problem.specs.View.{tables_of}
 use Rattle.roster_book.specs.declared.code.Code.{Code}
 use Rattle.roster_book.specs.declared.draft.Draft.{Draft}
 use Rattle.roster_book.specs.declared.refusal.Refusal.{Refusal}
@@ -18,8 +17,16 @@ use Rattle.roster_book.specs.View.{Refuses}
 
 -- the tables, without where they lie in memory
 abbrev pub tables_of_draft : Draft → Problem
-tables_of_draft d =
-    tables_of d.period d.weight d.bases.items d.persons.items d.pairings.items d.duties d.leaves.items d.costs
+tables_of_draft d = record {
+  period = d.period;
+  weight = d.weight;
+  bases = d.bases.items;
+  persons = d.persons.items;
+  pairings = d.pairings.items;
+  duties = d.duties;
+  leaves = d.leaves.items;
+  costs = d.costs;
+}
 
 -- what is kept: the tables, and who is assigned to pairings
 pub record Contents : Type 0 where

@@ -25,7 +25,9 @@ use crate::record::period;
 use crate::refusal::Refusal;
 use csv::ByteRecord;
 use roster_instants::Period;
-use roster_problem::{Base, Command, Costs, Duty, Holder, Leave, Pairing, Person, Problem};
+use roster_problem::{
+    Base, Command, Costs, Duty, Holder, Leave, Pairing, Person, Problem, Tables,
+};
 use std::alloc::Global;
 
 /// The tables of the records taken so far, and who is assigned to pairings. Duties are in the order of
@@ -143,17 +145,17 @@ impl Draft {
             return Err(Refusal::Fault(Code::NoDuty).at(row));
         }
         let assigned = self.assigned(alloc)?;
-        let problem = Problem::new(
-            alloc,
-            self.period,
-            self.weight,
-            self.bases,
-            self.persons,
-            self.pairings,
-            self.duties.into_vec(),
-            self.leaves,
-            self.costs,
-        )?;
+        let tables = Tables {
+            period: self.period,
+            weight: self.weight,
+            bases: self.bases,
+            persons: self.persons,
+            pairings: self.pairings,
+            duties: self.duties.into_vec(),
+            leaves: self.leaves,
+            costs: self.costs,
+        };
+        let problem = Problem::new(alloc, tables)?;
         Ok(Book { problem, assigned })
     }
 

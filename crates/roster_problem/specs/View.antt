@@ -1,21 +1,15 @@
 -- How the definitions see this crate's values.
-use Rattle.std.specs.Prelude.{ℕ, List, Option}
 use Rattle.roster_problem.specs.declared.command.Command.{Command}
 use Rattle.roster_problem.specs.declared.command.Command.TheVariants as commands
 use Rattle.roster_problem.specs.declared.duty.Holder.{Holder}
 use Rattle.roster_problem.specs.declared.duty.Holder.TheVariants as holders
 use Rattle.roster_problem.specs.declared.rule.Rule.{Rule}
 use Rattle.roster_problem.specs.declared.rule.Rule.TheVariants as rules
+use Rattle.roster_problem.specs.declared.tables.Tables.{Tables}
 use Rattle.roster_model.specs.Rules as judged
 use Rattle.roster_model.specs.Record as asked
-use Rattle.roster_model.specs.Calendar.{Period}
-use Rattle.roster_model.specs.Problem.{Problem}
-use Rattle.roster_model.specs.records.Base.{Base}
-use Rattle.roster_model.specs.records.Crew.{Person}
-use Rattle.roster_model.specs.records.Pairing.{Pairing}
+use Rattle.roster_model.specs.Problem.{Problem, in_order}
 use Rattle.roster_model.specs.records.Duty as model
-use Rattle.roster_model.specs.records.Leave.{Leave}
-use Rattle.roster_model.specs.records.Cost.{Cost}
 
 abbrev pub holder_of : Holder → model.Holder
 holder_of (holders.Pairing p) = model.OfPairing p
@@ -38,15 +32,19 @@ abbrev pub command_of : Command → asked.Command
 command_of commands.Solve = asked.Solve
 command_of commands.Check = asked.Check
 
--- the tables as one problem
-abbrev pub tables_of : Period → Option ℕ → List Base → List Person → List Pairing → List model.Duty → List Leave → List Cost → Problem
-tables_of period weight bases persons pairings duties leaves costs = record {
-  period = period;
-  weight = weight;
-  bases = bases;
-  persons = persons;
-  pairings = pairings;
-  duties = duties;
-  leaves = leaves;
-  costs = costs;
+-- the tables, without where they lie in memory
+abbrev pub tables_of : Tables → Problem
+tables_of t = record {
+  period = t.period;
+  weight = t.weight;
+  bases = t.bases.items;
+  persons = t.persons.items;
+  pairings = t.pairings.items;
+  duties = t.duties.items;
+  leaves = t.leaves.items;
+  costs = t.costs;
 }
+
+-- the same with the duties in their order in time
+abbrev pub ordered : Tables → Problem
+ordered t = record (tables_of t) { duties = in_order t.duties.items }

@@ -10,7 +10,8 @@
 //! - `order`: the order of duties in time
 //! - `index`: from a pairing to its duties, and from a person to their leaves
 //! - `costs`: costs by person and pairing
-//! - `problem`: the tables together
+//! - `tables`: the tables together
+//! - `problem`: the tables, with what is looked up in them
 //! - `set`: sets of pairings
 //! - `duty_list`: the duties of one person
 //! - `rule`: the rules by name
@@ -35,6 +36,7 @@ mod roster;
 mod rule;
 mod sector;
 mod set;
+mod tables;
 
 pub use base::Base;
 pub use command::Command;
@@ -52,3 +54,4 @@ pub use roster::{Places, Roster};
 pub use rule::Rule;
 pub use sector::Sector;
 pub use set::Set;
+pub use tables::Tables;

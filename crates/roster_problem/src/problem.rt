@@ -3,19 +3,19 @@
 ghost use Rattle.std.specs.Prelude.{◌≡◌, ◌<◌, ◌≤◌, IfOk, Some, length, slice_get, unsigned_abs};
 ghost use Rattle.roster_model.specs.declared.limits.TheConstants.{MOST_UNITS, MOST_WEIGHT};
 ghost use Rattle.roster_model.specs.Faults.{IsFaultless};
-ghost use Rattle.roster_model.specs.Problem.{home_of, in_order, units_of, weight_of};
+ghost use Rattle.roster_model.specs.Problem.{home_of, units_of, weight_of};
 ghost use Rattle.roster_model.specs.records.Leave.{is_leave_of};
 ghost use Rattle.roster_problem.specs.Duties.{AreFlown, ArePositionsOf, AreTimed, IsInOrder, is_of_pairing, is_of_person};
 ghost use Rattle.roster_problem.specs.Sound.{IsSound};
 
 use crate::base::Base;
-use crate::costs::Costs;
 use crate::duty::Duty;
 use crate::index::{Lists, by_place};
 use crate::leave::Leave;
 use crate::order::in_order;
 use crate::pairing::Pairing;
 use crate::person::Person;
+use crate::tables::Tables;
 use roster_instants::{BaseDays, Period};
 use roster_model::limits::MOST_DUTIES;
 use std::alloc::{AllocError, Global};
@@ -26,70 +26,42 @@ use std::marker::Model;
 /// A person and a pairing is named by its place in book order, from 0.
 #[derive(Debug, Drop)]
 pub struct Problem {
-    period: Period,
-    weight: Option<u32>,
-    bases: Vec<Base>,
-    persons: Vec<Person>,
-    pairings: Vec<Pairing>,
-    duties: Vec<Duty>,
-    leaves: Vec<Leave>,
-    costs: Costs,
+    // Duties are in their order in time.
+    tables: Tables,
     by_pairing: Lists,
     by_person: Lists,
     on_leave: Lists,
 }
 
 impl Model for Problem {
-    ghost use Rattle.roster_model.specs.Problem.{Problem as Tables};
+    ghost use Rattle.roster_model.specs.Problem.{Problem as Entries};
 
-    ghost Value = { Tables };
+    ghost Value = { Entries };
 
     ghost use Rattle.roster_problem.specs.Duties.{IsKept};
     ghost use Rattle.roster_problem.specs.View.{tables_of};
 
-    ghost view = { λ p. tables_of p.period p.weight p.bases.items p.persons.items
-        p.pairings.items p.duties.items p.leaves.items p.costs };
+    ghost view = { λ p. tables_of p.tables };
 
-    ghost invariant = { λ p. IsKept (tables_of p.period p.weight p.bases.items p.persons.items
-        p.pairings.items p.duties.items p.leaves.items p.costs)
-        p.by_pairing p.by_person p.on_leave };
+    ghost invariant = { λ p. IsKept (tables_of p.tables) p.by_pairing p.by_person p.on_leave };
 }
 
 impl Problem {
-    ghost use Rattle.roster_problem.specs.View.{tables_of};
+    ghost use Rattle.roster_problem.specs.View.{ordered};
 
     /// The problem of a book without a fault. Duties are put into their order in time.
-    pub fn new(
-        alloc: Global,
-        period: Period,
-        weight: Option<u32>,
-        bases: Vec<Base>,
-        persons: Vec<Person>,
-        pairings: Vec<Pairing>,
-        duties: Vec<Duty>,
-        leaves: Vec<Leave>,
-        costs: Costs,
-    ) -> Result<Problem, AllocError>
-        requires sound { IsSound (tables_of period weight bases.items persons.items pairings.items
-            (in_order duties.items) leaves.items costs) }
-        requires faultless { IsFaultless (tables_of period weight bases.items persons.items
-            pairings.items (in_order duties.items) leaves.items costs) }
-        ensures { IfOk result (λ problem. problem ≡ tables_of period weight bases.items
-            persons.items pairings.items (in_order duties.items) leaves.items costs) }
+    pub fn new(alloc: Global, mut tables: Tables) -> Result<Problem, AllocError>
+        requires sound { IsSound (ordered tables) }
+        requires faultless { IsFaultless (ordered tables) }
+        ensures { IfOk result (λ problem. problem ≡ ordered tables) }
     {
-        let duties = in_order(alloc, duties)?;
-        let by_pairing = by_place(alloc, pairings.len(), &duties, Duty::pairing)?;
-        let by_person = by_place(alloc, persons.len(), &duties, Duty::person)?;
-        let on_leave = by_place(alloc, persons.len(), &leaves, Leave::place)?;
+        let duties = in_order(alloc, tables.duties)?;
+        let by_pairing = by_place(alloc, tables.pairings.len(), &duties, Duty::pairing)?;
+        let by_person = by_place(alloc, tables.persons.len(), &duties, Duty::person)?;
+        let on_leave = by_place(alloc, tables.persons.len(), &tables.leaves, Leave::place)?;
+        tables.duties = duties;
         Ok(Problem {
-            period,
-            weight,
-            bases,
-            persons,
-            pairings,
-            duties,
-            leaves,
-            costs,
+            tables,
             by_pairing,
             by_person,
             on_leave,
@@ -100,7 +72,7 @@ impl Problem {
     pub fn period(&self) -> Period
         ensures { result ≡ self.now.period }
     {
-        self.period
+        self.tables.period
     }
 
     /// The cost of a minute by which a person's flight in the month misses the target; 0 where the book
@@ -109,7 +81,7 @@ impl Problem {
         ensures value { result ≡ weight_of self.now }
         ensures bound { result ≤ MOST_WEIGHT }
     {
-        self.weight.unwrap_or(0)
+        self.tables.weight.unwrap_or(0)
     }
 
     /// The cost units of the person at place `k` with the pairing at place `p`; 0 where the book gives
@@ -118,7 +90,7 @@ impl Problem {
         ensures value { result ≡ units_of self.now k p }
         ensures bound { unsigned_abs result ≤ MOST_UNITS }
     {
-        i64::from(self.costs.given(k, p).unwrap_or(0))
+        i64::from(self.tables.costs.given(k, p).unwrap_or(0))
     }
 
     /// The persons, in book order.
@@ -127,7 +99,7 @@ impl Problem {
         ensures sound { IsSound self.now }
         ensures faultless { IsFaultless self.now }
     {
-        self.persons.as_slice()
+        self.tables.persons.as_slice()
     }
 
     /// The pairings, in book order.
@@ -136,7 +108,7 @@ impl Problem {
         ensures sound { IsSound self.now }
         ensures faultless { IsFaultless self.now }
     {
-        self.pairings.as_slice()
+        self.tables.pairings.as_slice()
     }
 
     /// All duties, by report, release and row.
@@ -148,7 +120,7 @@ impl Problem {
         ensures timed { AreTimed self.now.duties }
         ensures flown { AreFlown self.now.duties }
     {
-        self.duties.as_slice()
+        self.tables.duties.as_slice()
     }
 
     /// All leaves, in book order.
@@ -156,7 +128,7 @@ impl Problem {
         ensures value { result.now ≡ self.now.leaves }
         ensures sound { IsSound self.now }
     {
-        self.leaves.as_slice()
+        self.tables.leaves.as_slice()
     }
 
     /// The positions in `duties` of the duties of the pairing at place `p`, in ascending order. It
@@ -193,7 +165,7 @@ impl Problem {
         requires { k < length self.now.persons }
         ensures { slice_get self.now.persons k ≡ Some result.now }
     {
-        &self.persons[k]
+        &self.tables.persons[k]
     }
 
     /// The pairing at place `p`.
@@ -201,7 +173,7 @@ impl Problem {
         requires { p < length self.now.pairings }
         ensures { slice_get self.now.pairings p ≡ Some result.now }
     {
-        &self.pairings[p]
+        &self.tables.pairings[p]
     }
 
     /// The home base of the person at place `k`.
@@ -209,8 +181,8 @@ impl Problem {
         requires { k < length self.now.persons }
         ensures { result.now ≡ home_of self.now k }
     {
-        let person = &self.persons[k];
-        &self.bases[person.base]
+        let person = &self.tables.persons[k];
+        &self.tables.bases[person.base]
     }
 
     /// The days of the window as the clocks of that person's home base show them.

@@ -8,4 +8,4 @@ returns-clause-bound c =
     let narrow : SFits w32 c.unwrap_or.result = search rules in
     let wide : SFits w64 c.from.result = search rules in
     rw (to_z-of_z w64 c.from.result wide, c.from.ensures, to_z-of_z w32 c.unwrap_or.result narrow, c.unwrap_or.ensures, c.given.ensures)
-    (units-limited c.self.inside.costs c.args.k c.args.p c.self.invariant.sound.units)
+    (units-limited c.self.inside.tables.costs c.args.k c.args.p c.self.invariant.sound.units)

@@ -1,0 +1,31 @@
+//! The tables of a problem.
+
+use crate::base::Base;
+use crate::costs::Costs;
+use crate::duty::Duty;
+use crate::leave::Leave;
+use crate::pairing::Pairing;
+use crate::person::Person;
+use roster_instants::Period;
+
+/// The tables of a problem, in book order; [`Problem`](crate::Problem) puts its duties into their order
+/// in time.
+#[derive(Debug, Drop)]
+pub struct Tables {
+    /// The month.
+    pub period: Period,
+    /// The cost of a minute by which a person's flight in the month misses the target, if it is given.
+    pub weight: Option<u32>,
+    /// The bases.
+    pub bases: Vec<Base>,
+    /// The persons.
+    pub persons: Vec<Person>,
+    /// The pairings.
+    pub pairings: Vec<Pairing>,
+    /// The duties.
+    pub duties: Vec<Duty>,
+    /// The leaves.
+    pub leaves: Vec<Leave>,
+    /// The costs.
+    pub costs: Costs,
+}
