@@ -1,12 +1,14 @@
 -- Records that are seen one by one, and then those that are left.
-use Rattle.std.proofs.Common.{◌≡◌, ◌∙◌, ap, sym, refl, ℕ, List, [], ◌∷◌, ◌++◌, Option, Some, None, append_assoc}
-use Rattle.std.specs.Prelude.{IfSome}
+use Rattle.std.proofs.Common.{◌≡◌, ◌∙◌, ap, sym, refl, ℕ, List, [], ◌∷◌, ◌++◌, Option, Some, None, Result, Ok, Err, append_assoc}
+use Rattle.std.specs.Prelude.{IfSome, IsErrAnd, MatchResult}
 use Rattle.std.proofs.lemmas.List.{append-nil}
 use Rattle.roster_model.specs.Record.{Record, Command, next_row}
 use Rattle.roster_model.specs.Faults.{IsFaultlessSoFar, code_of}
-use Rattle.roster_book.specs.Reading.{AreSeen, OfKnown, TellsFirst}
+use Rattle.roster_book.specs.Reading.{AreSeen, IsBookOf, OfKnown, TellsFirst}
 use Rattle.roster_book.specs.View.{Refuses, ToldAt}
+use Rattle.roster_book.specs.declared.book.Book.{Book}
 use Rattle.roster_book.specs.declared.fault.BookFault.{BookFault}
+use Rattle.roster_book.specs.declared.fault.BookFault.TheVariants.{Memory}
 use Rattle.roster_book.specs.declared.refusal.Refusal.{Refusal}
 use Rattle.roster_book.specs.declared.refusal.Refusal.TheVariants as refusals
 use Rattle.roster_book.proofs.FirstFaultLemmas.{first_fault-at}
@@ -50,3 +52,10 @@ pub refused-first : (command : Command) (row : ℕ) (seen : List Record) (fields
 refused-first command row seen fields last (refusals.Fault code) fault at faultless refuses told =
     rw (told, at) (first_fault-at command seen fields last _ faultless refuses)
 refused-first command row seen fields last refusals.Memory fault at faultless refuses told = rw told tt
+
+-- want of memory tells no fault of the records
+pub memory-told : (command : Command) (all : Option (List Record)) (r : Result Book BookFault) → IsErrAnd r (λ fault. fault ≡ Memory)
+    → MatchResult r (λ book. OfKnown (λ records. IsBookOf command records book) all) (λ fault. OfKnown (λ records. TellsFirst command records fault) all)
+memory-told command all (Ok book) h = absurd h
+memory-told command None (Err fault) h = rw h ([], tt)
+memory-told command (Some records) (Err fault) h = rw h tt

@@ -7,7 +7,7 @@ use Rattle.roster_problem.specs.View.{command_of}
 use Rattle.roster_book.specs.declared.refusal.Refusal.TheVariants as refusals
 use Rattle.roster_book.proofs.Drafts.{HasRecords-draft}
 use Rattle.roster_book.proofs.FirstFaultLemmas.{first_fault-of-none}
-use Rattle.roster_book.proofs.SeenRecords.{refused-first, seen-all, seen-more, seen-next, seen-none}
+use Rattle.roster_book.proofs.SeenRecords.{memory-told, refused-first, seen-all, seen-more, seen-next, seen-none}
 use Rattle.roster_book.proofs.Sound.{few_records}
 use Rattle.roster_book.proofs.reading.read_all.Goals as goal
 
@@ -59,6 +59,10 @@ returns-in-Err-take-clause-told g c =
     let next = c.in_ok-next_record-2.ensures.record c.if-not-branch-2.false in
     seen-next _ _ _ seen fields (λ all. TellsFirst command all c.at-in-Err-take.result) h.follows next.1
     (λ last. refused-first command c.loop-row.row seen fields last c.in-Err-take.refusal c.at-in-Err-take.result h.draft.row_is h.draft.faultless (c.in-Err-take.ensures seen h.draft) c.at-in-Err-take.ensures)
+
+pub returns-in_err-next_record-2-clause-told : goal.returns-in_err-next_record-2-clause-told
+returns-in_err-next_record-2-clause-told g c =
+    memory-told (command_of c.args.command) (records_left g.R.Read.remaining c.args.reader.now) _ c.from_residual-in_err-next_record-2.ensures.1
 
 -- ---- the loop
 
