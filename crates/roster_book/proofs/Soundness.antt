@@ -17,7 +17,7 @@ use Rattle.roster_model.specs.records.Sector.{sector_of, sectors_in}
 use Rattle.roster_problem.specs.Sound.{IsSound, IsHolder}
 use Rattle.roster_book.specs.Flown.{sector_count}
 use Rattle.roster_book.proofs.SectorTable.{sector_count_none}
-use Rattle.roster_book.proofs.Tables.{grown, is_same, tables_with}
+use Rattle.roster_book.proofs.Tables.{grown, is_same, tables_of_period, tables_with}
 
 -- ---- what one more entry keeps
 
@@ -108,7 +108,7 @@ pub record AreSound (count sectors : ℕ) (tables : Problem) (assigns : List Ass
   pub assigned : AreAssigned (length tables.pairings) (length tables.persons) assigns
   pub count_is : count ≤ 1 + entries tables + length assigns + sectors
 
-pub sound-none : {period : Period} → AreSound 1 0 (record { period = period; weight = None; bases = []; persons = []; pairings = []; duties = []; leaves = []; costs = [] }) []
+pub sound-none : {period : Period} → AreSound 1 0 (tables_of_period period) []
 unfolding IsDistinct
 sound-none = record {
   sound = record {

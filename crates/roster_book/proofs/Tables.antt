@@ -6,6 +6,7 @@ use Rattle.std.specs.Option.{option_or}
 use Rattle.std.specs.Str.{bytes_eq}
 use Rattle.std.proofs.lemmas.Slice.Eq.{bytes_eq-Decides}
 use Rattle.roster_model.specs.Record.{Record, Kind, PeriodRecord, WeightRecord, BaseRecord, CrewRecord, PairingRecord, DutyRecord, SectorRecord, LeaveRecord, CostRecord, AssignRecord, field, word_of, is_of, entry_of, gather_after, table_of}
+use Rattle.roster_model.specs.Calendar.{Period}
 use Rattle.roster_model.specs.Problem.{Problem, tables_in}
 use Rattle.roster_model.specs.records.Period.{period_in}
 use Rattle.roster_model.specs.records.Weight.{weight_in, weight_of, weights_in}
@@ -68,27 +69,26 @@ weight_in-append kind before fields h =
     ap (λ (weights : List ℕ). slice_get weights 0) (table_of-append kind WeightRecord weight_of before fields h)
     ∙ first_of_grown (is_same kind WeightRecord) (weights_in before) (weight_of before fields)
 
+-- duties with a sector more, or with a duty more
+abbrev duties_by : Bool → Bool → GivenSector → Duty → List Duty → List Duty
+duties_by true of_duty given duty duties = with_sector_at duties given.duty given.sector
+duties_by false of_duty given duty duties = grown of_duty duties duty
+
 -- duties with what a record of the kind adds
 abbrev pub duties_with : Kind → List Record → Record → List Duty → List Duty
-duties_with kind before fields duties = flown_by (is_same kind SectorRecord) (sector_of before fields)
-  where
-    flown_by : Bool → GivenSector → List Duty
-    flown_by true given = with_sector_at duties given.duty given.sector
-    flown_by false given = grown (is_same kind DutyRecord) duties (duty_of before fields)
+duties_with kind before fields duties = duties_by (is_same kind SectorRecord) (is_same kind DutyRecord) (sector_of before fields) (duty_of before fields) duties
 
-duties_with-is : (kind : Kind) (before : List Record) (fields : Record)
-    → flown (grown (is_same kind SectorRecord) (sectors_in before) (sector_of before fields)) (grown (is_same kind DutyRecord) (duties_in before) (duty_of before fields))
-    ≡ duties_with kind before fields (flown (sectors_in before) (duties_in before))
-duties_with-is PeriodRecord before fields = refl
-duties_with-is WeightRecord before fields = refl
-duties_with-is BaseRecord before fields = refl
-duties_with-is CrewRecord before fields = refl
-duties_with-is PairingRecord before fields = refl
-duties_with-is DutyRecord before fields = flown-duty before fields
-duties_with-is LeaveRecord before fields = refl
-duties_with-is CostRecord before fields = refl
-duties_with-is AssignRecord before fields = refl
-duties_with-is SectorRecord before fields = flown-sector (sectors_in before) (sector_of before fields) (duties_in before)
+duties_by-is : (of_sector of_duty : Bool) (before : List Record) (fields : Record) → (of_sector ≡ true → of_duty ≡ false)
+    → flown (grown of_sector (sectors_in before) (sector_of before fields)) (grown of_duty (duties_in before) (duty_of before fields))
+    ≡ duties_by of_sector of_duty (sector_of before fields) (duty_of before fields) (flown (sectors_in before) (duties_in before))
+duties_by-is true true before fields one = cc (one refl)
+duties_by-is true false before fields one = flown-sector (sectors_in before) (sector_of before fields) (duties_in before)
+duties_by-is false true before fields one = flown-duty before fields
+duties_by-is false false before fields one = refl
+
+-- no kind is that of sectors and that of duties
+one_of_both : (kind : Kind) → is_same kind SectorRecord ≡ true → is_same kind DutyRecord ≡ false
+one_of_both kind h = ap (λ word. bytes_eq word (word_of DutyRecord)) ((bytes_eq-Decides (word_of kind) (word_of SectorRecord)).0 h)
 
 -- the tables with what a record of the kind adds
 abbrev pub tables_with : Kind → List Record → Record → Problem → Problem
@@ -110,10 +110,9 @@ contents_with kind before fields contents = record {
   assigns = grown (is_same kind AssignRecord) contents.assigns (assign_of before fields);
 }
 
-pub tables_in-append : (kind : Kind) (before : List Record) (fields : Record) → 0 < length before → is_of kind fields ≡ true
-    → tables_in (before ++ fields ∷ []) ≡ tables_with kind before fields (tables_in before)
-tables_in-append kind before fields begun h = rw (
-  period_in-append before fields begun,
+tables_in-grown : (kind : Kind) (before : List Record) (fields : Record) → is_of kind fields ≡ true
+    → tables_in (before ++ fields ∷ []) ≡ record (tables_with kind before fields (tables_in before)) { period = period_in (before ++ fields ∷ []) }
+tables_in-grown kind before fields h = rw (
   weight_in-append kind before fields h,
   table_of-append kind BaseRecord base_of before fields h,
   table_of-append kind CrewRecord person_of before fields h,
@@ -122,22 +121,23 @@ tables_in-append kind before fields begun h = rw (
   table_of-append kind SectorRecord sector_of before fields h,
   table_of-append kind LeaveRecord leave_of before fields h,
   table_of-append kind CostRecord cost_of before fields h,
-  duties_with-is kind before fields,
+  duties_by-is (is_same kind SectorRecord) (is_same kind DutyRecord) before fields (one_of_both kind),
 )
 
+-- the month stays that of the first record
+pub tables_in-append : (kind : Kind) (before : List Record) (fields : Record) → 0 < length before → is_of kind fields ≡ true
+    → tables_in (before ++ fields ∷ []) ≡ tables_with kind before fields (tables_in before)
+tables_in-append kind before fields begun h =
+    tables_in-grown kind before fields h
+    ∙ ap (λ month. record (tables_with kind before fields (tables_in before)) { period = month }) (period_in-append before fields begun)
+
 -- the tables of a period alone
-pub tables_in-first : (fields : Record) → is_of PeriodRecord fields ≡ true
-    → tables_in (fields ∷ []) ≡ record { period = period_in (fields ∷ []); weight = None; bases = []; persons = []; pairings = []; duties = []; leaves = []; costs = [] }
+abbrev pub tables_of_period : Period → Problem
+tables_of_period period = record { period = period; weight = None; bases = []; persons = []; pairings = []; duties = []; leaves = []; costs = [] }
+
+pub tables_in-first : (fields : Record) → is_of PeriodRecord fields ≡ true → tables_in (fields ∷ []) ≡ tables_of_period (period_in (fields ∷ []))
 unfolding gather_after flown_from
-tables_in-first fields h = rw (
-  is_of-other PeriodRecord WeightRecord fields h,
-  is_of-other PeriodRecord BaseRecord fields h,
-  is_of-other PeriodRecord CrewRecord fields h,
-  is_of-other PeriodRecord PairingRecord fields h,
-  is_of-other PeriodRecord DutyRecord fields h,
-  is_of-other PeriodRecord LeaveRecord fields h,
-  is_of-other PeriodRecord CostRecord fields h,
-) refl
+tables_in-first fields h = tables_in-grown PeriodRecord [] fields h
 
 -- the sectors of a period alone
 pub no_sector : (fields : Record) → is_of PeriodRecord fields ≡ true → sectors_in (fields ∷ []) ≡ []

@@ -25,9 +25,7 @@ use crate::record::period;
 use crate::refusal::Refusal;
 use csv::ByteRecord;
 use roster_instants::Period;
-use roster_problem::{
-    Base, Command, Costs, Duty, Holder, Leave, Pairing, Person, Problem, Tables,
-};
+use roster_problem::{Base, Command, Costs, Duty, Holder, Leave, Pairing, Person, Problem, Tables};
 use std::alloc::Global;
 
 /// The tables of the records taken so far, and who is assigned to pairings. Duties are in the order of
