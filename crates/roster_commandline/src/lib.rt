@@ -1,4 +1,6 @@
-//! The command line, on `clap`: `read_line` takes the words, or tells why it refuses them.
+//! The command line, on `clap`.
+//!
+//! - `line`: `read_line` takes the words, or tells why it refuses them
 #![tactic(auto)]
 
 mod line;

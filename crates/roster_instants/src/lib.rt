@@ -8,7 +8,7 @@
 //! - `text`: shapes of texts, and the digits in them
 //! - `minute`: instants to the minute
 //! - `period`: months
-//! - `clocks`: what the clocks of a place show, by its zone text
+//! - `clocks`: what the clocks of a base show, by its zone text
 //! - `days`: the local days round a month at a base
 //! - `laws`: what ties the definition of these days to `jiff`'s own conversion
 #![tactic(auto)]

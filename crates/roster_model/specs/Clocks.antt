@@ -1,4 +1,4 @@
--- What the clocks of a place show, where the text of its zone is the rule. The text is a POSIX rule
+-- What the clocks of a base show, where the text of its zone is the rule. The text is a POSIX rule
 -- (RFC 9636): `jiff` says what it spells, and on which day of a year each of its changes falls. An
 -- hour that the clocks skip or show twice stands for one instant, as RFC 5545 (3.3.5) and `jiff`'s
 -- compatible conversion have it.

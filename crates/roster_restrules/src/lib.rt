@@ -3,7 +3,10 @@
 //! `rest_needed` tells how long the rest between two duties has to be, and `rest_ok` whether a
 //! person's list keeps it between any two neighbours. `is_recurrent` tells whether the time between two
 //! duties is a recurrent rest, and `recovery_ok` whether such rests follow one another soon enough.
-//! None of them takes memory.
+//! None of them takes memory. In reading order:
+//!
+//! - `rest`: the rest between two duties
+//! - `recovery`: recurrent rests
 #![tactic(auto)]
 
 mod recovery;

@@ -2,7 +2,7 @@
 //!
 //! - `running`: a book is read, and its one answer written
 //! - `status`: how a run ends
-//! - `law`: records have one answer
+//! - `law`: records have an answer, and no second
 #![tactic(auto)]
 
 mod law;
