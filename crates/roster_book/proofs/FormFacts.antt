@@ -2,7 +2,7 @@
 use Rattle.std.proofs.Common.{◌≡◌, ◌≢◌, Bor, IsOk, MatchResult, ℕ, zero, suc, ◌<◌, ◌≤◌, Bool, true, false, ◌==◌, cond, List, [], ◌∷◌, length, drop, ℤ, pos, Some, Result, Ok, Err, w64, refl, sym, subst, arith}
 use Rattle.std.specs.Str.{IsAscii, IsUtf8}
 use Rattle.std.proofs.lemmas.Str.{IsUtf8-from_ascii}
-use Rattle.std.specs.Char.{is_ascii_digit, is_ascii_graphic}
+use Rattle.std.specs.Char.{is_ascii_digit}
 use Rattle.std.specs.Int.{IsInRange, is_in_range}
 use Rattle.std.specs.List.{list_all}
 use Rattle.std.specs.Result.{OkIff, result_ok}
@@ -36,14 +36,6 @@ pub IsAscii-digits : (ds : List ℕ) → AreDigits ds → IsAscii ds
 IsAscii-digits [] h i = omega arith
 IsAscii-digits (c ∷ cs) h zero = let r = digit_range c (both_of (is_ascii_digit c) (list_all is_ascii_digit cs) h).0 in omega arith
 IsAscii-digits (c ∷ cs) h (suc i) = IsAscii-digits cs (both_of (is_ascii_digit c) (list_all is_ascii_digit cs) h).1 i
-
-graphic_range : (c : ℕ) → is_ascii_graphic c ≡ true → c < 128
-graphic_range c h = grind (arith, nat_tests)
-
-pub IsAscii-graphic : (bs : List ℕ) → list_all is_ascii_graphic bs ≡ true → IsAscii bs
-IsAscii-graphic [] h i = omega arith
-IsAscii-graphic (c ∷ cs) h zero = graphic_range c (both_of (is_ascii_graphic c) (list_all is_ascii_graphic cs) h).0
-IsAscii-graphic (c ∷ cs) h (suc i) = IsAscii-graphic cs (both_of (is_ascii_graphic c) (list_all is_ascii_graphic cs) h).1 i
 
 -- after a minus or not, what follows is ASCII
 IsAscii-behind : (text : List ℕ) (m : Bool) → (text ≡ text) → starts_with_minus text ≡ m → IsAscii (cond m (drop 1 text) text) → IsAscii text

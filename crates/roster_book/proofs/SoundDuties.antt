@@ -14,7 +14,7 @@ use Rattle.roster_model.specs.records.Sector as sector
 use Rattle.roster_model.specs.records.Leave as leave
 use Rattle.roster_model.specs.records.Crew.{persons_in, person_place}
 use Rattle.roster_model.specs.records.Pairing.{pairing_place}
-use Rattle.roster_model.specs.records.Duty.{Duty, Holder, OfPairing, OfPerson, duty_of, duties_in, duty_place, holder_in, holder_name_in, letter_in, conditions_held, is_of_pairing}
+use Rattle.roster_model.specs.records.Duty.{Duty, Holder, OfPairing, OfPerson, duty_of, duties_in, duty_place, holder_in, holder_name_in, letter_in, conditions_held, is_pairing_letter}
 use Rattle.roster_model.specs.records.Sector.{conditions_within, duty_name_in, flown, sector_of, sectors_in}
 use Rattle.roster_model.specs.records.Leave.{leave_of, leaves_in, crew_in}
 use Rattle.roster_problem.specs.Sound.{IsHolder}
@@ -53,7 +53,7 @@ sound-duty count before fields t assigns k =
     let met = AreMet-none (duty.conditions busy before fields) k.met in
     let h = held busy before (holder_in before fields) _ _ _ met.1.1.1 in
     let n = has_room MOST_DUTIES t.duties made (rw (k.tables_are, flown_count (sectors_in before) (duties_in before)) h.room) in
-    let holder : IsHolder (length t.pairings) (length t.persons) made.holder = rw k.tables_are (holder_of_place _ _ (is_of_pairing (letter_in fields)) (pairing_place before (holder_name_in fields)) (person_place before (holder_name_in fields)) (place-below _ _ _) (place-below _ _ _) h.known) in
+    let holder : IsHolder (length t.pairings) (length t.persons) made.holder = rw k.tables_are (holder_of_place _ _ (is_pairing_letter (letter_in fields)) (pairing_place before (holder_name_in fields)) (person_place before (holder_name_in fields)) (place-below _ _ _) (place-below _ _ _) h.known) in
     let holders = All-push (λ d. IsHolder (length t.pairings) (length t.persons) d.holder) t.duties made s.holders holder in
     sound-more k.sound (assumption (n.few, holders, s)) (sector_count_bare t.duties made refl) k.sound.assigned (omega arith)
 

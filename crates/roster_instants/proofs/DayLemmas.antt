@@ -82,7 +82,7 @@ day_from_earliest year month day from first =
     let same = day_number_is year month day (omega arith) first in
     omega (arith, ints, day_count-epoch)
 
--- a month begins two years before the last day that there is
+-- a month begins before 1 January 9998, two years before the last day that there is
 pub day_to_latest : (year month : ℕ) → FIRST_MONTH_YEAR ≤ year → year ≤ LAST_MONTH_YEAR → 1 ≤ month → month ≤ 12 → day_number year month 1 ≤ LATEST_MONTH
 day_to_latest year month from to low high =
     let rest = day_count-later_year (pos year) (pos 9998) (omega (arith, signed_arith)) (omega (arith, signed_arith)) in

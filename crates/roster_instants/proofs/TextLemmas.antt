@@ -19,13 +19,6 @@ pointwise-zip test [] (y ∷ ys) e = absurd (omega arith)
 pointwise-zip test (x ∷ xs) [] e = absurd (omega arith)
 pointwise-zip test (x ∷ xs) (y ∷ ys) e = ap (λ b. test x y && b) (pointwise-zip test xs ys (omega arith))
 
--- lists that are alike point by point have one length
-pub pointwise-length : {A B : Type 0} (test : A → B → Bool) (xs : List A) (ys : List B) → pointwise test xs ys ≡ true → length xs ≡ length ys
-pointwise-length test [] [] e = refl
-pointwise-length test [] (y ∷ ys) e = cc
-pointwise-length test (x ∷ xs) [] e = cc
-pointwise-length test (x ∷ xs) (y ∷ ys) e = ap (λ n. suc n) (pointwise-length test xs ys ((and_parts _ _ e).1))
-
 pointwise-drop : {A B : Type 0} (test : A → B → Bool) (n : ℕ) (xs : List A) (ys : List B) → pointwise test xs ys ≡ true → pointwise test (drop n xs) (drop n ys) ≡ true
 pointwise-drop test zero xs ys e = e
 pointwise-drop test (suc n) [] [] e = e

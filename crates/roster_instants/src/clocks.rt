@@ -27,13 +27,13 @@ pub(crate) const TEN: u8 = 22;
 /// for 1970-01-01.
 pub(crate) const EARLIEST_MONTH: usize = 365;
 
-/// The number of 1 January 9998, after which no month begins.
+/// The number of 1 January 9998, before which each month begins.
 pub(crate) const LATEST_MONTH: usize = 2_932_167;
 
 /// The first day that a window may hold.
 pub(crate) const FIRST_DAY: usize = EARLIEST_MONTH - DAYS_BEFORE;
 
-/// The last day that a window may hold or end with.
+/// No window reaches this day.
 pub(crate) const LAST_DAY: usize = LATEST_MONTH + MOST_DAYS;
 
 /// The clocks of a base, whose zone follows a rule. They are asked for days from [`FIRST_DAY`] to

@@ -11,6 +11,9 @@ use jiff::civil::Date;
 use roster_model::limits::{FIRST_YEAR, LAST_INSTANT, LAST_YEAR};
 use std::marker::Model;
 
+/// The number of 31 December 9999, the last date that `jiff` has.
+const LAST_DATE: u32 = 2_932_896;
+
 /// An instant: whole minutes since 1970-01-01T00:00Z, from 0 to [`LAST_INSTANT`], which the type keeps.
 #[derive(Clone, Copy, Debug, Drop, PartialEq, Eq, PartialOrd, Ord)]
 pub struct Minute {
@@ -33,7 +36,7 @@ impl Model for Minute {
 impl Minute {
     /// The instant of a minute of the day, from 0 to 1439, on the day with this number at UTC.
     fn on_day(day: u32, minute: u32) -> Minute
-        requires last { day ≤ 2_932_896 }
+        requires last { day ≤ LAST_DATE }
         requires within { minute < 1440 }
         ensures { result ≡ day * 1440 + minute }
     {
@@ -77,7 +80,7 @@ pub fn common(a: Minute, b: Minute, c: Minute, d: Minute) -> i64
 pub(crate) fn number_of(date: Date) -> u32
     requires { pos 0 ≤ℤ epoch_day date }
     ensures value { pos result ≡ epoch_day date }
-    ensures bound { result ≤ 2_932_896 }
+    ensures bound { result ≤ LAST_DATE }
 {
     date.to_plain().to_unix_epoch_day() as u32
 }
@@ -91,7 +94,7 @@ fn day_number(year: u16, month: u16, day: u16) -> Option<u32>
     requires day_fits { day < 100 }
     ensures { MatchOption result (is_real_date year month day ≡ false)
         (λ n. (is_real_date year month day ≡ true) × (n ≡ day_number year month day)
-        × (n ≤ 2_932_896)) }
+        × (n ≤ LAST_DATE)) }
 {
     let date = Date::new(year as i16, month as i8, day as i8).ok()?;
     Some(number_of(date))

@@ -23,8 +23,8 @@ impl Model for Period {
 
     ghost view = { λ p. record { year = unsigned_abs p.year; month = unsigned_abs p.month } };
 
-    ghost invariant = { λ p. (pos FIRST_MONTH_YEAR ≤ℤ p.year) × (p.year ≤ℤ pos LAST_MONTH_YEAR) × (pos 1 ≤ℤ p.month)
-        × (p.month ≤ℤ pos 12) };
+    ghost invariant = { λ p. (pos FIRST_MONTH_YEAR ≤ℤ p.year) × (p.year ≤ℤ pos LAST_MONTH_YEAR)
+        × (pos 1 ≤ℤ p.month) × (p.month ≤ℤ pos 12) };
 
     ghost inverse = { λ m. record { year = pos m.year; month = pos m.month } };
 }

@@ -22,9 +22,9 @@ pub struct Judge<'a> {
 
 impl<'a> Model for Judge<'a> {
     ghost use Rattle.std.specs.Prelude.{◌≡◌, []};
-    ghost use Rattle.roster_model.specs.Problem.{Problem as Tables};
+    ghost use Rattle.roster_model.specs.Problem.{Problem};
 
-    ghost Value = { Tables };
+    ghost Value = { Problem };
 
     ghost view = { λ j. j.problem.now };
 

@@ -1,8 +1,8 @@
 -- The tables of a zone's days have the window's lengths, and rise, and the month is short.
-use Rattle.std.proofs.Common.{◌≡◌, ◌∙◌, sym, ℕ, pos, inl, inr, ◌+◌, ◌-◌, ◌<◌, ◌≤◌, Bool, true, false, not, ◌&&◌, nat_lt, cond, List, length, zero, suc, refl, ap, arith, subst, Option, Some, None, Result, Ok, Err, get_or}
+use Rattle.std.proofs.Common.{◌≡◌, ◌∙◌, sym, ℕ, pos, inl, inr, ◌+◌, ◌-◌, ◌<◌, ◌≤◌, Bool, true, false, not, ◌&&◌, nat_lt, cond, List, length, zero, suc, refl, ap, arith, Option, Some, None, Result, Ok, Err, get_or}
 use Rattle.std.specs.List.{list_all, range_with_len, slice_get}
 use Rattle.std.specs.List.Sorted.{IsStrictlyIncreasing}
-use Rattle.std.proofs.lemmas.Bool.{and_parts, cases_eq, cases_order}
+use Rattle.std.proofs.lemmas.Bool.{and_parts, cases_eq}
 use Rattle.std.proofs.lemmas.Bool.Decides.{nat_tests}
 use Rattle.std.proofs.lemmas.Option.{slice_get_within, slice_get-get_or, get_or_from_slice_get}
 use Rattle.std.proofs.lemmas.List.FromFn.{length-map-range_with_len, get_or-map-range_with_len}
@@ -12,7 +12,7 @@ use Rattle.jiff_tz.specs.PosixRule.{match_some}
 use Rattle.jiff_tz.specs.PosixText.{TzText}
 use Rattle.roster_model.proofs.OffsetLemmas.{AreNear, days-short, read-near}
 use Rattle.roster_model.specs.declared.limits.TheConstants.{DAYS_BEFORE, MOST_MONTH_MINUTES}
-use Rattle.roster_model.specs.Calendar.{Period, Days, IsDayOf, IsRising, IsTable, days_of_month, days_of_window, first_day, month_start, month_end}
+use Rattle.roster_model.specs.Calendar.{Period, Days, IsRising, IsTable, days_of_month, days_of_window, first_day, month_start, month_end}
 use Rattle.roster_model.specs.Clocks.{minute_at}
 use Rattle.roster_model.specs.Zone.{ZoneRefusal, NotRead, NotMinutes, NotRising, days_of_zone, days_by_rule, table_of, has_minutes, rises, rises_on, instants_at}
 

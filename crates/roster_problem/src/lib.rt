@@ -16,7 +16,7 @@
 //! - `duty_list`: the duties of one person
 //! - `rule`: the rules by name
 //! - `roster`: who flies what
-//! - `command`: what is asked of a problem
+//! - `command`: what the program is asked to do
 #![tactic(auto)]
 
 mod base;

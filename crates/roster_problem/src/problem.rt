@@ -34,9 +34,9 @@ pub struct Problem {
 }
 
 impl Model for Problem {
-    ghost use Rattle.roster_model.specs.Problem.{Problem as Entries};
+    ghost use Rattle.roster_model.specs.Problem as model;
 
-    ghost Value = { Entries };
+    ghost Value = { model.Problem };
 
     ghost use Rattle.roster_problem.specs.Duties.{IsKept};
     ghost use Rattle.roster_problem.specs.View.{tables_of};

@@ -8,8 +8,8 @@ use crate::pairing::Pairing;
 use crate::person::Person;
 use roster_instants::Period;
 
-/// The tables of a problem, in book order; [`Problem`](crate::Problem) puts its duties into their order
-/// in time.
+/// The tables of a problem. They are given in book order; [`Problem`](crate::Problem) puts the duties
+/// into their order in time.
 #[derive(Debug, Drop)]
 pub struct Tables {
     /// The month.

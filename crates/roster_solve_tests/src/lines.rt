@@ -5,6 +5,7 @@ use roster_lines::{
     Lines, TableFault, few_are_not_crowded, has_numbers, lines_of, nobody_is_crowded,
     one_list_of_lines, one_list_of_numbers, table_of,
 };
+use roster_model::limits::MOST_PAIRINGS;
 use roster_problem::{Problem, Set};
 use std::alloc::{AllocError, Global};
 use std::test::Fail;
@@ -72,9 +73,9 @@ pub fn problem_of(alloc: Global, days: &[u8]) -> Result<Problem, Fail> {
 
 /// The set of these pairings.
 fn set_of(pairings: &[usize]) -> Set {
-    let mut places = [1; 256];
+    let mut places = [1; MOST_PAIRINGS];
     for p in pairings {
-        if *p < 256 {
+        if *p < MOST_PAIRINGS {
             places[*p] = 0;
         }
     }
@@ -88,12 +89,12 @@ fn stands(lines: &Lines, pairings: &[usize], number: usize) -> bool {
 
 #[test]
 fn pairings_of_one_day_are_lines_alone(rt: HostRuntime) -> Result<(), Fail> {
-    let problem = problem_of(rt.alloc(), &[4; 256])?;
+    let problem = problem_of(rt.alloc(), &[4; MOST_PAIRINGS])?;
     assert!(rt; problem.persons().len() == 1);
     let lines = lines_of(rt.alloc(), &problem, 0)?;
-    assert!(rt; lines.width() == 257);
+    assert!(rt; lines.width() == MOST_PAIRINGS + 1);
     assert!(rt; lines.set(0).is_empty());
-    for i in 1..257 {
+    for i in 1..MOST_PAIRINGS + 1 {
         assert!(rt; lines.set(i) == set_of(&[i - 1]));
     }
     Ok(())

@@ -3,6 +3,7 @@
 use crate::lines::{book_of, problem_of};
 use roster_book::{Command, Watched, read_book};
 use roster_combine::{solve, solve_plainly};
+use roster_model::limits::MOST_PAIRINGS;
 use roster_problem::Roster;
 use std::alloc::Global;
 use std::test::Fail;
@@ -50,16 +51,16 @@ fn both_searches_find_the_same_roster(rt: HostRuntime) -> Result<(), Fail> {
 
 /// Whether both searches leave as many pairings as may be open where nobody is there.
 fn leave_all_open(alloc: Global) -> Result<bool, Fail> {
-    let book = book_of(alloc, b"", &[4; 256])?;
-    find(alloc, &book, &[0; 256], 256)
+    let book = book_of(alloc, b"", &[4; MOST_PAIRINGS])?;
+    find(alloc, &book, &[0; MOST_PAIRINGS], MOST_PAIRINGS as i64)
 }
 
 /// Whether the first of as many pairings as may be, all at one time, is flown.
 fn flies_the_first(alloc: Global) -> Result<bool, Fail> {
-    let problem = problem_of(alloc, &[4; 256])?;
-    let mut places = [1; 256];
+    let problem = problem_of(alloc, &[4; MOST_PAIRINGS])?;
+    let mut places = [1; MOST_PAIRINGS];
     places[0] = 0;
-    Ok(is(&solve(alloc, &problem)?, &places, 255))
+    Ok(is(&solve(alloc, &problem)?, &places, MOST_PAIRINGS as i64 - 1))
 }
 
 #[test]

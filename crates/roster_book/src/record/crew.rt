@@ -1,10 +1,10 @@
 //! `crew,ID,BASE,TARGET,YEAR,ELEVEN`: a person.
 
-ghost use Rattle.std.specs.Prelude.{◌≡◌, ◌&&◌, ℕ, List, Some, true, false, MatchOption};
+ghost use Rattle.std.specs.Prelude.{◌≡◌, ◌&&◌, List, Some, true, false, MatchOption};
 ghost use Rattle.csv.specs.Records.{fields_of};
 ghost use Rattle.roster_model.specs.Record.{Record, Command, CrewRecord, amount_of};
 ghost use Rattle.roster_model.specs.Faults.{code_of_kind};
-ghost use Rattle.roster_model.specs.records.Crew.{id_in, home_in, target_in, year_in, eleven_in, is_formed, is_limited, person_of};
+ghost use Rattle.roster_model.specs.records.Crew.{id_in, target_in, year_in, eleven_in, is_formed, is_limited, person_of};
 ghost use Rattle.roster_book.specs.Draft.{IsDraftOf, Judges, contents_of};
 
 use crate::code::Code;

@@ -35,15 +35,15 @@ struct Form {
 }
 
 // Whether it is the letter of a pairing's duties.
-fn is_of_pairing(letter: &[u8]) -> bool
-    ensures { result ≡ model.is_of_pairing letter.now }
+fn is_pairing_letter(letter: &[u8]) -> bool
+    ensures { result ≡ model.is_pairing_letter letter.now }
 {
     letter == b"P".as_slice()
 }
 
 // Whether it is the letter of a person's fixed duties.
-fn is_of_person(letter: &[u8]) -> bool
-    ensures { result ≡ model.is_of_person letter.now }
+fn is_person_letter(letter: &[u8]) -> bool
+    ensures { result ≡ model.is_person_letter letter.now }
 {
     letter == b"C".as_slice()
 }
@@ -57,7 +57,7 @@ fn formed(fields: &ByteRecord) -> Option<Form>
 {
     let id = Name::new(field(fields, 1))?;
     let letter = field(fields, 2);
-    if !is_of_pairing(letter) && !is_of_person(letter) || !is_identifier(field(fields, 3)) {
+    if !is_pairing_letter(letter) && !is_person_letter(letter) || !is_identifier(field(fields, 3)) {
         return None;
     }
     Some(Form {
@@ -101,7 +101,7 @@ impl Draft {
             (length self.now.persons.items) (holder_of holder)) }
     {
         let name = field(fields, 3);
-        if is_of_pairing(field(fields, 2)) {
+        if is_pairing_letter(field(fields, 2)) {
             Some(Holder::Pairing(place_of(&self.pairings, name)?))
         } else {
             Some(Holder::Person(place_of(&self.persons, name)?))

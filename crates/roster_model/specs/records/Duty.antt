@@ -66,16 +66,16 @@ release_in fields = field fields 6
 
 -- ---- what a record of a duty adds: the records of its sectors come after it
 
-abbrev pub is_of_pairing : List ℕ → Bool
-is_of_pairing letter = bytes_eq letter (codes "P")
+abbrev pub is_pairing_letter : List ℕ → Bool
+is_pairing_letter letter = bytes_eq letter (codes "P")
 
-abbrev pub is_of_person : List ℕ → Bool
-is_of_person letter = bytes_eq letter (codes "C")
+abbrev pub is_person_letter : List ℕ → Bool
+is_person_letter letter = bytes_eq letter (codes "C")
 
 -- its holder, if that was given before: the letter says among which names it is looked up
 abbrev pub holder_in : List Record → Record → Option Holder
 holder_in before fields =
-    if is_of_pairing (letter_in fields)
+    if is_pairing_letter (letter_in fields)
     then option_map OfPairing (pairing_place before (holder_name_in fields))
     else option_map OfPerson (person_place before (holder_name_in fields))
 
@@ -106,7 +106,7 @@ last_duty duties p = last_or None (filter (λ duty. is_held_by_pairing p duty.ho
 abbrev pub is_formed : Record → Bool
 is_formed fields =
     is_identifier (id_in fields)
-    && (is_of_pairing (letter_in fields) || is_of_person (letter_in fields))
+    && (is_pairing_letter (letter_in fields) || is_person_letter (letter_in fields))
     && is_identifier (holder_name_in fields) && is_identifier (station_in fields)
     && is_some (instant_of (report_in fields)) && is_some (instant_of (release_in fields))
 
