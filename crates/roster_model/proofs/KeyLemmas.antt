@@ -1,5 +1,5 @@
 -- Keys of rosters are in a total order.
-use Rattle.std.proofs.Common.{◌≡◌, Bool, true, false, T, int_cmp, Ordering, Less, Equal, Greater, ◌⊎◌, ℤ, ◌<ℤ◌, int_lt, int_eq, refl, sym, ◌∙◌, subst, inl, inr, arith}
+use Rattle.std.proofs.Common.{◌≡◌, ℕ, List, ap₂, Bool, true, false, T, int_cmp, Ordering, Less, Equal, Greater, ◌⊎◌, ℤ, ◌<ℤ◌, int_lt, int_eq, refl, sym, ◌∙◌, subst, inl, inr, arith}
 use Rattle.std.specs.Int.Signed.{lt_z_yes}
 use Rattle.std.proofs.lemmas.Bool.{false≢true, or_cases, or_left, or_right, and_parts, and_from}
 use Rattle.std.proofs.lemmas.Bool.Decides.{Decides-int_eq}
@@ -45,6 +45,14 @@ key_le-trans a b c h g =
       ]
     ]
 
+key_le-same_cost : (a b : Key) → key_le a b ≡ true → key_le b a ≡ true → a.cost ≡ b.cost
+key_le-same_cost a b h g =
+    elim (key_cases a b h) [
+      | inl less ↦ absurd (elim (key_cases b a g) [ inl more ↦ omega (arith, ints) | inr same ↦ omega (arith, ints, same.0) ])
+      | inr same ↦ same.0
+    ]
+
+-- of keys that aren't after one another the places are one,
 pub key_le-antisym : (a b : Key) → key_le a b ≡ true → key_le b a ≡ true → a.places ≡ b.places
 key_le-antisym a b h g =
     elim (key_cases a b h) [
@@ -54,6 +62,12 @@ key_le-antisym a b h g =
         | inr also ↦ places_le-antisym a.places b.places same.1 also.1
       ]
     ]
+
+-- and the keys are one
+pub key_le-one : (a b : Key) → key_le a b ≡ true → key_le b a ≡ true → a ≡ b
+key_le-one a b h g =
+    let made : ℤ → List ℕ → Key = λ cost places. record { cost = cost; places = places } in
+    ap₂ made (key_le-same_cost a b h g) (key_le-antisym a b h g)
 
 ranked_costs : (x y : ℤ) (r : Ordering) → MatchOrdering r (x <ℤ y) (x ≡ y) (y <ℤ x) → (x ≡ y) ⊎ ((x <ℤ y) ⊎ (y <ℤ x))
 ranked_costs x y Less h = inr (inl h)

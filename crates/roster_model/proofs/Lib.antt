@@ -8,5 +8,7 @@ pub mod WindowLemmas
 pub mod LimitLemmas
 pub mod RuleLemmas
 pub mod KeyLemmas
+pub mod RosterLemmas
+pub mod SettledLemmas
 pub mod SumLemmas
 pub mod CostLemmas

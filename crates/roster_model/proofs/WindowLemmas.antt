@@ -14,7 +14,7 @@ use Rattle.roster_model.proofs.OffsetLemmas.{AreNear, days-short, read-near}
 use Rattle.roster_model.specs.declared.limits.TheConstants.{DAYS_BEFORE, MOST_MONTH_MINUTES}
 use Rattle.roster_model.specs.Calendar.{Period, Days, IsRising, IsTable, days_of_month, days_of_window, first_day, month_start, month_end}
 use Rattle.roster_model.specs.Clocks.{minute_at}
-use Rattle.roster_model.specs.Zone.{ZoneRefusal, NotRead, NotMinutes, NotRising, days_of_zone, days_by_rule, table_of, has_minutes, rises, rises_on, instants_at}
+use Rattle.roster_model.specs.Zone.{ZoneRefusal, NotRead, NotMinutes, NotRising, days_of_zone, days_by_rule, days_shown, has_minutes, rises, rises_on, instants_at}
 
 -- what holds of each number of a range holds of the i-th
 pub all_of_range : (test : ℕ → Bool) (first n i : ℕ) → list_all test (range_with_len first n) ≡ true → i < n → test (first + i) ≡ true
@@ -44,7 +44,7 @@ ordered : (a b c d mid eight ten next : ℕ) → mid ≡ a → eight ≡ b → t
 ordered a b c d mid eight ten next e f g h (i, j, k) = (omega arith, omega arith, omega arith)
 
 -- where each day rises, the table does
-pub table-rises : (period : Period) (zone : TzText) → rises period zone ≡ true → IsRising (table_of period zone)
+pub table-rises : (period : Period) (zone : TzText) → rises period zone ≡ true → IsRising (days_shown period zone)
 table-rises period zone all = record {
   on = λ i mid eight ten next is_mid is_eight is_ten is_next.
       let n = days_of_window period in
@@ -60,12 +60,12 @@ table-rises period zone all = record {
 }
 
 -- the i-th midnight is that of the i-th day
-midnight_is : (period : Period) (zone : TzText) (i : ℕ) → i ≤ days_of_window period → get_or (table_of period zone).mid i 0 ≡ minute_at zone (first_day period + i) 0
+midnight_is : (period : Period) (zone : TzText) (i : ℕ) → i ≤ days_of_window period → get_or (days_shown period zone).mid i 0 ≡ minute_at zone (first_day period + i) 0
 midnight_is period zone i within =
     get_or-map-range_with_len (λ d. minute_at zone d 0) (first_day period) (days_of_window period + 1) i (first_day period + i) 0 (omega arith) refl
 
 -- so the month is short
-month-short : (period : Period) (zone : TzText) → AreNear zone → month_end (table_of period zone) ≤ month_start (table_of period zone) + MOST_MONTH_MINUTES
+month-short : (period : Period) (zone : TzText) → AreNear zone → month_end (days_shown period zone) ≤ month_start (days_shown period zone) + MOST_MONTH_MINUTES
 month-short period zone near =
     let n = days_of_month period in
     let few = (days_in_month_bounds (pos period.year) period.month).0 in
@@ -74,7 +74,7 @@ month-short period zone near =
     rw (midnight_is period zone DAYS_BEFORE (omega arith), midnight_is period zone (DAYS_BEFORE + n) (omega arith), there) short
 
 -- and the table has the window's lengths
-pub table-whole : (period : Period) (text : List ℕ) (zone : TzText) → read_whole text ≡ Some zone → rises period zone ≡ true → IsTable (table_of period zone)
+pub table-whole : (period : Period) (text : List ℕ) (zone : TzText) → read_whole text ≡ Some zone → rises period zone ≡ true → IsTable (days_shown period zone)
 table-whole period text zone read all =
     let n = days_of_window period in
     let first = first_day period in
@@ -98,9 +98,9 @@ by_tests true true table days h = (refl, refl, cc)
 by_tests true false table days h = absurd (cc)
 by_tests false rising table days h = absurd (cc)
 
-pub days_by_rule-table : (period : Period) (zone : TzText) (days : Days) → days_by_rule period zone ≡ Ok days → (has_minutes period zone ≡ true) × (rises period zone ≡ true) × (table_of period zone ≡ days)
+pub days_by_rule-table : (period : Period) (zone : TzText) (days : Days) → days_by_rule period zone ≡ Ok days → (has_minutes period zone ≡ true) × (rises period zone ≡ true) × (days_shown period zone ≡ days)
 unfolding days_by_rule
-days_by_rule-table period zone days h = by_tests (has_minutes period zone) (rises period zone) (table_of period zone) days h
+days_by_rule-table period zone days h = by_tests (has_minutes period zone) (rises period zone) (days_shown period zone) days h
 
 by_reading : (period : Period) (read : Option TzText) (days : Days) → match_some {B = Result Days ZoneRefusal} read (Err NotRead) (days_by_rule period) ≡ Ok days → (zone : TzText) × (read ≡ Some zone) × (days_by_rule period zone ≡ Ok days)
 by_reading period None days h = absurd (cc)

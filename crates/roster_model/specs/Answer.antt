@@ -2,13 +2,13 @@
 -- here and nowhere else.
 use Rattle.std.specs.Prelude.{◌≡◌, ◌⊎◌, ℕ, List, Some, None, slice_get}
 use Rattle.csv.specs.Reading.{records, default_config, strip_bom}
-use Rattle.roster_model.specs.Record.{Record, Command, Solve, Check}
+use Rattle.roster_model.specs.Record.{Record, Command, Solve, Check, Replay}
 use Rattle.roster_model.specs.Code.{TooManyLines}
 use Rattle.roster_model.specs.records.Assign.{assigned_in}
 use Rattle.roster_model.specs.records.Crew.{Person}
 use Rattle.roster_model.specs.Problem.{Problem, problem_of}
 use Rattle.roster_model.specs.Faults.{Fault, fault_at, first_fault}
-use Rattle.roster_model.specs.Rosters.{IsBest}
+use Rattle.roster_model.specs.Settled.{IsBest}
 use Rattle.roster_model.specs.Lines.{IsFirstCrowded}
 use Rattle.roster_model.specs.Texts.{IsReportOf, IsCheckOf, fault_text}
 
@@ -26,10 +26,11 @@ pub record IsCrowdedFault (problem : Problem) (fault : Fault) : Type 0 where
   pub crowded : IsFirstCrowded problem k
   pub told : fault ≡ fault_at person.row TooManyLines
 
--- the fault that the command tells of a problem: who solves it makes all lines
+-- the fault that the command tells of a problem: who solves or replays it makes all lines
 abbrev pub IsProblemFault : Command → Problem → Fault → Type 0
 IsProblemFault Solve problem fault = IsCrowdedFault problem fault
 IsProblemFault Check problem fault = ⊥
+IsProblemFault Replay problem fault = IsCrowdedFault problem fault
 
 -- a fault of the problem, where no record has one
 pub record IsLaterFault (command : Command) (book : List Record) (fault : Fault) : Type 0 where
@@ -52,6 +53,7 @@ pub record IsBestReport (problem : Problem) (text : List ℕ) : Type 0 where
 abbrev pub Reports : Command → Problem → List ℕ → List ℕ → Type 0
 Reports Solve problem places text = IsBestReport problem text
 Reports Check problem places text = IsCheckOf problem places text
+Reports Replay problem places text = IsBestReport problem text
 
 -- the book has no fault, and the text is what the command reports of it
 pub record IsReport (command : Command) (book : List Record) (text : List ℕ) : Type 0 where

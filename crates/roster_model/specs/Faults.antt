@@ -1,7 +1,7 @@
 -- The code of a record, by its kind and the records before it, and the first fault of a book.
 use Rattle.std.specs.Prelude.{◌≡◌, ℕ, Bool, not, ◌&&◌, ◌==◌, if◌then◌else◌, List, [], ◌∷◌, ◌++◌, length, Option, Some, None, option_map}
 use Rattle.std.specs.List.{list_any, find, enumerate_from}
-use Rattle.roster_model.specs.Record.{Record, Kind, PeriodRecord, WeightRecord, BaseRecord, CrewRecord, PairingRecord, DutyRecord, SectorRecord, LeaveRecord, CostRecord, AssignRecord, Command, kinds_of, is_of, next_row}
+use Rattle.roster_model.specs.Record.{Record, Kind, PeriodRecord, WeightRecord, BaseRecord, CrewRecord, PairingRecord, DutyRecord, SectorRecord, LeaveRecord, CostRecord, AssignRecord, StepRecord, Command, kinds_of, is_of, next_row}
 use Rattle.roster_model.specs.Code.{Code, NoPeriod, UnknownKind, NoDuty, number_of_code, first_unmet}
 use Rattle.roster_model.specs.records.Period as period
 use Rattle.roster_model.specs.records.Weight as weight
@@ -14,6 +14,7 @@ use Rattle.roster_model.specs.records.Sector as sector
 use Rattle.roster_model.specs.records.Leave as leave
 use Rattle.roster_model.specs.records.Cost as cost
 use Rattle.roster_model.specs.records.Assign as assign
+use Rattle.roster_model.specs.records.Step as step
 use Rattle.roster_model.specs.Problem.{Problem, tables_in, problem_of}
 use Rattle.roster_model.specs.Busy.{is_busy}
 
@@ -31,6 +32,7 @@ conditions_of SectorRecord before fields = sector.conditions before fields
 conditions_of LeaveRecord before fields = leave.conditions (is_busy (tables_in before)) before fields
 conditions_of CostRecord before fields = cost.conditions before fields
 conditions_of AssignRecord before fields = assign.conditions before fields
+conditions_of StepRecord before fields = step.conditions before fields
 
 unfoldable pub code_of_kind : Kind → List Record → Record → Option Code
 code_of_kind kind before fields = first_unmet (conditions_of kind before fields)

@@ -15,5 +15,6 @@ pub mod Places
 pub mod Costs
 pub mod Rosters
 pub mod Lines
+pub mod Settled
 pub mod Texts
 pub mod Answer

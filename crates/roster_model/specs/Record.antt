@@ -41,6 +41,7 @@ pub data Kind : Type 0 where
   LeaveRecord : Kind
   CostRecord : Kind
   AssignRecord : Kind
+  StepRecord : Kind
 
 -- the word in the first field
 abbrev pub word_of : Kind → List ℕ
@@ -54,6 +55,7 @@ word_of SectorRecord = codes "sector"
 word_of LeaveRecord = codes "leave"
 word_of CostRecord = codes "cost"
 word_of AssignRecord = codes "assign"
+word_of StepRecord = codes "step"
 
 abbrev pub is_of : Kind → Record → Bool
 is_of kind fields = bytes_eq (field fields 0) (word_of kind)
@@ -64,6 +66,8 @@ pub data Command : Type 0 where
   Solve : Command
   -- to judge the roster that the book gives
   Check : Command
+  -- to find the best roster of a book that may give the steps of a search
+  Replay : Command
 
 -- the kinds that a book for every command may have
 abbrev pub common_kinds : List Kind
@@ -75,6 +79,7 @@ common_kinds =
 abbrev pub kinds_of : Command → List Kind
 kinds_of Solve = common_kinds
 kinds_of Check = common_kinds ++ AssignRecord ∷ []
+kinds_of Replay = common_kinds ++ StepRecord ∷ []
 
 -- ---- tables
 
@@ -93,5 +98,5 @@ abbrev pub entry_of : {X : Type 0} → Kind → (List Record → Record → X) �
 entry_of kind made before fields = if is_of kind fields then Some (made before fields) else None
 
 -- what the records of the kind make, in their order
-abbrev pub table_of : {X : Type 0} → Kind → (List Record → Record → X) → List Record → List X
-table_of kind made records = gather_after (entry_of kind made) [] records
+abbrev pub entries_of : {X : Type 0} → Kind → (List Record → Record → X) → List Record → List X
+entries_of kind made records = gather_after (entry_of kind made) [] records

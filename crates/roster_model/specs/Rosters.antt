@@ -3,7 +3,7 @@
 -- once or open: the set partitioning model of Kohl and Karisch, "Airline Crew Rostering: Problem
 -- Types, Modeling, and Optimization", Annals of Operations Research 127, 2004. That a pairing may be
 -- left open at a penalty is this project's own, as are the costs and the order of rosters.
-use Rattle.std.specs.Prelude.{◌≡◌, ℕ, ◌<◌, ◌≤◌, Bool, true, ◌&&◌, ◌||◌, List, length, Option, ℤ, int_lt, All}
+use Rattle.std.specs.Prelude.{◌≡◌, ℕ, ◌<◌, ◌≤◌, Bool, ◌&&◌, ◌||◌, List, length, Option, ℤ, int_lt, All}
 use Rattle.std.specs.Ordering.{int_eq}
 use Rattle.roster_model.specs.Problem.{Problem}
 use Rattle.roster_model.specs.Rules.{Rule, AreOfEach, IsLegal, IsVerdict}
@@ -35,8 +35,3 @@ key_of problem places = record { cost = cost_of problem places; places = places 
 -- the first key isn't after the second: by cost, and then by the lists
 abbrev pub key_le : Key → Key → Bool
 key_le a b = int_lt a.cost b.cost || int_eq a.cost b.cost && places_le a.places b.places
-
--- the legal roster whose key isn't after that of any legal roster
-pub record IsBest (problem : Problem) (places : List ℕ) : Type 0 where
-  pub is_legal : IsLegalRoster problem places
-  pub least : (others : List ℕ) → IsLegalRoster problem others → key_le (key_of problem places) (key_of problem others) ≡ true

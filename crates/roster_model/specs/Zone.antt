@@ -34,8 +34,8 @@ abbrev pub instants_at : TzText → ℕ → ℕ → ℕ → List ℕ
 instants_at zone hour day n = map (λ d. minute_at zone d hour) (range_with_len day n)
 
 -- `mid`, `eight` and `ten` of the window's days. The last `mid` is the end of the window.
-abbrev pub table_of : Period → TzText → Days
-table_of period zone = record {
+abbrev pub days_shown : Period → TzText → Days
+days_shown period zone = record {
   month_days = days_of_month period;
   mid = instants_at zone 0 (first_day period) (days_of_window period + 1);
   eight = instants_at zone 8 (first_day period) (days_of_window period);
@@ -58,7 +58,7 @@ rises period zone =
 unfoldable pub days_by_rule : Period → TzText → Result Days ZoneRefusal
 days_by_rule period zone =
     if not (has_minutes period zone) then Err NotMinutes
-    else (if not (rises period zone) then Err NotRising else Ok (table_of period zone))
+    else (if not (rises period zone) then Err NotRising else Ok (days_shown period zone))
 
 -- and at a base with this zone text
 unfoldable pub days_of_zone : Period → List ℕ → Result Days ZoneRefusal

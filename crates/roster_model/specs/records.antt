@@ -8,3 +8,4 @@ pub mod Sector
 pub mod Leave
 pub mod Cost
 pub mod Assign
+pub mod Step

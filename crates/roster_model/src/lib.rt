@@ -22,8 +22,9 @@
 //! - `Rules`: which sets of pairings are legal for a person
 //! - `Places`: who flies what
 //! - `Costs`: what sets and rosters cost
-//! - `Rosters`: legal rosters, their order, and the best one
+//! - `Rosters`: legal rosters, and their order
 //! - `Lines`: the legal sets of a person, in order
+//! - `Settled`: the best roster, and what a search says of some rosters
 //! - `Texts`: the lines that are written
 //! - `Answer`: the records of the bytes, and the text that answers them
 #![tactic(auto)]

@@ -30,6 +30,9 @@ pub const MOST_LEAVES: usize = 1024;
 /// The costs of a book, at most.
 pub const MOST_COSTS: usize = 16384;
 
+/// The steps of a book, at most.
+pub const MOST_STEPS: usize = 4096;
+
 /// The records of a book without a fault, at most: a period, a weight, of each pairing an assignment,
 /// and of each other kind its limit.
 pub const MOST_RECORDS: usize = 1
@@ -41,7 +44,17 @@ pub const MOST_RECORDS: usize = 1
     + MOST_SECTORS
     + MOST_LEAVES
     + MOST_COSTS
-    + MOST_PAIRINGS;
+    + MOST_PAIRINGS
+    + MOST_STEPS;
+
+/// The workers that search together, at most.
+pub const MOST_WORKERS: u32 = 64;
+
+/// The number of the last worker: they are counted from 0.
+pub const LAST_WORKER: u32 = MOST_WORKERS - 1;
+
+/// The number of a step besides that of its worker, at most.
+pub const MOST_STEP_NUMBER: u32 = 1_000_000;
 
 /// The legal sets of a person, at most.
 pub const MOST_LINES: usize = 60_000;

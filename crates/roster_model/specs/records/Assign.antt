@@ -4,7 +4,7 @@ use Rattle.std.specs.List.{find, list_any, range_with_len}
 use Rattle.std.specs.Option.{option_and_then, option_map_or}
 use Rattle.std.specs.Str.{bytes_eq}
 use Rattle.roster_model.specs.Form.{is_identifier}
-use Rattle.roster_model.specs.Record.{Record, AssignRecord, field, table_of}
+use Rattle.roster_model.specs.Record.{Record, AssignRecord, field, entries_of}
 use Rattle.roster_model.specs.Code.{Code, FieldCount, FieldForm, GivenTwice, NotGiven}
 use Rattle.roster_model.specs.records.Crew.{persons_in, person_place}
 use Rattle.roster_model.specs.records.Pairing.{pairings_in, pairing_place}
@@ -37,7 +37,7 @@ assign_of before fields = record {
 }
 
 abbrev pub assigns_in : List Record → List Assign
-assigns_in records = table_of AssignRecord assign_of records
+assigns_in records = entries_of AssignRecord assign_of records
 
 -- the number of the pairing at place p in the roster: the place of the person who flies it, or the
 -- number of persons where nobody does

@@ -5,7 +5,7 @@ use Rattle.roster_model.specs.declared.limits.TheConstants.{MOST_BASES}
 use Rattle.roster_model.specs.Form.{is_identifier, is_zone_text}
 use Rattle.roster_model.specs.Calendar.{Days}
 use Rattle.roster_model.specs.Zone.{days_of_zone}
-use Rattle.roster_model.specs.Record.{Record, BaseRecord, field, place_named, table_of}
+use Rattle.roster_model.specs.Record.{Record, BaseRecord, field, place_named, entries_of}
 use Rattle.roster_model.specs.Code.{Code, FieldCount, FieldForm, GivenTwice, ZoneRefused, NoRoom}
 use Rattle.roster_model.specs.records.Period.{period_in}
 
@@ -34,7 +34,7 @@ base_of before fields = record {
 }
 
 abbrev pub bases_in : List Record → List Base
-bases_in records = table_of BaseRecord base_of records
+bases_in records = entries_of BaseRecord base_of records
 
 -- the place of the base with the name, if it is among those of the records
 abbrev pub base_place : List Record → List ℕ → Option ℕ

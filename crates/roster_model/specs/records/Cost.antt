@@ -3,7 +3,7 @@ use Rattle.std.specs.Prelude.{ℕ, ℤ, Bool, false, not, ◌&&◌, ◌==◌, Li
 use Rattle.std.specs.List.{find}
 use Rattle.roster_model.specs.declared.limits.TheConstants.{MOST_COSTS, MOST_UNITS}
 use Rattle.roster_model.specs.Form.{is_identifier, is_number, number_of}
-use Rattle.roster_model.specs.Record.{Record, CostRecord, field, table_of}
+use Rattle.roster_model.specs.Record.{Record, CostRecord, field, entries_of}
 use Rattle.roster_model.specs.Code.{Code, FieldCount, FieldForm, OutOfLimits, GivenTwice, NotGiven, NoRoom}
 use Rattle.roster_model.specs.records.Crew.{person_place}
 use Rattle.roster_model.specs.records.Pairing.{pairing_place}
@@ -42,7 +42,7 @@ cost_of before fields = record {
 }
 
 abbrev pub costs_in : List Record → List Cost
-costs_in records = table_of CostRecord cost_of records
+costs_in records = entries_of CostRecord cost_of records
 
 -- ---- what it has to meet
 

@@ -2,7 +2,7 @@
 use Rattle.std.specs.Prelude.{ℕ, Bool, not, ◌&&◌, ◌==◌, List, [], ◌∷◌, length, Option, is_some, nat_lt, option_map, slice_get, unwrap_or}
 use Rattle.roster_model.specs.declared.limits.TheConstants.{MOST_PERSONS, MOST_MINUTES}
 use Rattle.roster_model.specs.Form.{is_identifier, is_number, is_amount, number_of}
-use Rattle.roster_model.specs.Record.{Record, CrewRecord, field, amount_of, next_row, place_named, table_of}
+use Rattle.roster_model.specs.Record.{Record, CrewRecord, field, amount_of, next_row, place_named, entries_of}
 use Rattle.roster_model.specs.Code.{Code, FieldCount, FieldForm, OutOfLimits, GivenTwice, NotGiven, NoRoom}
 use Rattle.roster_model.specs.records.Base.{Base, base_at, base_place}
 
@@ -47,7 +47,7 @@ person_of before fields = record {
 }
 
 abbrev pub persons_in : List Record → List Person
-persons_in records = table_of CrewRecord person_of records
+persons_in records = entries_of CrewRecord person_of records
 
 -- the place of the person with the name, if they are among those of the records
 abbrev pub person_place : List Record → List ℕ → Option ℕ

@@ -8,7 +8,7 @@ use Rattle.roster_model.specs.declared.limits.TheConstants.{MOST_DUTIES}
 use Rattle.roster_model.specs.Form.{is_identifier}
 use Rattle.roster_model.specs.Calendar.{Days, instant_of, month_end, month_start}
 use Rattle.roster_model.specs.Window.{is_in_window}
-use Rattle.roster_model.specs.Record.{Record, DutyRecord, field, minute_of, next_row, place_named, table_of}
+use Rattle.roster_model.specs.Record.{Record, DutyRecord, field, minute_of, next_row, place_named, entries_of}
 use Rattle.roster_model.specs.Code.{Code, FieldCount, FieldForm, GivenTwice, NotGiven, OutOfSequence, OutOfWindow, NoRoom, WrongStart, Busy}
 use Rattle.roster_model.specs.records.Base.{Base, bases_in, base_at}
 use Rattle.roster_model.specs.records.Crew.{persons_in, person_place, home_at}
@@ -91,7 +91,7 @@ duty_of before fields = record {
 }
 
 abbrev pub duties_in : List Record → List Duty
-duties_in records = table_of DutyRecord duty_of records
+duties_in records = entries_of DutyRecord duty_of records
 
 -- the place of the duty with the name, if it is among those of the records
 abbrev pub duty_place : List Record → List ℕ → Option ℕ

@@ -4,7 +4,7 @@ use Rattle.roster_model.specs.declared.limits.TheConstants.{MOST_LEAVES}
 use Rattle.roster_model.specs.Form.{is_identifier}
 use Rattle.roster_model.specs.Calendar.{instant_of}
 use Rattle.roster_model.specs.Window.{is_in_window}
-use Rattle.roster_model.specs.Record.{Record, LeaveRecord, field, minute_of, table_of}
+use Rattle.roster_model.specs.Record.{Record, LeaveRecord, field, minute_of, entries_of}
 use Rattle.roster_model.specs.Code.{Code, FieldCount, FieldForm, NotGiven, OutOfSequence, OutOfWindow, NoRoom, Busy}
 use Rattle.roster_model.specs.records.Base.{bases_in}
 use Rattle.roster_model.specs.records.Crew.{persons_in, person_place, home_at}
@@ -39,7 +39,7 @@ leave_of before fields = record {
 }
 
 abbrev pub leaves_in : List Record → List Leave
-leaves_in records = table_of LeaveRecord leave_of records
+leaves_in records = entries_of LeaveRecord leave_of records
 
 -- ---- what it has to meet
 

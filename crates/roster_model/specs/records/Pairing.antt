@@ -3,7 +3,7 @@
 use Rattle.std.specs.Prelude.{ℕ, Bool, not, ◌&&◌, ◌==◌, List, [], ◌∷◌, length, Option, is_some, nat_lt, unwrap_or}
 use Rattle.roster_model.specs.declared.limits.TheConstants.{MOST_PAIRINGS, MOST_PENALTY}
 use Rattle.roster_model.specs.Form.{is_identifier, is_number, is_amount, number_of}
-use Rattle.roster_model.specs.Record.{Record, PairingRecord, field, amount_of, next_row, place_named, table_of}
+use Rattle.roster_model.specs.Record.{Record, PairingRecord, field, amount_of, next_row, place_named, entries_of}
 use Rattle.roster_model.specs.Code.{Code, FieldCount, FieldForm, OutOfLimits, GivenTwice, NotGiven, NoRoom}
 use Rattle.roster_model.specs.records.Base.{base_place}
 
@@ -36,7 +36,7 @@ pairing_of before fields = record {
 }
 
 abbrev pub pairings_in : List Record → List Pairing
-pairings_in records = table_of PairingRecord pairing_of records
+pairings_in records = entries_of PairingRecord pairing_of records
 
 -- the place of the pairing with the name, if it is among those of the records
 abbrev pub pairing_place : List Record → List ℕ → Option ℕ

@@ -5,7 +5,7 @@ use Rattle.std.specs.Str.{bytes_eq}
 use Rattle.roster_model.specs.declared.limits.TheConstants.{MOST_SECTORS}
 use Rattle.roster_model.specs.Form.{is_identifier}
 use Rattle.roster_model.specs.Calendar.{instant_of}
-use Rattle.roster_model.specs.Record.{Record, SectorRecord, field, minute_of, table_of}
+use Rattle.roster_model.specs.Record.{Record, SectorRecord, field, minute_of, entries_of}
 use Rattle.roster_model.specs.Code.{Code, FieldCount, FieldForm, NotGiven, OutOfSequence, NoRoom}
 use Rattle.roster_model.specs.records.Duty.{Duty, Sector, duties_in, duty_place}
 
@@ -47,7 +47,7 @@ sector_of before fields = record {
 }
 
 abbrev pub sectors_in : List Record → List GivenSector
-sectors_in records = table_of SectorRecord sector_of records
+sectors_in records = entries_of SectorRecord sector_of records
 
 abbrev pub is_of_duty : ℕ → GivenSector → Bool
 is_of_duty d given = option_map_or (λ place. place == d) given.duty false

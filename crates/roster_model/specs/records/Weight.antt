@@ -2,7 +2,7 @@
 use Rattle.std.specs.Prelude.{ℕ, Bool, not, ◌==◌, List, [], ◌∷◌, length, Option, is_some, slice_get}
 use Rattle.roster_model.specs.declared.limits.TheConstants.{MOST_WEIGHT}
 use Rattle.roster_model.specs.Form.{is_number, is_amount, number_of}
-use Rattle.roster_model.specs.Record.{Record, WeightRecord, field, amount_of, table_of}
+use Rattle.roster_model.specs.Record.{Record, WeightRecord, field, amount_of, entries_of}
 use Rattle.roster_model.specs.Code.{Code, FieldCount, FieldForm, OutOfLimits, GivenTwice}
 
 -- ---- columns
@@ -16,7 +16,7 @@ unfoldable pub weight_of : List Record → Record → ℕ
 weight_of before fields = amount_of (amount_in fields)
 
 abbrev pub weights_in : List Record → List ℕ
-weights_in records = table_of WeightRecord weight_of records
+weights_in records = entries_of WeightRecord weight_of records
 
 -- the weight, if it was given
 abbrev pub weight_in : List Record → Option ℕ
