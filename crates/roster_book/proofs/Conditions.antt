@@ -1,23 +1,31 @@
 -- What conditions that are all met say.
 use Rattle.std.proofs.Common.{◌≡◌, ℕ, ◌<◌, ◌≤◌, Bool, true, false, cond, not, List, [], ◌∷◌, length, ℤ, pos, negsuc, Option, Some, None, refl, arith}
-use Rattle.std.specs.Prelude.{IfSome, unsigned_abs, nat_lt, is_some, unwrap_or}
+use Rattle.std.specs.Prelude.{◌==◌, IfSome, unsigned_abs, nat_lt, is_some, unwrap_or}
 use Rattle.std.specs.Str.{bytes_eq}
 use Rattle.std.specs.List.{position_or_len}
 use Rattle.std.proofs.lemmas.Bool.Decides.{nat_tests}
 use Rattle.roster_model.specs.Form.{is_amount}
 use Rattle.roster_model.specs.Record.{place_named}
-use Rattle.roster_model.specs.Code.{Code, first_unmet}
+use Rattle.roster_model.specs.Code.{Code, first_unmet, number_of_code}
 use Rattle.roster_model.specs.declared.limits.TheConstants.{MOST_UNITS}
 use Rattle.roster_model.specs.records.Cost.{is_limited}
 
-abbrev pub AreMet : List (Code × Bool) → Type 0
-AreMet [] = Unit {0}
-AreMet (condition ∷ conditions) = (condition.1 ≡ true) × AreMet conditions
+-- the test of the first condition that has the code
+abbrev pub test_of : Code → List (Code × Bool) → Bool
+test_of code [] = true
+test_of code (condition ∷ conditions) =
+    cond (number_of_code condition.0 == number_of_code code) condition.1 (test_of code conditions)
 
-pub AreMet-none : (conditions : List (Code × Bool)) → first_unmet conditions ≡ None → AreMet conditions
-AreMet-none [] h = tt
-AreMet-none ((code, true) ∷ conditions) h = (refl, AreMet-none conditions h)
-AreMet-none ((code, false) ∷ conditions) h = cc
+abbrev pub IsMet : Code → List (Code × Bool) → Type 0
+IsMet code conditions = test_of code conditions ≡ true
+
+-- where none is unmet, that of each code is met
+pub is_met : (conditions : List (Code × Bool)) → first_unmet conditions ≡ None → (code : Code) → IsMet code conditions
+is_met [] h code = refl
+is_met ((other, true) ∷ conditions) h code =
+    let P : Bool → Type 0 = λ b. cond b true (test_of code conditions) ≡ true in
+    elim (number_of_code other == number_of_code code) as P [ true ↦ refl | false ↦ is_met conditions h code ]
+is_met ((other, false) ∷ conditions) h code = cc
 
 found : (i n : ℕ) (b : Bool) → nat_lt i n ≡ b → is_some (cond {A = Option ℕ} b (Some i) None) ≡ true → unwrap_or (cond b (Some i) None) 0 < n
 found i n true h some = grind (arith, nat_tests)

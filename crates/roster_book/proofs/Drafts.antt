@@ -3,7 +3,7 @@ use Rattle.std.proofs.Common.{◌≡◌, ◌+◌, ◌<◌, ◌==◌, ℕ, Bool, 
 use Rattle.std.specs.Prelude.{IsErrAnd}
 use Rattle.std.specs.List.{find}
 use Rattle.std.proofs.lemmas.Bool.Decides.{nat_tests}
-use Rattle.roster_model.specs.Record.{Record, Command, kinds_of, Kind, SectorRecord, AssignRecord, is_of}
+use Rattle.roster_model.specs.Record.{Record, Command, kinds_of, Kind, SectorRecord, AssignRecord, StepRecord, is_of}
 use Rattle.roster_model.specs.Code.{UnknownKind}
 use Rattle.roster_model.specs.Faults.{code_of, code_of_kind, kind_in}
 use Rattle.roster_model.specs.records.Duty.{Sector}
@@ -14,7 +14,8 @@ use Rattle.roster_book.specs.View.{Refuses}
 use Rattle.roster_book.specs.declared.refusal.Refusal.{Refusal}
 use Rattle.roster_book.proofs.FirstFaultLemmas.{faultless-more}
 use Rattle.roster_model.specs.records.Assign.{assign_of}
-use Rattle.roster_book.proofs.Tables.{contents_with, table_of-append, tables_in-append}
+use Rattle.roster_model.specs.records.Step.{step_of}
+use Rattle.roster_book.proofs.Tables.{contents_with, entries_of-append, tables_in-append}
 
 found_is : (kinds : List Kind) (kind : Kind) (fields : Record) → find (λ k. is_of k fields) kinds ≡ Some kind → is_of kind fields ≡ true
 found_is [] kind fields h = cc
@@ -51,7 +52,8 @@ IsDraftOf-append command row kind before fields contents d k none =
         begun = omega arith;
         row_is = omega (arith, d.row_is);
         tables_are = rw d.tables_are (sym (tables_in-append kind before fields d.begun (kind_is command kind fields k)));
-        assigns_are = rw d.assigns_are (sym (table_of-append kind AssignRecord assign_of before fields (kind_is command kind fields k)));
+        assigns_are = rw d.assigns_are (sym (entries_of-append kind AssignRecord assign_of before fields (kind_is command kind fields k)));
+        steps_are = rw d.steps_are (sym (entries_of-append kind StepRecord step_of before fields (kind_is command kind fields k)));
         faultless = faultless-more command [] before fields d.faultless own;
       },
     )

@@ -55,11 +55,13 @@ pub IsBookOf-draft : (command : Command) (row : ℕ) (records : List Record) (co
     → IsDraftOf command row records contents → row_without_duty contents.tables ≡ None
     → book.problem ≡ record contents.tables { duties = in_order contents.tables.duties }
     → book.assigned ≡ assigned_by (length contents.tables.persons) (length contents.tables.pairings) contents.assigns
+    → book.steps ≡ contents.steps
     → IsBookOf command records book
-IsBookOf-draft command row records contents book d none problem assigned = record {
+IsBookOf-draft command row records contents book d none problem assigned steps = record {
   faultless = first_fault-none command row records contents d none;
   problem_is = problem ∙ problem_of-draft command row records contents d;
   assigned_is = rw (d.tables_are, d.assigns_are) at assigned;
+  steps_are = steps ∙ d.steps_are;
   covers = rw (assigned, problem) (length-assigned_by _ _ contents.assigns);
   numbers = rw (assigned, problem) (assigned_at_most _ _ contents.assigns (assigned-draft command row records contents d));
 }

@@ -2,7 +2,7 @@
 use Rattle.std.proofs.Common.{◌≡◌, ◌==◌, ◌<◌, Bool, true, false, not, List, [], ◌∷◌, length, Option, Some, None, refl}
 use Rattle.std.specs.Prelude.{is_some}
 use Rattle.roster_model.specs.Calendar.{period_of}
-use Rattle.roster_model.specs.Record.{Record, Command, Solve, Check, PeriodRecord, is_of, field}
+use Rattle.roster_model.specs.Record.{Record, Command, Solve, Check, Replay, PeriodRecord, is_of, field}
 use Rattle.roster_model.specs.Code.{Code, NoPeriod, FieldCount, FieldForm, GivenTwice, first_unmet}
 use Rattle.roster_model.specs.Faults.{IsFaultlessSoFar, code_of, code_of_kind, kind_in}
 use Rattle.roster_model.specs.records.Period.{own_conditions}
@@ -16,6 +16,7 @@ own_code fields = first_unmet (own_conditions fields)
 kind_of_period : (command : Command) (fields : Record) → is_of PeriodRecord fields ≡ true → kind_in command fields ≡ Some PeriodRecord
 kind_of_period Solve fields h = rw h refl
 kind_of_period Check fields h = rw h refl
+kind_of_period Replay fields h = rw h refl
 
 pub code_of-no_period : (command : Command) (fields : Record) → is_of PeriodRecord fields ≡ false → code_of command [] fields ≡ Some NoPeriod
 unfolding code_of

@@ -7,46 +7,51 @@ use Rattle.std.proofs.Math.Seq.{append_snoc}
 use Rattle.std.proofs.lemmas.List.Folds.{list_any-append}
 use Rattle.std.proofs.lemmas.List.Sorted.{All-permutation, length_permutation}
 use Rattle.roster_model.specs.declared.limits.TheConstants.{MOST_DUTIES, MOST_RECORDS}
-use Rattle.roster_model.specs.Record.{Record, Command, Kind, PeriodRecord, WeightRecord, BaseRecord, CrewRecord, PairingRecord, DutyRecord, SectorRecord, LeaveRecord, CostRecord, AssignRecord, is_of}
-use Rattle.roster_model.specs.Code.{Code, NoPeriod}
+use Rattle.roster_model.specs.Record.{Record, Command, Kind, PeriodRecord, WeightRecord, BaseRecord, CrewRecord, PairingRecord, DutyRecord, SectorRecord, LeaveRecord, CostRecord, AssignRecord, StepRecord, is_of}
+use Rattle.roster_model.specs.Code.{Code, GivenTwice, NoPeriod}
 use Rattle.roster_model.specs.Problem.{Problem, tables_in, in_order}
 use Rattle.roster_model.specs.Faults.{IsFaultlessSoFar, IsFaultlessAfter, code_of, code_of_kind, kind_in}
 use Rattle.roster_model.specs.records.Period as period
 use Rattle.roster_model.specs.records.Duty.{Holder, OfPairing, OfPerson, duties_in}
 use Rattle.roster_model.specs.records.Sector.{flown, sector_of, sectors_in}
 use Rattle.roster_model.specs.records.Assign.{assign_of, assigns_in}
+use Rattle.roster_model.specs.records.Step.{step_of, steps_in}
 use Rattle.roster_problem.specs.Sound.{IsSound, IsHolder}
 use Rattle.roster_problem.proofs.Ordering.{IsPermutation-in_order}
 use Rattle.roster_book.specs.Draft.{Contents, HasRecords, IsDraftOf}
 use Rattle.roster_book.specs.Flown.{sector_count}
 use Rattle.roster_book.proofs.Drafts.{kind_is, code_of-later, code_of-unknown}
-use Rattle.roster_book.proofs.Conditions.{AreMet-none}
+use Rattle.roster_book.proofs.Conditions.{is_met}
 use Rattle.roster_book.proofs.Soundness.{AreAssigned, AreSound, IsTaken, few_assigned, one_more, sound-none, weight_once}
 use Rattle.roster_book.proofs.SoundTables.{sound-base, sound-person, sound-pairing}
 use Rattle.roster_book.proofs.SoundDuties.{sound-duty, sound-leave, sound-sector}
-use Rattle.roster_book.proofs.SoundCosts.{sound-weight, sound-cost, sound-assign}
-use Rattle.roster_book.proofs.Tables.{grown, is_same, no_assign, no_sector, table_of-append, tables_in-first, tables_in-append, tables_with}
+use Rattle.roster_book.proofs.SoundCosts.{sound-weight, sound-cost, sound-assign, sound-step}
+use Rattle.roster_book.proofs.Tables.{grown, is_same, no_assign, no_sector, no_step, entries_of-append, tables_in-first, tables_in-append, contents_with}
 
 -- ---- the records of a draft
 
+-- what the records make
+abbrev contents_in : List Record → Contents
+contents_in records = record { tables = tables_in records; assigns = assigns_in records; steps = steps_in records }
+
 step_kind : (kind : Kind) (before : List Record) (fields : Record) → list_any (is_of PeriodRecord) before ≡ true
-    → IsTaken (length before) kind before fields (tables_in before) (assigns_in before)
-    → AreSound (length before + 1) (length (grown (is_same kind SectorRecord) (sectors_in before) (sector_of before fields))) (tables_with kind before fields (tables_in before))
-    (grown (is_same kind AssignRecord) (assigns_in before) (assign_of before fields))
+    → IsTaken (length before) kind before fields (contents_in before)
+    → AreSound (length before + 1) (length (grown (is_same kind SectorRecord) (sectors_in before) (sector_of before fields))) (contents_with kind before fields (contents_in before))
 unfolding code_of_kind
-step_kind PeriodRecord before fields begun k = absurd (cc (begun, (AreMet-none (period.conditions before fields) k.met).1.1.0))
-step_kind WeightRecord before fields begun k = sound-weight _ before fields _ _ k
-step_kind BaseRecord before fields begun k = sound-base _ before fields _ _ k
-step_kind CrewRecord before fields begun k = sound-person _ before fields _ _ k
-step_kind PairingRecord before fields begun k = sound-pairing _ before fields _ _ k
-step_kind DutyRecord before fields begun k = sound-duty _ before fields _ _ k
-step_kind SectorRecord before fields begun k = sound-sector _ before fields _ _ k
-step_kind LeaveRecord before fields begun k = sound-leave _ before fields _ _ k
-step_kind CostRecord before fields begun k = sound-cost _ before fields _ _ k
-step_kind AssignRecord before fields begun k = sound-assign _ before fields _ _ k
+step_kind PeriodRecord before fields begun k = absurd (cc (begun, is_met (period.conditions before fields) k.met GivenTwice))
+step_kind WeightRecord before fields begun k = sound-weight _ before fields _ k
+step_kind BaseRecord before fields begun k = sound-base _ before fields _ k
+step_kind CrewRecord before fields begun k = sound-person _ before fields _ k
+step_kind PairingRecord before fields begun k = sound-pairing _ before fields _ k
+step_kind DutyRecord before fields begun k = sound-duty _ before fields _ k
+step_kind SectorRecord before fields begun k = sound-sector _ before fields _ k
+step_kind LeaveRecord before fields begun k = sound-leave _ before fields _ k
+step_kind CostRecord before fields begun k = sound-cost _ before fields _ k
+step_kind AssignRecord before fields begun k = sound-assign _ before fields _ k
+step_kind StepRecord before fields begun k = sound-step _ before fields _ k
 
 abbrev AreSoundSoFar : List Record → Type 0
-AreSoundSoFar records = AreSound (length records) (length (sectors_in records)) (tables_in records) (assigns_in records)
+AreSoundSoFar records = AreSound (length records) (length (sectors_in records)) (contents_in records)
 
 step : (command : Command) (before : List Record) (fields : Record) → 0 < length before → list_any (is_of PeriodRecord) before ≡ true
     → AreSoundSoFar before → code_of command before fields ≡ None → AreSoundSoFar (before ++ fields ∷ [])
@@ -55,9 +60,9 @@ step command before fields some begun s none =
     elim (kind_in command fields) as P [
       | None ↦ λ k. cc (code_of-unknown command before fields some k, none)
       | Some kind ↦ λ k.
-          let taken : IsTaken (length before) kind before fields (tables_in before) (assigns_in before) = record { sound = s; tables_are = refl; assigns_are = refl; met = sym (code_of-later command kind before fields some k) ∙ none } in
+          let taken : IsTaken (length before) kind before fields (contents_in before) = record { sound = s; tables_are = refl; assigns_are = refl; steps_are = refl; met = sym (code_of-later command kind before fields some k) ∙ none } in
           let is = kind_is command kind fields k in
-          rw (one_more before fields, tables_in-append kind before fields some is, table_of-append kind SectorRecord sector_of before fields is, table_of-append kind AssignRecord assign_of before fields is) (step_kind kind before fields begun taken)
+          rw (one_more before fields, tables_in-append kind before fields some is, entries_of-append kind SectorRecord sector_of before fields is, entries_of-append kind AssignRecord assign_of before fields is, entries_of-append kind StepRecord step_of before fields is) (step_kind kind before fields begun taken)
     ] refl
 
 is_period : (b : Bool) (code : Option Code) → cond (true && not b) (Some NoPeriod) code ≡ None → b ≡ true
@@ -70,7 +75,7 @@ unfolding code_of
 first_is_period command fields h = is_period (is_of PeriodRecord fields) _ h
 
 sound-first : (fields : Record) → is_of PeriodRecord fields ≡ true → AreSoundSoFar (fields ∷ [])
-sound-first fields h = rw (tables_in-first fields h, no_sector fields h, no_assign fields h) sound-none
+sound-first fields h = rw (tables_in-first fields h, no_sector fields h, no_assign fields h, no_step fields h) sound-none
 
 sound_after : (command : Command) (before records : List Record) → 0 < length before → list_any (is_of PeriodRecord) before ≡ true
     → AreSoundSoFar before → IsFaultlessAfter command before records → AreSoundSoFar (before ++ records)
@@ -98,7 +103,7 @@ few_records command records some h =
     let s = sound-all command records some h in
     let weight = weight_once (tables_in records).weight in
     let assigned = few_assigned _ _ (assigns_in records) s.assigned in
-    omega (arith, s.count_is, s.sound.bases, s.sound.persons, s.sound.pairings, s.sound.duties, s.sound.leaves, s.sound.costs, s.room)
+    omega (arith, s.count_is, s.sound.bases, s.sound.persons, s.sound.pairings, s.sound.duties, s.sound.leaves, s.sound.costs, s.few_steps, s.room)
 
 pub IsSound-draft : (command : Command) (row : ℕ) (before : List Record) (contents : Contents) → IsDraftOf command row before contents → IsSound contents.tables
 IsSound-draft command row before contents d = rw d.tables_are (sound-all command before d.begun d.faultless).sound

@@ -1,4 +1,4 @@
--- A weight, a cost or an assignment more keeps the contents sound.
+-- A weight, a cost, an assignment or a step more keeps the contents sound.
 use Rattle.std.proofs.Common.{◌≡◌, ℕ, ◌+◌, ◌<◌, ◌≤◌, Bool, true, false, cond, not, List, [], ◌∷◌, ◌++◌, length, eqb, Option, Some, None, refl, ◌∙◌, arith}
 use Rattle.std.specs.Prelude.{IfSome, is_some, unwrap_or, unsigned_abs}
 use Rattle.std.specs.List.{IsDistinct, list_any}
@@ -7,19 +7,22 @@ use Rattle.std.proofs.lemmas.List.{map-append}
 use Rattle.std.proofs.lemmas.List.Elements.{All-push}
 use Rattle.std.proofs.lemmas.Cmp.{nat_eq_equiv}
 use Rattle.std.proofs.lemmas.Map.Keys.{IsDistinct-push}
-use Rattle.roster_model.specs.declared.limits.TheConstants.{MOST_COSTS, MOST_UNITS, MOST_WEIGHT}
+use Rattle.roster_model.specs.declared.limits.TheConstants.{MOST_COSTS, MOST_STEPS, MOST_UNITS, MOST_WEIGHT}
 use Rattle.roster_model.specs.Form.{number_of}
-use Rattle.roster_model.specs.Record.{Record, WeightRecord, CostRecord, AssignRecord, place_named}
+use Rattle.roster_model.specs.Record.{Record, WeightRecord, CostRecord, AssignRecord, StepRecord, place_named}
+use Rattle.roster_model.specs.Code.{GivenTwice, NotGiven, NoRoom, OutOfLimits}
 use Rattle.roster_model.specs.Faults.{code_of_kind}
 use Rattle.roster_model.specs.records.Weight as weight
 use Rattle.roster_model.specs.records.Cost as cost
 use Rattle.roster_model.specs.records.Assign as assign
+use Rattle.roster_model.specs.records.Step as step
+use Rattle.roster_model.specs.records.Step.{step_of}
 use Rattle.roster_model.specs.records.Weight.{weight_in, weight_of}
 use Rattle.roster_model.specs.records.Crew.{persons_in, person_place}
 use Rattle.roster_model.specs.records.Pairing.{pairings_in, pairing_place}
 use Rattle.roster_model.specs.records.Cost.{costs_in, cost_of}
 use Rattle.roster_model.specs.records.Assign.{Assign, assign_of, assigns_in, is_assign_of, is_assigned}
-use Rattle.roster_book.proofs.Conditions.{AreMet, AreMet-none, amount-below, below, none_given, place-below, place-within, units-below}
+use Rattle.roster_book.proofs.Conditions.{IsMet, amount-below, below, is_met, none_given, place-below, place-within, units-below}
 use Rattle.roster_book.proofs.Soundness.{KeepsSound, has_room, one_more, paired, sound-more, weight_count}
 use Rattle.roster_book.proofs.Tests.{both_of}
 
@@ -36,12 +39,13 @@ weight_kept (Some w) weight none few = cc
 
 pub sound-weight : KeepsSound WeightRecord
 unfolding code_of_kind weight_of
-sound-weight count before fields t assigns k =
+sound-weight count before fields contents k =
+    let t = contents.tables in
     let s = k.sound.sound in
     let made : ℕ = weight_of before fields in
-    let met = AreMet-none (weight.conditions before fields) k.met in
-    let none : t.weight ≡ None = rw k.tables_are (none_given (weight_in before) met.1.1.1.0) in
-    let few = weight_kept t.weight made none (amount-below MOST_WEIGHT (number_of (weight.amount_in fields)) met.1.1.0) in
+    let met = is_met (weight.conditions before fields) k.met in
+    let none : t.weight ≡ None = rw k.tables_are (none_given (weight_in before) (met GivenTwice)) in
+    let few = weight_kept t.weight made none (amount-below MOST_WEIGHT (number_of (weight.amount_in fields)) (met OutOfLimits)) in
     let n = weight_taken t.weight made none in
     sound-more k.sound (assumption (few, s)) refl k.sound.assigned (omega arith)
 
@@ -53,24 +57,25 @@ record IsPriced (before : List Record) (person pairing : Option ℕ) : Type 0 wh
   pairing_known : is_some pairing ≡ true
   room : length (costs_in before) < MOST_COSTS
 
-priced : (before : List Record) (person pairing : Option ℕ) → AreMet (cost.conditions_between before person pairing) → IsPriced before person pairing
-priced before None pairing h = cc h.0
-priced before (Some k) None h = cc h.0
-priced before (Some k) (Some p) h = record { person_known = refl; pairing_known = refl; room = below _ MOST_COSTS h.1.0 }
+priced : (before : List Record) (person pairing : Option ℕ) → IsMet NotGiven (cost.conditions_between before person pairing) → IsMet NoRoom (cost.conditions_between before person pairing) → IsPriced before person pairing
+priced before None pairing given room = cc given
+priced before (Some k) None given room = cc given
+priced before (Some k) (Some p) given room = record { person_known = refl; pairing_known = refl; room = below _ MOST_COSTS room }
 
 pub sound-cost : KeepsSound CostRecord
 unfolding code_of_kind cost_of
-sound-cost count before fields t assigns k =
+sound-cost count before fields contents k =
+    let t = contents.tables in
     let s = k.sound.sound in
     let made = cost_of before fields in
-    let met = AreMet-none (cost.conditions before fields) k.met in
-    let h = priced before (person_place before (cost.crew_in fields)) (pairing_place before (cost.pairing_in fields)) met.1.1.1 in
+    let met = is_met (cost.conditions before fields) k.met in
+    let h = priced before (person_place before (cost.crew_in fields)) (pairing_place before (cost.pairing_in fields)) (met NotGiven) (met NoRoom) in
     let n = has_room MOST_COSTS t.costs made (rw k.tables_are h.room) in
     let person : made.person < length t.persons = rw k.tables_are (place-below _ _ (persons_in before) h.person_known) in
     let pairing : made.pairing < length t.pairings = rw k.tables_are (place-below _ _ (pairings_in before) h.pairing_known) in
     let persons = All-push (λ c. c.person < length t.persons) t.costs made s.cost_persons person in
     let pairings = All-push (λ c. c.pairing < length t.pairings) t.costs made s.cost_pairings pairing in
-    let units = All-push (λ c. unsigned_abs c.units ≤ MOST_UNITS) t.costs made s.units (units-below (number_of (cost.units_in fields)) met.1.1.0) in
+    let units = All-push (λ c. unsigned_abs c.units ≤ MOST_UNITS) t.costs made s.units (units-below (number_of (cost.units_in fields)) (met OutOfLimits)) in
     sound-more k.sound (assumption (n.few, persons, pairings, units, s)) refl k.sound.assigned (omega arith)
 
 -- ---- assignments
@@ -105,13 +110,15 @@ paired_once assigns assign once none =
 
 pub sound-assign : KeepsSound AssignRecord
 unfolding code_of_kind assign_of
-sound-assign count before fields t assigns k =
+sound-assign count before fields contents k =
+    let t = contents.tables in
+    let assigns = contents.assigns in
     let are = k.sound.assigned in
     let made = assign_of before fields in
     let n = one_more assigns made in
-    let met = AreMet-none (assign.conditions before fields) k.met in
-    let known = (both_of _ _ met.1.1.1.0).0 in
-    let h = assignable (assigns_in before) (pairing_place before (assign.pairing_in fields)) met.1.1.0 known in
+    let met = is_met (assign.conditions before fields) k.met in
+    let known = (both_of _ _ (met NotGiven)).0 in
+    let h = assignable (assigns_in before) (pairing_place before (assign.pairing_in fields)) (met GivenTwice) known in
     let pairing : made.pairing < length t.pairings = rw k.tables_are (place-below _ _ (pairings_in before) known) in
     let person : IfSome made.person (λ j. j < length t.persons) = rw k.tables_are (assignee-below (assign.is_nobody (assign.crew_in fields)) _ (assign.crew_in fields) (persons_in before)) in
     let free : list_any (is_assign_of made.pairing) assigns ≡ false = rw (k.assigns_are, h.place_is) h.free in
@@ -124,5 +131,22 @@ sound-assign count before fields t assigns k =
         once = paired_once assigns made are.once free;
       };
       sectors_are = k.sound.sectors_are;
+      few_steps = k.sound.few_steps;
       count_is = omega (arith, k.sound.count_is);
+    }
+
+-- ---- steps
+
+pub sound-step : KeepsSound StepRecord
+unfolding code_of_kind
+sound-step count before fields contents k =
+    let met = is_met (step.conditions before fields) k.met in
+    let n = has_room MOST_STEPS contents.steps (step_of before fields) (rw k.steps_are (below _ MOST_STEPS (met NoRoom))) in
+    record {
+      sound = k.sound.sound;
+      room = k.sound.room;
+      sectors_are = k.sound.sectors_are;
+      assigned = k.sound.assigned;
+      few_steps = n.few;
+      count_is = omega (arith, k.sound.count_is, n.longer);
     }

@@ -8,6 +8,7 @@ use Rattle.roster_model.specs.declared.limits.TheConstants.{MOST_DUTIES, MOST_LE
 use Rattle.roster_model.specs.Record.{Record, DutyRecord, SectorRecord, LeaveRecord}
 use Rattle.roster_model.specs.Problem.{Problem, tables_in}
 use Rattle.roster_model.specs.Busy.{is_busy}
+use Rattle.roster_model.specs.Code.{NotGiven, NoRoom}
 use Rattle.roster_model.specs.Faults.{code_of_kind}
 use Rattle.roster_model.specs.records.Duty as duty
 use Rattle.roster_model.specs.records.Sector as sector
@@ -20,7 +21,7 @@ use Rattle.roster_model.specs.records.Leave.{leave_of, leaves_in, crew_in}
 use Rattle.roster_problem.specs.Sound.{IsHolder}
 use Rattle.roster_book.specs.Flown.{sector_count, with_sector_at}
 use Rattle.roster_book.proofs.SectorTable.{All-with_sector_at, flown_count, length-with_sector_at, sector_count_bare, sector_count_more}
-use Rattle.roster_book.proofs.Conditions.{AreMet, AreMet-none, below, place-below}
+use Rattle.roster_book.proofs.Conditions.{IsMet, below, is_met, place-below}
 use Rattle.roster_book.proofs.Soundness.{KeepsSound, has_room, one_more, sound-more}
 
 -- a duty's holder is known, and there is room for one more
@@ -29,10 +30,11 @@ record IsHeld (before : List Record) (holder : Option Holder) : Type 0 where
   room : length (duties_in before) < MOST_DUTIES
 
 held : (busy : ℕ → ℕ → ℕ → Bool) (before : List Record) (holder : Option Holder) (station : List ℕ) (report release : ℕ)
-    → AreMet (conditions_held busy before holder station report release) → IsHeld before holder
-held busy before None station report release h = cc h.0
-held busy before (Some (OfPairing p)) station report release h = record { known = refl; room = below _ MOST_DUTIES h.1.1.0 }
-held busy before (Some (OfPerson k)) station report release h = record { known = refl; room = below _ MOST_DUTIES h.1.1.0 }
+    → IsMet NotGiven (conditions_held busy before holder station report release) → IsMet NoRoom (conditions_held busy before holder station report release)
+    → IsHeld before holder
+held busy before None station report release given room = cc given
+held busy before (Some (OfPairing p)) station report release given room = record { known = refl; room = below _ MOST_DUTIES room }
+held busy before (Some (OfPerson k)) station report release given room = record { known = refl; room = below _ MOST_DUTIES room }
 
 -- a holder that is known is there
 holder_of_place : (pairings persons : ℕ) (of_pairing : Bool) (pairing person : Option ℕ)
@@ -46,12 +48,13 @@ holder_of_place pairings persons false pairing (Some k) there here some = here r
 
 pub sound-duty : KeepsSound DutyRecord
 unfolding code_of_kind duty_of
-sound-duty count before fields t assigns k =
+sound-duty count before fields contents k =
+    let t = contents.tables in
     let s = k.sound.sound in
     let made = duty_of before fields in
     let busy = is_busy (tables_in before) in
-    let met = AreMet-none (duty.conditions busy before fields) k.met in
-    let h = held busy before (holder_in before fields) _ _ _ met.1.1.1 in
+    let met = is_met (duty.conditions busy before fields) k.met in
+    let h = held busy before (holder_in before fields) _ _ _ (met NotGiven) (met NoRoom) in
     let n = has_room MOST_DUTIES t.duties made (rw (k.tables_are, flown_count (sectors_in before) (duties_in before)) h.room) in
     let holder : IsHolder (length t.pairings) (length t.persons) made.holder = rw k.tables_are (holder_of_place _ _ (is_pairing_letter (letter_in fields)) (pairing_place before (holder_name_in fields)) (person_place before (holder_name_in fields)) (place-below _ _ _) (place-below _ _ _) h.known) in
     let holders = All-push (λ d. IsHolder (length t.pairings) (length t.persons) d.holder) t.duties made s.holders holder in
@@ -63,18 +66,20 @@ record IsTakenFor (before : List Record) (place : Option ℕ) : Type 0 where
   room : length (leaves_in before) < MOST_LEAVES
 
 taken-for : (is_busy : ℕ → ℕ → ℕ → Bool) (before : List Record) (place : Option ℕ) (from to : ℕ)
-    → AreMet (leave.conditions_held is_busy before place from to) → IsTakenFor before place
-taken-for is_busy before None from to h = cc h.0
-taken-for is_busy before (Some k) from to h = record { known = refl; room = below _ MOST_LEAVES h.1.1.0 }
+    → IsMet NotGiven (leave.conditions_held is_busy before place from to) → IsMet NoRoom (leave.conditions_held is_busy before place from to)
+    → IsTakenFor before place
+taken-for is_busy before None from to given room = cc given
+taken-for is_busy before (Some k) from to given room = record { known = refl; room = below _ MOST_LEAVES room }
 
 pub sound-leave : KeepsSound LeaveRecord
 unfolding code_of_kind leave_of
-sound-leave count before fields t assigns k =
+sound-leave count before fields contents k =
+    let t = contents.tables in
     let s = k.sound.sound in
     let made = leave_of before fields in
     let place = person_place before (crew_in fields) in
-    let met = AreMet-none (leave.conditions (is_busy (tables_in before)) before fields) k.met in
-    let h = taken-for (is_busy (tables_in before)) before place _ _ met.1.1 in
+    let met = is_met (leave.conditions (is_busy (tables_in before)) before fields) k.met in
+    let h = taken-for (is_busy (tables_in before)) before place _ _ (met NotGiven) (met NoRoom) in
     let n = has_room MOST_LEAVES t.leaves made (rw k.tables_are h.room) in
     let there : made.person < length t.persons = rw k.tables_are (place-below _ _ (persons_in before) h.known) in
     let absences = All-push (λ leave. leave.person < length t.persons) t.leaves made s.absences there in
@@ -88,23 +93,24 @@ record IsPlaced (before : List Record) (place : Option ℕ) (duties : List Duty)
   room : length (sectors_in before) < MOST_SECTORS
 
 placed : (before : List Record) (place : Option ℕ) (duties : List Duty) (off on : ℕ)
-    → AreMet (conditions_within before (option_and_then (slice_get duties) place) off on) → IsPlaced before place duties
-placed before None duties off on h = cc h.0
-placed before (Some p) duties off on h =
+    → IsMet NotGiven (conditions_within before (option_and_then (slice_get duties) place) off on)
+    → IsMet NoRoom (conditions_within before (option_and_then (slice_get duties) place) off on) → IsPlaced before place duties
+placed before None duties off on given room = cc given
+placed before (Some p) duties off on given room =
     elim (slice_get_cases duties p).1 [
       | inl (duty, within, there, same) ↦
-          let met = rw there at h in
-          record { at = p; place_is = refl; within = within; room = below _ MOST_SECTORS met.1.0 }
-      | inr (past, none) ↦ cc (rw none at h).0
+          record { at = p; place_is = refl; within = within; room = below _ MOST_SECTORS (rw there at room) }
+      | inr (past, none) ↦ cc (rw none at given)
     ]
 
 pub sound-sector : KeepsSound SectorRecord
 unfolding code_of_kind sector_of
-sound-sector count before fields t assigns k =
+sound-sector count before fields contents k =
+    let t = contents.tables in
     let s = k.sound.sound in
     let given = sector_of before fields in
-    let met = AreMet-none (sector.conditions before fields) k.met in
-    let p = placed before (duty_place before (duty_name_in fields)) (flown (sectors_in before) (duties_in before)) _ _ met.1.1 in
+    let met = is_met (sector.conditions before fields) k.met in
+    let p = placed before (duty_place before (duty_name_in fields)) (flown (sectors_in before) (duties_in before)) _ _ (met NotGiven) (met NoRoom) in
     let duties : t.duties ≡ flown (sectors_in before) (duties_in before) = ap (λ (all : Problem). all.duties) k.tables_are in
     let within : p.at < length t.duties = rw duties p.within in
     let more : sector_count (with_sector_at t.duties given.duty given.sector) ≡ sector_count t.duties + 1 = rw p.place_is (sector_count_more t.duties p.at given.sector within) in
@@ -116,6 +122,7 @@ sound-sector count before fields t assigns k =
       sound = assumption (few, holders, s);
       room = omega (arith, p.room);
       assigned = k.sound.assigned;
+      few_steps = k.sound.few_steps;
       sectors_are = more ∙ omega (arith, k.sound.sectors_are);
       count_is = omega (arith, k.sound.count_is);
     }

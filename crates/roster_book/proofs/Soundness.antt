@@ -6,18 +6,20 @@ use Rattle.std.proofs.lemmas.Bool.{eqb-true}
 use Rattle.std.proofs.lemmas.List.{length-map}
 use Rattle.std.proofs.lemmas.List.Elements.{All-head, All-nil, All-tail, All-weaker}
 use Rattle.std.proofs.lemmas.Map.Steps.{length-le_from_distinct_below}
-use Rattle.roster_model.specs.declared.limits.TheConstants.{MOST_SECTORS}
-use Rattle.roster_model.specs.Record.{Record, Kind, SectorRecord, AssignRecord}
+use Rattle.roster_model.specs.declared.limits.TheConstants.{MOST_SECTORS, MOST_STEPS}
+use Rattle.roster_model.specs.Record.{Record, Kind, SectorRecord}
 use Rattle.roster_model.specs.Calendar.{Period}
 use Rattle.roster_model.specs.Problem.{Problem, tables_in}
 use Rattle.roster_model.specs.Faults.{code_of_kind}
-use Rattle.roster_model.specs.records.Assign.{Assign, assign_of, assigns_in}
+use Rattle.roster_model.specs.records.Assign.{Assign, assigns_in}
 use Rattle.roster_model.specs.records.Duty.{Duty, Holder, OfPairing, OfPerson}
 use Rattle.roster_model.specs.records.Sector.{sector_of, sectors_in}
+use Rattle.roster_model.specs.records.Step.{steps_in}
 use Rattle.roster_problem.specs.Sound.{IsSound, IsHolder}
+use Rattle.roster_book.specs.Draft.{Contents}
 use Rattle.roster_book.specs.Flown.{sector_count}
 use Rattle.roster_book.proofs.SectorTable.{sector_count_none}
-use Rattle.roster_book.proofs.Tables.{grown, is_same, tables_of_period, tables_with}
+use Rattle.roster_book.proofs.Tables.{contents_with, grown, is_same, tables_of_period}
 
 -- ---- what one more entry keeps
 
@@ -101,14 +103,15 @@ abbrev pub entries : Problem → ℕ
 entries t = weight_count t.weight + length t.bases + length t.persons + length t.pairings + length t.duties + length t.leaves + length t.costs
 
 -- The contents of so many records, of which so many are sectors, are sound.
-pub record AreSound (count sectors : ℕ) (tables : Problem) (assigns : List Assign) : Type 0 where
-  pub sound : IsSound tables
+pub record AreSound (count sectors : ℕ) (contents : Contents) : Type 0 where
+  pub sound : IsSound contents.tables
   pub room : sectors ≤ MOST_SECTORS
-  pub sectors_are : sector_count tables.duties ≡ sectors
-  pub assigned : AreAssigned (length tables.pairings) (length tables.persons) assigns
-  pub count_is : count ≤ 1 + entries tables + length assigns + sectors
+  pub sectors_are : sector_count contents.tables.duties ≡ sectors
+  pub assigned : AreAssigned (length contents.tables.pairings) (length contents.tables.persons) contents.assigns
+  pub few_steps : length contents.steps ≤ MOST_STEPS
+  pub count_is : count ≤ 1 + entries contents.tables + length contents.assigns + length contents.steps + sectors
 
-pub sound-none : {period : Period} → AreSound 1 0 (tables_of_period period) []
+pub sound-none : {period : Period} → AreSound 1 0 (record { tables = tables_of_period period; assigns = []; steps = [] })
 unfolding IsDistinct
 sound-none = record {
   sound = record {
@@ -132,30 +135,32 @@ sound-none = record {
   room = omega arith;
   sectors_are = sector_count_none;
   assigned = record { named = All-nil _; assignees = All-nil _; once = tt };
+  few_steps = omega arith;
   count_is = omega arith;
 }
 
 -- what is known where a record of the kind is taken
-pub record IsTaken (count : ℕ) (kind : Kind) (before : List Record) (fields : Record) (tables : Problem) (assigns : List Assign) : Type 0 where
-  pub sound : AreSound count (length (sectors_in before)) tables assigns
-  pub tables_are : tables ≡ tables_in before
-  pub assigns_are : assigns ≡ assigns_in before
+pub record IsTaken (count : ℕ) (kind : Kind) (before : List Record) (fields : Record) (contents : Contents) : Type 0 where
+  pub sound : AreSound count (length (sectors_in before)) contents
+  pub tables_are : contents.tables ≡ tables_in before
+  pub assigns_are : contents.assigns ≡ assigns_in before
+  pub steps_are : contents.steps ≡ steps_in before
   pub met : code_of_kind kind before fields ≡ None
 
 -- Records of the kind keep the contents sound.
 abbrev pub KeepsSound : Kind → Type 0
-KeepsSound kind = (count : ℕ) (before : List Record) (fields : Record) (tables : Problem) (assigns : List Assign) → IsTaken count kind before fields tables assigns
-    → AreSound (count + 1) (length (grown (is_same kind SectorRecord) (sectors_in before) (sector_of before fields))) (tables_with kind before fields tables)
-    (grown (is_same kind AssignRecord) assigns (assign_of before fields))
+KeepsSound kind = (count : ℕ) (before : List Record) (fields : Record) (contents : Contents) → IsTaken count kind before fields contents
+    → AreSound (count + 1) (length (grown (is_same kind SectorRecord) (sectors_in before) (sector_of before fields))) (contents_with kind before fields contents)
 
--- they do where a table has an entry more, and sectors and assignments are as before
-pub sound-more : {count sectors : ℕ} {tables more : Problem} {assigns : List Assign} → AreSound count sectors tables assigns
-    → IsSound more → sector_count more.duties ≡ sector_count tables.duties → AreAssigned (length more.pairings) (length more.persons) assigns
-    → entries tables + 1 ≤ entries more → AreSound (count + 1) sectors more assigns
+-- they do where a table has an entry more, and sectors and what else is kept are as before
+pub sound-more : {count sectors : ℕ} {contents : Contents} {more : Problem} → AreSound count sectors contents
+    → IsSound more → sector_count more.duties ≡ sector_count contents.tables.duties → AreAssigned (length more.pairings) (length more.persons) contents.assigns
+    → entries contents.tables + 1 ≤ entries more → AreSound (count + 1) sectors (record contents { tables = more })
 sound-more s sound same assigned longer = record {
   sound = sound;
   room = s.room;
   sectors_are = same ∙ s.sectors_are;
   assigned = assigned;
+  few_steps = s.few_steps;
   count_is = omega (arith, s.count_is);
 }

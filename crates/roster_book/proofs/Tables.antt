@@ -5,7 +5,7 @@ use Rattle.std.specs.List.{cons_option}
 use Rattle.std.specs.Option.{option_or}
 use Rattle.std.specs.Str.{bytes_eq}
 use Rattle.std.proofs.lemmas.Slice.Eq.{bytes_eq-Decides}
-use Rattle.roster_model.specs.Record.{Record, Kind, PeriodRecord, WeightRecord, BaseRecord, CrewRecord, PairingRecord, DutyRecord, SectorRecord, LeaveRecord, CostRecord, AssignRecord, field, word_of, is_of, entry_of, gather_after, table_of}
+use Rattle.roster_model.specs.Record.{Record, Kind, PeriodRecord, WeightRecord, BaseRecord, CrewRecord, PairingRecord, DutyRecord, SectorRecord, LeaveRecord, CostRecord, AssignRecord, StepRecord, field, word_of, is_of, entry_of, gather_after, entries_of}
 use Rattle.roster_model.specs.Calendar.{Period}
 use Rattle.roster_model.specs.Problem.{Problem, tables_in}
 use Rattle.roster_model.specs.records.Period.{period_in}
@@ -17,6 +17,7 @@ use Rattle.roster_model.specs.records.Duty.{Duty, duties_in, duty_of}
 use Rattle.roster_model.specs.records.Leave.{leave_of}
 use Rattle.roster_model.specs.records.Cost.{cost_of}
 use Rattle.roster_model.specs.records.Assign.{assign_of, assigns_in}
+use Rattle.roster_model.specs.records.Step.{step_of, steps_in}
 use Rattle.roster_model.specs.records.Sector.{GivenSector, flown, flown_from, sector_of, sectors_in}
 use Rattle.roster_book.specs.Draft.{Contents}
 use Rattle.roster_book.specs.Flown.{with_sector_at}
@@ -41,12 +42,12 @@ grown-by true entries entry = refl
 grown-by false entries entry = append-nil entries
 
 -- a table grows by records of its own kind alone
-pub table_of-append : {X : Type 0} (kind other : Kind) (made : List Record → Record → X) (before : List Record) (fields : Record)
-    → is_of kind fields ≡ true → table_of other made (before ++ fields ∷ []) ≡ grown (is_same kind other) (table_of other made before) (made before fields)
-table_of-append kind other made before fields h =
+pub entries_of-append : {X : Type 0} (kind other : Kind) (made : List Record → Record → X) (before : List Record) (fields : Record)
+    → is_of kind fields ≡ true → entries_of other made (before ++ fields ∷ []) ≡ grown (is_same kind other) (entries_of other made before) (made before fields)
+entries_of-append kind other made before fields h =
     gather_after-append (entry_of other made) [] before fields
-    ∙ ap (λ b. table_of other made before ++ cons_option (cond b (Some (made before fields)) None) []) (is_of-other kind other fields h)
-    ∙ grown-by (is_same kind other) (table_of other made before) (made before fields)
+    ∙ ap (λ b. entries_of other made before ++ cons_option (cond b (Some (made before fields)) None) []) (is_of-other kind other fields h)
+    ∙ grown-by (is_same kind other) (entries_of other made before) (made before fields)
 
 period_in-append : (before : List Record) (fields : Record) → 0 < length before → period_in (before ++ fields ∷ []) ≡ period_in before
 unfolding period_in
@@ -66,7 +67,7 @@ first_of_grown false weights weight = refl
 weight_in-append : (kind : Kind) (before : List Record) (fields : Record) → is_of kind fields ≡ true
     → weight_in (before ++ fields ∷ []) ≡ weight_with (is_same kind WeightRecord) (weight_in before) (weight_of before fields)
 weight_in-append kind before fields h =
-    ap (λ (weights : List ℕ). slice_get weights 0) (table_of-append kind WeightRecord weight_of before fields h)
+    ap (λ (weights : List ℕ). slice_get weights 0) (entries_of-append kind WeightRecord weight_of before fields h)
     ∙ first_of_grown (is_same kind WeightRecord) (weights_in before) (weight_of before fields)
 
 -- duties with a sector more, or with a duty more
@@ -108,19 +109,20 @@ abbrev pub contents_with : Kind → List Record → Record → Contents → Cont
 contents_with kind before fields contents = record {
   tables = tables_with kind before fields contents.tables;
   assigns = grown (is_same kind AssignRecord) contents.assigns (assign_of before fields);
+  steps = grown (is_same kind StepRecord) contents.steps (step_of before fields);
 }
 
 tables_in-grown : (kind : Kind) (before : List Record) (fields : Record) → is_of kind fields ≡ true
     → tables_in (before ++ fields ∷ []) ≡ record (tables_with kind before fields (tables_in before)) { period = period_in (before ++ fields ∷ []) }
 tables_in-grown kind before fields h = rw (
   weight_in-append kind before fields h,
-  table_of-append kind BaseRecord base_of before fields h,
-  table_of-append kind CrewRecord person_of before fields h,
-  table_of-append kind PairingRecord pairing_of before fields h,
-  table_of-append kind DutyRecord duty_of before fields h,
-  table_of-append kind SectorRecord sector_of before fields h,
-  table_of-append kind LeaveRecord leave_of before fields h,
-  table_of-append kind CostRecord cost_of before fields h,
+  entries_of-append kind BaseRecord base_of before fields h,
+  entries_of-append kind CrewRecord person_of before fields h,
+  entries_of-append kind PairingRecord pairing_of before fields h,
+  entries_of-append kind DutyRecord duty_of before fields h,
+  entries_of-append kind SectorRecord sector_of before fields h,
+  entries_of-append kind LeaveRecord leave_of before fields h,
+  entries_of-append kind CostRecord cost_of before fields h,
   duties_by-is (is_same kind SectorRecord) (is_same kind DutyRecord) before fields (one_of_both kind),
 )
 
@@ -148,3 +150,8 @@ no_sector fields h = rw (is_of-other PeriodRecord SectorRecord fields h) refl
 pub no_assign : (fields : Record) → is_of PeriodRecord fields ≡ true → assigns_in (fields ∷ []) ≡ []
 unfolding gather_after
 no_assign fields h = rw (is_of-other PeriodRecord AssignRecord fields h) refl
+
+-- the steps of a period alone
+pub no_step : (fields : Record) → is_of PeriodRecord fields ≡ true → steps_in (fields ∷ []) ≡ []
+unfolding gather_after
+no_step fields h = rw (is_of-other PeriodRecord StepRecord fields h) refl

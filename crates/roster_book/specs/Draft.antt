@@ -8,12 +8,16 @@ use Rattle.roster_model.specs.Problem.{Problem, tables_in}
 use Rattle.roster_model.specs.Faults.{IsFaultlessSoFar, code_of}
 use Rattle.roster_model.specs.records.Base.{Base, base_at}
 use Rattle.roster_model.specs.records.Assign.{Assign, assigns_in}
+use Rattle.roster_model.specs.records.Step as replayed
+use Rattle.roster_model.specs.records.Step.{steps_in}
 use Rattle.roster_book.specs.declared.code.Code.{Code}
 use Rattle.roster_book.specs.declared.draft.Draft.{Draft}
 use Rattle.roster_book.specs.declared.refusal.Refusal.{Refusal}
 use Rattle.roster_book.specs.declared.refusal.Refusal.TheVariants as refusals
 use Rattle.roster_book.specs.View as view
 use Rattle.roster_book.specs.View.{Refuses}
+use Rattle.roster_problem.specs.View.{step_of}
+use Rattle.roster_problem.specs.declared.step.Step.{Step}
 
 -- the tables, without where they lie in memory
 abbrev pub tables_of_draft : Draft → Problem
@@ -28,13 +32,14 @@ tables_of_draft d = record {
   costs = d.costs;
 }
 
--- what is kept: the tables, and who is assigned to pairings
+-- what is kept: the tables, who is assigned to pairings, and the steps
 pub record Contents : Type 0 where
   pub tables : Problem
   pub assigns : List Assign
+  pub steps : List replayed.Step
 
 abbrev pub contents_of : Draft → Contents
-contents_of d = record { tables = tables_of_draft d; assigns = d.assigns.items }
+contents_of d = record { tables = tables_of_draft d; assigns = d.assigns.items; steps = d.steps }
 
 -- These records come before the row, none of them has a fault of its own, and the contents are theirs.
 pub record IsDraftOf (command : Command) (row : ℕ) (before : List Record) (contents : Contents) : Type 0 where
@@ -42,6 +47,7 @@ pub record IsDraftOf (command : Command) (row : ℕ) (before : List Record) (con
   pub row_is : row ≡ next_row before
   pub tables_are : contents.tables ≡ tables_in before
   pub assigns_are : contents.assigns ≡ assigns_in before
+  pub steps_are : contents.steps ≡ steps_in before
   pub faultless : IsFaultlessSoFar command before
 
 -- they are the contents of some records without a fault
@@ -59,6 +65,11 @@ base_of_pairing tables p =
 abbrev pub Judges : {X : Type 0} → Option model.Code → X → Result X Code → Type 0
 Judges told entry (Ok x) = (told ≡ None) × (x ≡ entry)
 Judges told entry (Err code) = told ≡ Some (view.code_of code)
+
+-- the same of a step, which the definitions see as one of theirs
+abbrev pub JudgesStep : Option model.Code → replayed.Step → Result Step Code → Type 0
+JudgesStep told entry (Ok x) = (told ≡ None) × (step_of x ≡ entry)
+JudgesStep told entry (Err code) = told ≡ Some (view.code_of code)
 
 -- the same where memory may run out in a record without a fault
 abbrev pub Reads : {X : Type 0} → Option model.Code → X → Result X Refusal → Type 0

@@ -13,13 +13,15 @@ use Rattle.roster_model.specs.Record.{Record, Command}
 use Rattle.roster_model.specs.Problem.{problem_of}
 use Rattle.roster_model.specs.Faults.{first_fault}
 use Rattle.roster_model.specs.records.Assign.{assigned_in}
+use Rattle.roster_model.specs.records.Step.{steps_in}
 
--- The records have no fault, this is their problem, and that the roster that they give: one number for
--- each pairing, the place of a person or the number of persons.
+-- The records have no fault, this is their problem, that the roster that they give, and these are their
+-- steps. The roster has one number for each pairing, the place of a person or the number of persons.
 pub record IsBookOf (command : Command) (records : List Record) (book : Book) : Type 0 where
   pub faultless : first_fault command records ≡ None
   pub problem_is : book.problem ≡ problem_of records
   pub assigned_is : book.assigned ≡ assigned_in records
+  pub steps_are : book.steps ≡ steps_in records
   pub covers : length book.assigned ≡ length book.problem.pairings
   pub numbers : All (λ x. x ≤ length book.problem.persons) book.assigned
 

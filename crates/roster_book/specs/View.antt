@@ -6,10 +6,13 @@ use Rattle.roster_book.specs.declared.fault.BookFault.{BookFault}
 use Rattle.roster_book.specs.declared.fault.BookFault.TheVariants as faults
 use Rattle.roster_book.specs.declared.kind.Kind.{Kind}
 use Rattle.roster_book.specs.declared.kind.Kind.TheVariants as kinds
+use Rattle.roster_book.specs.declared.record.step.Move.{Move}
+use Rattle.roster_book.specs.declared.record.step.Move.TheVariants as moves
 use Rattle.roster_book.specs.declared.refusal.Refusal.{Refusal}
 use Rattle.roster_book.specs.declared.refusal.Refusal.TheVariants as refusals
 use Rattle.roster_model.specs.Code as model
 use Rattle.roster_model.specs.Record as record_model
+use Rattle.roster_model.specs.records.Step as replayed
 
 abbrev pub code_of : Code → model.Code
 code_of codes.NoPeriod = model.NoPeriod
@@ -39,6 +42,14 @@ kind_of kinds.Sector = record_model.SectorRecord
 kind_of kinds.Leave = record_model.LeaveRecord
 kind_of kinds.Cost = record_model.CostRecord
 kind_of kinds.Assign = record_model.AssignRecord
+kind_of kinds.Step = record_model.StepRecord
+
+abbrev pub move_of : Move → replayed.Move
+move_of moves.Take = replayed.ToTake
+move_of moves.Halve = replayed.ToHalve
+move_of moves.Descend = replayed.ToDescend
+move_of moves.Back = replayed.ToGiveBack
+move_of moves.Search = replayed.ToSearch
 
 -- A record whose code is this, or that has none, is refused: for that code, or for want of memory
 -- where it has none.

@@ -1,6 +1,6 @@
 //! The book that was read.
 
-use roster_problem::{Places, Problem};
+use roster_problem::{Places, Problem, Steps};
 
 /// The book that was read.
 #[derive(Debug, Drop)]
@@ -9,4 +9,6 @@ pub struct Book {
     pub problem: Problem,
     /// The roster that its assignments give: a pairing that none of them names is open.
     pub assigned: Places,
+    /// Its steps, in the order of their records.
+    pub steps: Steps,
 }

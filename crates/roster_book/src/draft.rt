@@ -25,11 +25,13 @@ use crate::record::period;
 use crate::refusal::Refusal;
 use csv::ByteRecord;
 use roster_instants::Period;
-use roster_problem::{Base, Command, Costs, Duty, Holder, Leave, Pairing, Person, Problem, Tables};
+use roster_problem::{
+    Base, BookTables, Command, Costs, Duty, Holder, Leave, Pairing, Person, Problem, Steps,
+};
 use std::alloc::Global;
 
-/// The tables of the records taken so far, and who is assigned to pairings. Duties are in the order of
-/// their records.
+/// The tables of the records taken so far, who is assigned to pairings, and the steps. Duties are in the
+/// order of their records.
 #[derive(Drop)]
 pub(crate) struct Draft {
     pub(crate) period: Period,
@@ -41,6 +43,7 @@ pub(crate) struct Draft {
     pub(crate) leaves: Vec<Leave>,
     pub(crate) costs: Costs,
     pub(crate) assigns: Vec<Assign>,
+    pub(crate) steps: Steps,
 }
 
 // Whether it is a duty of the pairing at the place.
@@ -78,6 +81,7 @@ impl Draft {
             leaves: Vec::new(alloc),
             costs: Costs::new(alloc),
             assigns: Vec::new(alloc),
+            steps: Steps::none(alloc),
         })
     }
 
@@ -123,6 +127,7 @@ impl Draft {
             }
             Some(Kind::Cost) => self.take_cost(fields),
             Some(Kind::Assign) => self.take_assign(fields),
+            Some(Kind::Step) => self.take_step(fields),
         }
     }
 
@@ -143,7 +148,7 @@ impl Draft {
             return Err(Refusal::Fault(Code::NoDuty).at(row));
         }
         let assigned = self.assigned(alloc)?;
-        let tables = Tables {
+        let tables = BookTables {
             period: self.period,
             weight: self.weight,
             bases: self.bases,
@@ -154,7 +159,11 @@ impl Draft {
             costs: self.costs,
         };
         let problem = Problem::new(alloc, tables)?;
-        Ok(Book { problem, assigned })
+        Ok(Book {
+            problem,
+            assigned,
+            steps: self.steps,
+        })
     }
 
     /// The base of the pairing at the place.

@@ -24,6 +24,7 @@ pub(crate) enum Kind {
     Leave,
     Cost,
     Assign,
+    Step,
 }
 
 /// Whether it is the record of a period.
@@ -50,6 +51,7 @@ pub(crate) fn kind_in(command: Command, fields: &ByteRecord) -> Option<Kind>
         b"leave" => Some(Kind::Leave),
         b"cost" => Some(Kind::Cost),
         b"assign" if command == Command::Check => Some(Kind::Assign),
+        b"step" if command == Command::Replay => Some(Kind::Step),
         _ => None,
     }
 }

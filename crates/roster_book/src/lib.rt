@@ -1,7 +1,7 @@
 //! From bytes to the problem of a book, or to its first fault, on `csv`.
 //!
 //! `read_book` reads records until their end or their first fault, and answers the problem of the
-//! book with the roster that its assignments give, or that fault. Values are those of
+//! book with the roster that its assignments give and its steps, or that fault. Values are those of
 //! `roster_problem`, given again here. In reading order:
 //!
 //! - `code`: what may be wrong with a record
@@ -35,6 +35,6 @@ pub use fault::BookFault;
 pub use reading::read_book;
 pub use roster_problem::{
     Base, Command, Cost, Costs, Duty, DutyList, Holder, Leave, Name, Pairing, Person, Places,
-    Problem, Roster, Rule, Sector, Set, duties_in_order,
+    Problem, Roster, Rule, Sector, Set, Step, Steps, duties_in_order,
 };
 pub use roster_watched::Watched;

@@ -11,5 +11,6 @@ mod leave;
 mod pairing;
 pub(crate) mod period;
 mod sector;
+pub(crate) mod step;
 mod weight;
 mod window;

@@ -1,12 +1,13 @@
 //! The command line.
 
-ghost use Rattle.std.specs.Prelude.{◌≡◌, ◌≢◌, true, false, IfOk, IfErr, Some, map, []};
-ghost use Rattle.clap.specs.Words.{app_of, takes, fault_of, kind_of, HasKind, Kinds};
-ghost use Rattle.roster_commandline.specs.Line.{roster_app, command_name, spelling, NamesMemory, TellsKind};
+ghost use Rattle.std.specs.Prelude.{◌≡◌, ◌≢◌, ◌≤◌, ℕ, List, true, false, IfOk, IfErr, Some, map, []};
+ghost use Rattle.clap.specs.Words.{app_of, takes, fault_of, kind_of, with_subcommand, HasKind, Kinds};
+ghost use Rattle.roster_commandline.specs.Line.{roster_app, command_name, demanding_app, number_spelled, solve_app, spelling, workers_asked, HasWorkers, NamesMemory, TellsKind};
 ghost use Rattle.roster_problem.specs.declared.command.Command as asked;
 ghost use Rattle.clap.specs.declared.builder.command.Command.TheViews as views;
 
 use clap::error::ErrorKind;
+use roster_model::limits::MOST_WORKERS;
 use roster_problem::Command;
 use std::alloc::{AllocError, Global};
 use std::convert::AsStr;
@@ -34,30 +35,73 @@ impl From<AllocError> for LineFault {
     }
 }
 
+/// `solve`, with the number of its workers.
+fn solve<'a>(alloc: Global) -> Result<clap::Command<'a>, AllocError>
+    ensures app { IfOk result (λ c. app_of c ≡ solve_app) }
+    ensures local { IfOk result (λ c. (views.out-Command c).has_globals ≡ false) }
+{
+    let workers = clap::Arg::new(alloc, "workers")
+        .long("workers")
+        .value_name("N")
+        .value_parser(clap::builder::ValueParser::unsigned(1, MOST_WORKERS.into()))
+        .default_value("1")
+        .help("How many workers may search: the answer is the same for any number");
+    clap::Command::new(alloc, "solve")
+        .about("Writes the best roster of the book on standard input")
+        .arg(workers)
+}
+
+/// The program's command line with `solve` alone.
+fn solver<'a>(alloc: Global) -> Result<clap::Command<'a>, AllocError>
+    ensures app { IfOk result (λ c. app_of c ≡ with_subcommand demanding_app solve_app.top) }
+    ensures local { IfOk result (λ c. (views.out-Command c).has_globals ≡ false) }
+{
+    let solve = solve(alloc)?;
+    clap::Command::new(alloc, "roster")
+        .about("Rosters airline crew within the flight time limitations of ORO.FTL")
+        .subcommand_required(true)
+        .subcommand(solve)
+}
+
 /// The program's command line.
 fn roster<'a>(alloc: Global) -> Result<clap::Command<'a>, AllocError>
     ensures app { IfOk result (λ c. app_of c ≡ roster_app) }
     ensures local { IfOk result (λ c. (views.out-Command c).has_globals ≡ false) }
 {
-    let solve = clap::Command::new(alloc, "solve").about(
-        "Writes the best roster of the book on standard input",
-    );
     let check = clap::Command::new(alloc, "check").about(
         "Judges the roster that the book on standard input gives",
     );
-    clap::Command::new(alloc, "roster")
-        .about("Rosters airline crew within the flight time limitations of ORO.FTL")
-        .subcommand_required(true)
-        .subcommand(solve)?
-        .subcommand(check)
+    let replay = clap::Command::new(alloc, "replay").about(
+        "Writes the best roster of the book on standard input, which may give steps of a search",
+    );
+    let roster = solver(alloc)?;
+    roster.subcommand(check)?.subcommand(replay)
 }
 
-/// The command that the words ask for, and the number of workers, which is 1. The first word is the
-/// program's name.
+/// The number of workers in the matches of `solve`.
+fn workers(matches: &clap::ArgMatches<'_>) -> usize
+    requires { (text : List ℕ) × HasWorkers matches.now text }
+    ensures value { (text : List ℕ) → HasWorkers matches.now text → result ≡ number_spelled text }
+    ensures low { 1 ≤ result }
+    ensures high { result ≤ MOST_WORKERS }
+{
+    let Some(found) = matches.subcommand_matches("solve") else {
+        unreachable!()
+    };
+    let Some(number) = found.get_one::<usize>("workers") else {
+        unreachable!()
+    };
+    number
+}
+
+/// The command that the words ask for, and the number of workers: what the words give to `solve`, from 1 to
+/// 64, and else 1. The first word is the program's name.
 pub fn read_line<'a, S: AsStr>(alloc: Global, words: &'a [S]) -> Result<(Command, usize), LineFault>
     ensures command { IfOk result (λ line.
         command_name (map S.text words.entry.now) ≡ Some (spelling line.0)) }
-    ensures workers { IfOk result (λ line. line.1 ≡ 1) }
+    ensures workers { IfOk result (λ line.
+        line.1 ≡ workers_asked line.0 (map S.text words.entry.now)) }
+    ensures limited { IfOk result (λ line. (1 ≤ line.1) × (line.1 ≤ MOST_WORKERS)) }
     ensures faultless { IfOk result (λ _. fault_of roster_app (map S.text words.entry.now) ≡ []) }
     ensures refused { IfErr result NamesMemory }
     // What clap refuses, it refuses for one of its own reasons.
@@ -74,8 +118,9 @@ pub fn read_line<'a, S: AsStr>(alloc: Global, words: &'a [S]) -> Result<(Command
         Err(error) => return Err(refusal(error)),
     };
     match matches.subcommand_name() {
-        Some("solve") => Ok((Command::Solve, 1)),
+        Some("solve") => Ok((Command::Solve, workers(&matches))),
         Some("check") => Ok((Command::Check, 1)),
+        Some("replay") => Ok((Command::Replay, 1)),
         _ => Err(LineFault::Refused(command.error(
             ErrorKind::InvalidSubcommand,
             "unknown command",

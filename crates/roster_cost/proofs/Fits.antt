@@ -31,7 +31,7 @@ within_more a b z h l = (omega (arith, ints, h.0), omega (arith, ints, h.1))
 pub units-within : (problem : Problem) (k p : ℕ) → IsSound problem → IsWithin MOST_UNITS (units_of problem k p)
 units-within problem k p sound = within_from_abs (units_of problem k p) MOST_UNITS (units-limited problem.costs k p sound.units)
 
-total-within : (cost : ℕ → ℤ) (most : ℕ) → ((p : ℕ) → IsWithin most (cost p)) → (set : List ℕ) → IsWithin (length set * most) (total cost set)
+pub total-within : (cost : ℕ → ℤ) (most : ℕ) → ((p : ℕ) → IsWithin most (cost p)) → (set : List ℕ) → IsWithin (length set * most) (total cost set)
 total-within cost most each [] = (omega (arith, ints, total-nil cost), omega (arith, ints, total-nil cost))
 total-within cost most each (p ∷ set) =
     let rest = total-within cost most each set in

@@ -1,11 +1,15 @@
 //! Rosters by cost, and then by their lists.
 
+ghost use Rattle.std.specs.Prelude.{◌≡◌, true, not, IsTrue};
 ghost use Rattle.std.proofs.Common.{rules};
 ghost use Rattle.std.specs.Cmp.{partial_order_from_own_ties};
 ghost use Rattle.std.specs.Cmp.Rules.{comparing};
 ghost use Rattle.std.specs.Ordering.{as_partial_cmp};
+ghost use Rattle.roster_model.specs.Rosters.{key_le};
 ghost use Rattle.roster_cost.specs.Keys.{compare, is_same};
 
+use crate::laws::{keys_are_in_order, order_of_keys};
+use roster_problem::Roster;
 use std::cmp::Ordering;
 use std::marker::Model;
 
@@ -25,6 +29,18 @@ impl<'a> Model for Key<'a> {
     ghost Value = { Entry };
 
     ghost view = { λ k. record { cost = k.cost; places = k.places.now } };
+}
+
+impl<'a> Key<'a> {
+    /// The key of a roster, with the cost that the roster has.
+    pub fn of(roster: &'a Roster) -> Key<'a>
+        ensures { result ≡ roster.now }
+    {
+        Key {
+            cost: roster.cost,
+            places: roster.places.as_slice(),
+        }
+    }
 }
 
 impl<'a> PartialEq for Key<'a> {
@@ -66,4 +82,14 @@ impl<'a> Ord for Key<'a> {
             .cmp(&other.cost)
             .then(self.places.cmp(other.places))
     }
+}
+
+/// Whether the first roster's key is before the other's. The costs are those that the rosters have.
+pub fn comes_before(roster: &Roster, other: &Roster) -> bool
+    ensures value { result ≡ not (key_le other.now roster.now) }
+    ensures before { IsTrue result → key_le roster.now other.now ≡ true }
+{
+    order_of_keys();
+    keys_are_in_order();
+    Key::of(roster) < Key::of(other)
 }

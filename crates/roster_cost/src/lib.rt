@@ -1,7 +1,8 @@
 //! What lines and rosters cost, and the order of rosters.
 //!
 //! `line_cost` is what a person's set of pairings costs, and `roster_cost` what a list of places
-//! does, legal or not: each fits an `i64` by the limits of a book. `cost_at` is `line_cost` for who
+//! does, legal or not: each fits an `i64` by the limits of a book. `cost_without_pairings` is what persons
+//! cost before they are given any. `cost_at` is `line_cost` for who
 //! goes from a set to one with a pairing more, and adds up units and flight on the way. `Key` has the
 //! order of rosters. No call takes memory. In reading order:
 //!
@@ -19,7 +20,10 @@ mod line;
 mod roster;
 
 pub use flight::{fixed_flight, pairing_flight, set_flight};
-pub use key::Key;
-pub use laws::{one_pairing_more, order_of_keys, shares_add_up, units_of_set};
+pub use key::{Key, comes_before};
+pub use laws::{
+    keys_are_in_order, lines_are_near, one_pairing_more, order_of_keys, priced_shares_add_up,
+    shares_add_up, units_of_set,
+};
 pub use line::{cost_at, line_cost, set_units};
-pub use roster::{open_number, roster_cost};
+pub use roster::{cost_without_pairings, roster_cost};

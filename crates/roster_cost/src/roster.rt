@@ -1,28 +1,18 @@
 //! What a list of places costs.
 
-ghost use Rattle.std.specs.Prelude.{◌≡◌, ◌≤◌, ◌+◌, ◌*◌, ◌==◌, if◌then◌else◌, length, nat_lt, pos};
+ghost use Rattle.std.specs.Prelude.{◌≡◌, ◌≤◌, ◌≤ℤ◌, ◌*◌, ◌==◌, if◌then◌else◌, length, nat_lt, pos};
 ghost use Rattle.roster_model.specs.Costs as costs;
 ghost use Rattle.roster_model.specs.Places as model;
 ghost use Rattle.roster_model.specs.Problem.{units_of};
-ghost use Rattle.roster_cost.specs.Amounts.{IsWithin, most_units};
+ghost use Rattle.roster_cost.specs.Amounts as amounts;
+ghost use Rattle.roster_cost.specs.Amounts.{IsWithin, most_missed, most_units};
 ghost use Rattle.roster_model.specs.declared.limits.TheConstants.{MOST_UNITS};
 
-use crate::flight::set_flight;
+use crate::flight::{fixed_flight, set_flight};
 use crate::line::missed;
 use roster_cumulative::one_list_of_each_duty;
-use roster_model::limits::{
-    MOST_DUTIES, MOST_MINUTES, MOST_MONTH_MINUTES, MOST_PAIRINGS, MOST_PENALTY, MOST_PERSONS,
-    MOST_WEIGHT,
-};
-use roster_problem::{Pairing, Problem, Set};
-
-/// The number that stands for open.
-pub fn open_number(problem: &Problem) -> u16
-    ensures value { result ≡ model.open_number problem.now }
-    ensures bound { result ≤ MOST_PERSONS }
-{
-    problem.persons().len() as u16
-}
+use roster_model::limits::{MOST_PAIRINGS, MOST_PENALTY};
+use roster_problem::{Pairing, Problem, Set, open_number};
 
 /// What a pairing adds where it has the number: its penalty if that is the one for open.
 fn penalty_if_open(nobody: u16, pairing: &Pairing, place: u16) -> u64
@@ -83,8 +73,7 @@ fn placed_units(problem: &Problem, places: &[u16]) -> i64
 fn missed_targets(problem: &Problem, places: &[u16]) -> u64
     requires { length places.now ≡ length problem.now.pairings }
     ensures value { pos result ≡ costs.missed_targets problem.now places.now }
-    ensures bound { result
-        ≤ MOST_WEIGHT * (MOST_DUTIES * MOST_MONTH_MINUTES + MOST_PERSONS * MOST_MINUTES) }
+    ensures bound { result ≤ most_missed }
 {
     one_list_of_each_duty();
     let mut cost = 0;
@@ -104,4 +93,18 @@ pub fn roster_cost(problem: &Problem, places: &[u16]) -> i64
     let open = open_penalties(problem, places) as i64;
     let missed = missed_targets(problem, places) as i64;
     open + placed_units(problem, places) + missed
+}
+
+/// What all persons cost with no pairing, in cost units: their fixed duties miss their targets.
+pub fn cost_without_pairings(problem: &Problem) -> i64
+    ensures value { result ≡ amounts.cost_without_pairings problem.now }
+    ensures low { pos 0 ≤ℤ result }
+    ensures high { result ≤ℤ pos most_missed }
+{
+    one_list_of_each_duty();
+    let mut cost = 0;
+    for k in 0..problem.persons().len() {
+        cost += missed(problem, k, fixed_flight(problem, k));
+    }
+    cost as i64
 }

@@ -1,4 +1,5 @@
 pub mod OnDay
+pub mod JudgedSums
 pub mod InRun
 pub mod Flown
 pub mod Divided

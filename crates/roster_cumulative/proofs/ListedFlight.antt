@@ -73,25 +73,41 @@ not_both k p set (OfPairing q) new listed held =
     both_ways (is_among set p) new (subst (λ r. is_among set r ≡ true) (eqb-true q p held) listed)
 not_both k p set (OfPerson j) new listed held = absurd (cc)
 
-month_flight-more : (problem : Problem) (days : Days) (k p : ℕ) (set more : List ℕ) → ((q : ℕ) → is_among more q ≡ (is_among set q || eqb q p)) → is_among set p ≡ false
-    → month_flight days (duty_list problem k more) ≡ month_flight days (duty_list problem k set) + month_flight days (filter (is_of_pairing p) problem.duties)
-month_flight-more problem days k p set more with_p new =
-    let minutes = duty_flight days in
+-- what the duties of its list have of anything is what those of the set had, and what its own have
+listed-more : (minutes : Duty → ℕ) (problem : Problem) (k p : ℕ) (set more : List ℕ) → ((q : ℕ) → is_among more q ≡ (is_among set q || eqb q p)) → is_among set p ≡ false
+    → sum_by minutes (duty_list problem k more) ≡ sum_by minutes (duty_list problem k set) + sum_by minutes (filter (is_of_pairing p) problem.duties)
+listed-more minutes problem k p set more with_p new =
     let each = λ (duty : Duty). one_of_two (minutes duty) (is_listed k more duty.holder) (is_listed k set duty.holder) (is_of_pairing p duty)
     (is_listed-more k p set more duty.holder with_p) (not_both k p set duty.holder new) in
     omega (
       arith,
-      month_flight-listed problem days k more,
-      month_flight-listed problem days k set,
-      month_flight-sum days (filter (is_of_pairing p) problem.duties),
+      sum_by-filter minutes (λ duty. is_listed k more duty.holder) problem.duties,
+      sum_by-filter minutes (λ duty. is_listed k set duty.holder) problem.duties,
       sum_by-filter minutes (is_of_pairing p) problem.duties,
       sum_by-both (λ duty. cond (is_listed k more duty.holder) (minutes duty) 0) (λ duty. cond (is_listed k set duty.holder) (minutes duty) 0) (λ duty. cond (is_of_pairing p duty) (minutes duty) 0) each problem.duties,
     )
 
+month_flight-more : (problem : Problem) (days : Days) (k p : ℕ) (set more : List ℕ) → ((q : ℕ) → is_among more q ≡ (is_among set q || eqb q p)) → is_among set p ≡ false
+    → month_flight days (duty_list problem k more) ≡ month_flight days (duty_list problem k set) + month_flight days (filter (is_of_pairing p) problem.duties)
+month_flight-more problem days k p set more with_p new =
+    omega (
+      arith,
+      month_flight-sum days (duty_list problem k more),
+      month_flight-sum days (duty_list problem k set),
+      month_flight-sum days (filter (is_of_pairing p) problem.duties),
+      listed-more (duty_flight days) problem k p set more with_p new,
+    )
+
+with_one_behind : (set : List ℕ) (p q : ℕ) → is_among (set ++ p ∷ []) q ≡ (is_among set q || eqb q p)
+with_one_behind set p q = is_among-append set (p ∷ []) q ∙ ap (λ b. is_among set q || b) (same_either_way p q)
+
+pub listed-one_more : (minutes : Duty → ℕ) (problem : Problem) (k p : ℕ) (set : List ℕ) → is_among set p ≡ false
+    → sum_by minutes (duty_list problem k (set ++ p ∷ [])) ≡ sum_by minutes (duty_list problem k set) + sum_by minutes (filter (is_of_pairing p) problem.duties)
+listed-one_more minutes problem k p set new = listed-more minutes problem k p set (set ++ p ∷ []) (with_one_behind set p) new
+
 pub month_flight-one_more : (problem : Problem) (days : Days) (k p : ℕ) (set : List ℕ) → is_among set p ≡ false
     → month_flight days (duty_list problem k (set ++ p ∷ [])) ≡ month_flight days (duty_list problem k set) + month_flight days (filter (is_of_pairing p) problem.duties)
-month_flight-one_more problem days k p set new =
-    month_flight-more problem days k p set (set ++ p ∷ []) (λ q. is_among-append set (p ∷ []) q ∙ ap (λ b. is_among set q || b) (same_either_way p q)) new
+month_flight-one_more problem days k p set new = month_flight-more problem days k p set (set ++ p ∷ []) (with_one_behind set p) new
 
 -- ---- of a set
 

@@ -12,5 +12,5 @@ pub record Limited : Type 0 where
   pub carried : Person
 
 -- what the rule, if it is a limit, says of it
-abbrev pub IsWithin : Limited → Rule → Type 0
-IsWithin l rule = HoldsLimit l.days l.list l.carried.year l.carried.eleven rule
+abbrev pub IsKept : Limited → Rule → Type 0
+IsKept l rule = HoldsLimit l.days l.list l.carried.year l.carried.eleven rule

@@ -12,9 +12,11 @@
 //! - `sums`: both for duty and for flight
 //! - `whole`: the minutes of whole duties
 //! - `limits`: the limits together
+//! - `judged`: all sums that they judge, what a list takes of each and what it leaves
 //! - `laws`: what follows from the definitions of the month's flight
 #![tactic(auto)]
 
+mod judged;
 mod laws;
 mod limits;
 mod runs;
@@ -22,8 +24,10 @@ mod sums;
 mod table;
 mod whole;
 
+pub use judged::{have_room, loads_of, rooms_of, take_room};
 pub use laws::{
-    flight_of_duties, flight_of_one_pairing_more, flight_of_set, one_list_of_each_duty,
+    flight_of_duties, flight_of_one_pairing_more, flight_of_set, limits_are_sums,
+    one_list_of_each_duty, sums_of_one_pairing_more,
 };
 pub use limits::{ListLimits, cumulative_broken};
 pub use roster_problem::{DutyList, Rule};

@@ -6,12 +6,12 @@ ghost use Rattle.roster_model.specs.Rules.Limits.{KeepsLimit};
 ghost use Rattle.roster_model.specs.Sums as sums;
 ghost use Rattle.roster_model.specs.Sums.{on_day};
 ghost use Rattle.roster_problem.specs.View.{rule_of};
-ghost use Rattle.roster_cumulative.specs.Limited.{IsWithin};
-ghost use Rattle.roster_cumulative.specs.Table.{IsLight, IsTableOf, minutes_of};
+ghost use Rattle.roster_cumulative.specs.Limited.{IsKept};
+ghost use Rattle.roster_cumulative.specs.Table.{IsLight, AreMinutesByDay, minutes_of};
 
 use crate::runs::greatest_run;
 use crate::sums::month_flight;
-use crate::table::{Measure, table_of};
+use crate::table::{Measure, minutes_by_day};
 use crate::whole::keeps_whole;
 use roster_instants::BaseDays;
 use roster_model::limits::{DAYS_BEFORE, LAST_INSTANT, MOST_DAYS, MOST_DUTIES};
@@ -41,14 +41,14 @@ fn keeps_summed(
     n: usize,
     most: u64,
 ) -> bool
-    requires table { IfSome place.old (IsTableOf measure days.now list.now) }
+    requires table { IfSome place.old (AreMinutesByDay measure days.now list.now) }
     requires run { n ≤ DAYS_BEFORE }
     ensures value { IsTrue result
         ↔ KeepsLimit (on_day (minutes_of measure) days.now list.now) days.now n most }
-    ensures table { IfSome place.new (IsTableOf measure days.now list.now) }
+    ensures table { IfSome place.new (AreMinutesByDay measure days.now list.now) }
 {
     if place.is_none() {
-        *place = Some(table_of(days, list, measure));
+        *place = Some(minutes_by_day(days, list, measure));
     }
     keeps_limit(days, place.as_ref().unwrap(), n, most)
 }
@@ -73,10 +73,10 @@ impl<'a> Model for ListLimits<'a> {
     ghost view = { λ l. record { days = l.days.now; list = l.list.now; carried = l.carried.now } };
 
     ghost use Rattle.roster_cumulative.specs.declared.table.Measure.TheVariants.{Duty, Flight};
-    ghost use Rattle.roster_cumulative.specs.Table.{IsTableOf};
+    ghost use Rattle.roster_cumulative.specs.Table.{AreMinutesByDay};
 
-    ghost invariant = { λ l. IfSome l.duty (IsTableOf Duty l.days.now l.list.now)
-        × IfSome l.flight (IsTableOf Flight l.days.now l.list.now) };
+    ghost invariant = { λ l. IfSome l.duty (AreMinutesByDay Duty l.days.now l.list.now)
+        × IfSome l.flight (AreMinutesByDay Flight l.days.now l.list.now) };
 }
 
 impl<'a> ListLimits<'a> {
@@ -95,7 +95,7 @@ impl<'a> ListLimits<'a> {
 
     /// Whether the list keeps the rule as a limit. A rule that is no limit says nothing of that.
     pub fn holds(&mut self, rule: Rule) -> bool
-        ensures value { IsTrue result ↔ IsWithin self.old (rule_of rule) }
+        ensures value { IsTrue result ↔ IsKept self.old (rule_of rule) }
         ensures same { self.new ≡ self.old }
     {
         let carried = self.carried;

@@ -9,7 +9,7 @@ use roster_instants::BaseDays;
 use roster_model::limits::{DAYS_BEFORE, MOST_DAYS, MOST_DUTIES};
 
 /// The minutes of the `n` days before day `end`.
-fn run_before(table: &[u64; MOST_DAYS], n: usize, end: usize) -> u64
+pub(crate) fn run_before(table: &[u64; MOST_DAYS], n: usize, end: usize) -> u64
     requires run { n ≤ end }
     requires least { n ≤ DAYS_BEFORE }
     requires window { end ≤ MOST_DAYS }

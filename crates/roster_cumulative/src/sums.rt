@@ -5,7 +5,7 @@ ghost use Rattle.roster_model.specs.Sums as sums;
 ghost use Rattle.roster_cumulative.specs.Table.{minutes_of, most_in_run};
 
 use crate::runs::greatest_run;
-use crate::table::{Measure, table_of};
+use crate::table::{Measure, minutes_by_day};
 use roster_instants::{BaseDays, Minute, common};
 use roster_model::limits::{DAYS_BEFORE, LAST_INSTANT, MOST_MONTH_MINUTES};
 use roster_problem::{Duty, DutyList, Sector};
@@ -17,7 +17,7 @@ fn minutes_on(days: &BaseDays, list: &DutyList, i: usize, measure: Measure) -> i
     ensures bound { sums.on_day (minutes_of measure) days.now list.now i ≤ most_in_run }
 {
     prove!(i < days.days());
-    table_of(days, list, measure)[i] as i64
+    minutes_by_day(days, list, measure)[i] as i64
 }
 
 /// The most that the list has of the measure in a judged run of `n` days.
@@ -28,7 +28,7 @@ fn most_minutes(days: &BaseDays, list: &DutyList, n: usize, measure: Measure) ->
     ensures bound { let minutes = sums.on_day (minutes_of measure) days.now list.now in
         sums.greatest_run minutes days.now n ≤ most_in_run }
 {
-    greatest_run(days, &table_of(days, list, measure), n) as i64
+    greatest_run(days, &minutes_by_day(days, list, measure), n) as i64
 }
 
 /// The minutes of duty of the list on day `i`.

@@ -3,7 +3,7 @@
 ghost use Rattle.std.specs.Prelude.{◌≡◌, ◌+◌, ◌-◌, ◌≤◌, ℕ, slice_index};
 ghost use Rattle.roster_model.specs.Calendar as calendar;
 ghost use Rattle.roster_model.specs.Sums as sums;
-ghost use Rattle.roster_cumulative.specs.Table.{IsLight, IsTableOf, minutes_of};
+ghost use Rattle.roster_cumulative.specs.Table.{IsLight, AreMinutesByDay, minutes_of};
 
 use roster_instants::{BaseDays, Minute, common};
 use roster_model::limits::{LAST_INSTANT, MOST_DAYS, MOST_DUTIES};
@@ -89,8 +89,8 @@ fn add_duty(table: &mut [u64; MOST_DAYS], days: &BaseDays, duty: &Duty, measure:
 }
 
 /// What the list has of the measure on each day of the window.
-pub(crate) fn table_of(days: &BaseDays, list: &DutyList, measure: Measure) -> [u64; MOST_DAYS]
-    ensures { IsTableOf measure days.now list.now result }
+pub(crate) fn minutes_by_day(days: &BaseDays, list: &DutyList, measure: Measure) -> [u64; MOST_DAYS]
+    ensures { AreMinutesByDay measure days.now list.now result }
 {
     let mut table = [0; MOST_DAYS];
     for k in 0..list.len() {

@@ -8,7 +8,7 @@ use Rattle.jiff_tz.specs.PosixReader.{read_whole, tz_text}
 use Rattle.jiff_tz.specs.PosixText.{TzText}
 use Rattle.roster_model.specs.Calendar.{Period, days_of_window, first_day}
 use Rattle.roster_model.specs.Clocks.{second_at, offset_at, is_minute_at, minute_at}
-use Rattle.roster_model.specs.Zone.{days_of_zone, days_by_rule, has_minutes, rises, rises_on, table_of, instants_at}
+use Rattle.roster_model.specs.Zone.{days_of_zone, days_by_rule, has_minutes, rises, rises_on, days_shown, instants_at}
 use Rattle.roster_instants.specs.Laws.{IsPlainAtUtc, utc_days, utc_instants}
 
 abbrev utc : TzText
@@ -51,7 +51,7 @@ utc_are : (day n hour minute : ℕ) → hour * 60 ≡ minute → instants_at utc
 utc_are day n hour minute same =
     map_alike (λ d. minute_at utc d hour) (λ d. d * 1440 + minute) (λ d. utc_minute d hour ∙ ap (λ m. d * 1440 + m) same) (range_with_len day n)
 
-utc_table : (period : Period) → table_of period utc ≡ utc_days period
+utc_table : (period : Period) → days_shown period utc ≡ utc_days period
 utc_table period =
     let first = first_day period in
     let n = days_of_window period in

@@ -6,7 +6,7 @@ use Rattle.std.proofs.lemmas.Option.{slice_get-get_or, slice_get_within, get_or_
 use Rattle.jiff_tz.specs.PosixReader.{read_whole}
 use Rattle.jiff_tz.specs.PosixText.{TzText}
 use Rattle.roster_model.specs.Calendar.{Period, Days, IsDayOf, first_day, days_of_window, days_of_month}
-use Rattle.roster_model.specs.Zone.{NotRead, NotMinutes, NotRising, days_of_zone, days_by_rule, has_minutes, rises, table_of, instants_at}
+use Rattle.roster_model.specs.Zone.{NotRead, NotMinutes, NotRising, days_of_zone, days_by_rule, has_minutes, rises, days_shown, instants_at}
 
 -- a text that is no zone
 pub not_read : (period : Period) (text : List ℕ) → read_whole text ≡ None → days_of_zone period text ≡ Err NotRead
@@ -26,7 +26,7 @@ pub not_rising : (period : Period) (text : List ℕ) (zone : TzText) → read_wh
 unfolding days_by_rule
 not_rising period text zone read minutes rising = by_rule period text zone read ∙ rw (minutes, rising)
 
-pub has_days : (period : Period) (text : List ℕ) (zone : TzText) → read_whole text ≡ Some zone → has_minutes period zone ≡ true → rises period zone ≡ true → days_of_zone period text ≡ Ok (table_of period zone)
+pub has_days : (period : Period) (text : List ℕ) (zone : TzText) → read_whole text ≡ Some zone → has_minutes period zone ≡ true → rises period zone ≡ true → days_of_zone period text ≡ Ok (days_shown period zone)
 unfolding days_by_rule
 has_days period text zone read minutes rising = by_rule period text zone read ∙ rw (minutes, rising)
 
@@ -34,7 +34,7 @@ has_days period text zone read minutes rising = by_rule period text zone read �
 pub table_made : (period : Period) (zone : TzText) (first n month_days : ℕ) (mid eight ten : List ℕ)
     → first ≡ first_day period → n ≡ days_of_window period → month_days ≡ days_of_month period
     → mid ≡ instants_at zone 0 first (n + 1) → eight ≡ instants_at zone 8 first n → ten ≡ instants_at zone 22 first n
-    → record { month_days = month_days; mid = mid; eight = eight; ten = ten } ≡ table_of period zone
+    → record { month_days = month_days; mid = mid; eight = eight; ten = ten } ≡ days_shown period zone
 table_made period zone first n month_days mid eight ten is_first is_n is_month is_mid is_eight is_ten =
     rw (is_mid, is_eight, is_ten, is_month, is_n, is_first)
 

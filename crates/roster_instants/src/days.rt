@@ -4,7 +4,7 @@ ghost use Rattle.std.specs.Prelude.{◌≡◌, ◌+◌, ◌<◌, ◌≤◌, ℕ,
 ghost use Rattle.std.specs.List.Sorted.{IsNonDecreasing, IsPartitionPoint, IsStrictlyIncreasing};
 ghost use Rattle.jiff_core.specs.Date.{IsYmd, epoch_day};
 ghost use Rattle.roster_model.specs.Calendar.{IsTable, IsDayOf, day_number, days_of_month, days_of_window, first_day, month_end, month_start};
-ghost use Rattle.roster_model.specs.Zone.{days_of_zone, has_minutes, rises, table_of};
+ghost use Rattle.roster_model.specs.Zone.{days_of_zone, has_minutes, rises, days_shown};
 ghost use Rattle.roster_instants.specs.Refusals.{IsFaultOf};
 
 use crate::clocks::{
@@ -235,8 +235,8 @@ fn rises(clocks: &Clocks, period: Period) -> bool
 
 /// The tables of the window's days.
 fn table(alloc: Global, clocks: &Clocks, period: Period) -> Result<BaseDays, AllocError>
-    requires { IsTable (table_of period clocks.now) }
-    ensures { IfOk result (λ days. days ≡ table_of period clocks.now) }
+    requires { IsTable (days_shown period clocks.now) }
+    ensures { IfOk result (λ days. days ≡ days_shown period clocks.now) }
 {
     let Window { first, days } = window_of(period);
     Ok(BaseDays {

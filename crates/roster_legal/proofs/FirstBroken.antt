@@ -9,7 +9,7 @@ use Rattle.roster_model.specs.Problem.{Problem, home_of, year_of, eleven_of}
 use Rattle.roster_model.specs.records.Crew.{Person}
 use Rattle.roster_model.specs.records.Duty.{Duty}
 use Rattle.roster_model.specs.Rules.{Rule, BaseRule, OverlapRule, LeaveRule, RestRule, RecoveryRule, Duty7Rule, Duty14Rule, Duty28Rule, Flight28Rule, FlightYearRule, Flight12Rule, duty_list, rank_of, Holds, HoldsLimit, IsFirstBroken}
-use Rattle.roster_cumulative.specs.Limited.{Limited, IsWithin}
+use Rattle.roster_cumulative.specs.Limited.{Limited, IsKept}
 use Rattle.roster_legal.specs.Looks.{LookAt}
 
 pub IsFirstBroken-one : (problem : Problem) (k : ℕ) (set : List ℕ) (a b : Option Rule) → IsFirstBroken problem k set a → IsFirstBroken problem k set b → a ≡ b
@@ -68,7 +68,7 @@ abbrev pub HoldsAsLimit : Problem → ℕ → List ℕ → Rule → Type 0
 HoldsAsLimit problem k set rule =
     HoldsLimit (home_of problem k).days (duty_list problem k set) (year_of problem k) (eleven_of problem k) rule
 
-as_limit : (problem : Problem) (k : ℕ) (set : List ℕ) (limits : Limited) (rule : Rule) (test : Bool) → LookAt problem k set limits → (IsTrue test ↔ IsWithin limits rule) → (IsTrue test ↔ HoldsAsLimit problem k set rule)
+as_limit : (problem : Problem) (k : ℕ) (set : List ℕ) (limits : Limited) (rule : Rule) (test : Bool) → LookAt problem k set limits → (IsTrue test ↔ IsKept limits rule) → (IsTrue test ↔ HoldsAsLimit problem k set rule)
 as_limit problem k set limits rule test look is =
     let home = (home_of problem k).days in
     let duties = duty_list problem k set in
@@ -81,7 +81,7 @@ as_limit problem k set limits rule test look is =
     (subst (λ (d : Days). IsTrue test ↔ HoldsLimit d limits.list person.year person.eleven rule) look.days is)))
 
 -- a rule after Recovery holds where it does as a limit
-pub holds-limit : (problem : Problem) (k : ℕ) (set : List ℕ) (limits : Limited) (rule : Rule) (test : Bool) → rank_of RecoveryRule < rank_of rule → LookAt problem k set limits → (IsTrue test ↔ IsWithin limits rule) → (IsTrue test ↔ Holds problem k set rule)
+pub holds-limit : (problem : Problem) (k : ℕ) (set : List ℕ) (limits : Limited) (rule : Rule) (test : Bool) → rank_of RecoveryRule < rank_of rule → LookAt problem k set limits → (IsTrue test ↔ IsKept limits rule) → (IsTrue test ↔ Holds problem k set rule)
 holds-limit problem k set limits BaseRule test after look is = absurd (omega arith)
 holds-limit problem k set limits OverlapRule test after look is = absurd (omega arith)
 holds-limit problem k set limits LeaveRule test after look is = absurd (omega arith)

@@ -55,7 +55,7 @@ pub rising_from_sort : (xs ys : List ℕ) → IsDistinct eqb xs → IsPermutatio
 rising_from_sort xs ys distinct same sorted =
     IsStrictlyIncreasing-from_distinct ys (IsNonDecreasingBy-from_sort (λ x. x) ys sorted) (IsDistinct-IsPermutation eqb eqb_sym xs ys same distinct)
 
-is_among-IsPermutation : (xs ys : List ℕ) (i : ℕ) → IsPermutation xs ys → is_among ys i ≡ is_among xs i
+pub is_among-IsPermutation : (xs ys : List ℕ) (i : ℕ) → IsPermutation xs ys → is_among ys i ≡ is_among xs i
 is_among-IsPermutation xs ys i same = sym (list_any-IsPermutation (λ x. eqb x i) xs ys same)
 
 -- ---- the places so far
@@ -84,11 +84,11 @@ is_listed-next k from p set (OfPairing q) l here skipped =
     ∙ before-next from p q (is_among set q) l (λ e. subst (λ r. is_among set r ≡ true) (sym e) here) (skipped q)
     ∙ ap (λ b. b || eqb q p) (sym (is_among-filter (λ r. nat_lt r from) set q))
 
-either : (f g h : Duty → Bool) → ((duty : Duty) → h duty ≡ (f duty || g duty)) → (o : Option Duty) → option_map_or h o false ≡ (option_map_or f o false || option_map_or g o false)
+pub either : (f g h : Duty → Bool) → ((duty : Duty) → h duty ≡ (f duty || g duty)) → (o : Option Duty) → option_map_or h o false ≡ (option_map_or f o false || option_map_or g o false)
 either f g h e None = refl
 either f g h e (Some duty) = e duty
 
-neither : (f g : Duty → Bool) → ((duty : Duty) → f duty ≡ true → g duty ≡ false) → (o : Option Duty) → option_map_or f o false ≡ true → option_map_or g o false ≡ false
+pub neither : (f g : Duty → Bool) → ((duty : Duty) → f duty ≡ true → g duty ≡ false) → (o : Option Duty) → option_map_or f o false ≡ true → option_map_or g o false ≡ false
 neither f g e None h = refl
 neither f g e (Some duty) h = e duty h
 

@@ -4,3 +4,6 @@ pub mod OffLeave
 pub mod Parts
 pub mod FirstBroken
 pub mod EachPerson
+pub mod Covered
+pub mod Pairwise
+pub mod Stepped

@@ -39,7 +39,7 @@ leaves_pairings problem k set part i d inside left =
     of_pairing k set part _ (filter_passes (λ duty. is_listed k set duty.holder) problem.duties i d inside) left
 
 -- the duty list of a set is in order, and its duties end after they begin, as all duties do
-list_ordered : (problem : Problem) (k : ℕ) (set : List ℕ) → IsInOrder problem.duties → IsInOrder (duty_list problem k set)
+pub list_ordered : (problem : Problem) (k : ℕ) (set : List ℕ) → IsInOrder problem.duties → IsInOrder (duty_list problem k set)
 list_ordered problem k set ordered =
     AllPairs-filter (λ a b. precedes b a ≡ false) (λ duty. is_listed k set duty.holder) problem.duties ordered
 

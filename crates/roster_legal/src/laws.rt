@@ -1,9 +1,9 @@
 //! What follows from the definitions alone.
 
-ghost use Rattle.std.specs.Prelude.{◌≡◌, ℕ, true, List, Option};
+ghost use Rattle.std.specs.Prelude.{◌≡◌, ◌<◌, ◌∷◌, [], ℕ, true, List, Option};
 ghost use Rattle.roster_model.specs.Problem.{Problem};
 ghost use Rattle.roster_model.specs.Rosters.{AreVerdicts};
-ghost use Rattle.roster_model.specs.Rules.{is_among, AreLocks, IsFirstBroken, IsLegal, Rule};
+ghost use Rattle.roster_model.specs.Rules.{is_among, rank_of, AreLocks, Holds, IsFirstBroken, IsLegal, RecoveryRule, Rule};
 ghost use Rattle.roster_problem.specs.Duties.{AreTimed, IsInOrder};
 
 /// A person breaks at most one rule first with a set.
@@ -42,4 +42,15 @@ pub fn part_of_legal_is_legal()
         → IsInOrder problem.duties → AreTimed problem.duties
         → ((p : ℕ) → is_among part p ≡ true → is_among set p ≡ true)
         → IsLegal problem k set → IsLegal problem k part }
+{}
+
+/// Of a set of which each pairing is legal alone, and each two of them together, the rules that speak of
+/// one duty or of two hold: all that are judged before Recovery.
+pub fn pairs_decide()
+    ensures { (problem : Problem) (k some : ℕ) (set : List ℕ) (rule : Rule)
+        → is_among set some ≡ true
+        → ((p : ℕ) → is_among set p ≡ true → IsLegal problem k (p ∷ []))
+        → ((p q : ℕ) → p < q → is_among set p ≡ true → is_among set q ≡ true
+        → IsLegal problem k (p ∷ q ∷ []))
+        → rank_of rule < rank_of RecoveryRule → Holds problem k set rule }
 {}

@@ -10,6 +10,8 @@
 //!   `roster_cumulative` the limits
 //! - `rules`: the rules together
 //! - `judging`: sets judged, and many of them in the memory of one list
+//! - `loads`: what a person's rules see of each duty and of each pairing
+//! - `stepping`: sets judged with one pairing more
 //! - `laws`: what follows from the definitions
 #![tactic(auto)]
 
@@ -18,12 +20,16 @@ mod judging;
 mod laws;
 mod leave;
 mod listing;
+mod loads;
 mod overlap;
 mod rules;
+mod stepping;
 
 pub use judging::{Judge, first_broken, is_legal, locked};
 pub use laws::{
     has_locks, has_verdicts, one_first_broken, one_list_of_locks, one_list_of_verdicts,
-    part_of_legal_is_legal,
+    pairs_decide, part_of_legal_is_legal,
 };
 pub use listing::merge;
+pub use loads::Loads;
+pub use stepping::{JudgedSet, Spare};

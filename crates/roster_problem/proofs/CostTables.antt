@@ -10,7 +10,7 @@ use Rattle.std.proofs.lemmas.List.{get_or-set_same, get_or-set_other}
 use Rattle.std.proofs.lemmas.List.Elements.{All-head, All-tail, All-weaker, All-push}
 use Rattle.roster_model.specs.declared.limits.TheConstants.{MOST_PERSONS, MOST_PAIRINGS}
 use Rattle.roster_model.specs.records.Cost.{Cost, is_cost_of, units_given}
-use Rattle.roster_problem.specs.Costs.{IsTableOf, units_at}
+use Rattle.roster_problem.specs.Costs.{AreUnitsOf, units_at}
 
 -- ---- what is given
 
@@ -83,11 +83,11 @@ other_cost cost k p apart = by (is_cost_of k p cost) refl
         absurd (apart (sym (ap (λ j. j * MOST_PAIRINGS + p) person) ∙ sym (ap (λ q. cost.person * MOST_PAIRINGS + q) pairing)))
 
 -- the table with the units of one more cost, where it has room for them
-pub IsTableOf-push : (costs : List Cost) (table room : List (Option ℤ)) (cost : Cost) → IsTableOf costs table
+pub AreUnitsOf-push : (costs : List Cost) (table room : List (Option ℤ)) (cost : Cost) → AreUnitsOf costs table
     → ((i : ℕ) → get_or room i None ≡ get_or table i None) → cost.person < MOST_PERSONS → cost.pairing < MOST_PAIRINGS
     → units_given costs cost.person cost.pairing ≡ None → place_of cost < length room
-    → IsTableOf (costs ++ cost ∷ []) (set room (place_of cost) (Some cost.units))
-IsTableOf-push costs table room cost is same person pairing none within = record {
+    → AreUnitsOf (costs ++ cost ∷ []) (set room (place_of cost) (Some cost.units))
+AreUnitsOf-push costs table room cost is same person pairing none within = record {
   persons = All-push (λ c. c.person < MOST_PERSONS) costs cost is.persons person;
   pairings = All-push (λ c. c.pairing < MOST_PAIRINGS) costs cost is.pairings pairing;
   each = λ k p l. elim (cases_eq (k * MOST_PAIRINGS + p) (place_of cost)) [

@@ -8,3 +8,4 @@ pub mod Words
 pub mod PositionLists
 pub mod Indexes
 pub mod CostTables
+pub mod PutLemmas

@@ -8,7 +8,7 @@ abbrev pub units_at : List (Option ℤ) → ℕ → ℕ → Option ℤ
 units_at table k p = slice_index_or table (k * MOST_PAIRINGS + p) None
 
 -- the table has the units of each person with each pairing
-pub record IsTableOf (costs : List Cost) (table : List (Option ℤ)) : Type 0 where
+pub record AreUnitsOf (costs : List Cost) (table : List (Option ℤ)) : Type 0 where
   pub persons : All (λ cost. cost.person < MOST_PERSONS) costs
   pub pairings : All (λ cost. cost.pairing < MOST_PAIRINGS) costs
   pub each : (k p : ℕ) → p < MOST_PAIRINGS → units_at table k p ≡ units_given costs k p

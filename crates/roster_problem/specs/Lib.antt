@@ -5,3 +5,4 @@ pub mod Set
 pub mod Bits
 pub mod Duties
 pub mod Costs
+pub mod Placing

@@ -5,11 +5,14 @@ use Rattle.roster_problem.specs.declared.duty.Holder.{Holder}
 use Rattle.roster_problem.specs.declared.duty.Holder.TheVariants as holders
 use Rattle.roster_problem.specs.declared.rule.Rule.{Rule}
 use Rattle.roster_problem.specs.declared.rule.Rule.TheVariants as rules
-use Rattle.roster_problem.specs.declared.tables.Tables.{Tables}
+use Rattle.roster_problem.specs.declared.step.Step.{Step}
+use Rattle.roster_problem.specs.declared.step.Step.TheVariants as steps
+use Rattle.roster_problem.specs.declared.tables.BookTables.{BookTables}
 use Rattle.roster_model.specs.Rules as judged
 use Rattle.roster_model.specs.Record as asked
 use Rattle.roster_model.specs.Problem.{Problem, in_order}
 use Rattle.roster_model.specs.records.Duty as model
+use Rattle.roster_model.specs.records.Step as replayed
 
 abbrev pub holder_of : Holder → model.Holder
 holder_of (holders.Pairing p) = model.OfPairing p
@@ -31,9 +34,17 @@ rule_of rules.Flight12 = judged.Flight12Rule
 abbrev pub command_of : Command → asked.Command
 command_of commands.Solve = asked.Solve
 command_of commands.Check = asked.Check
+command_of commands.Replay = asked.Replay
+
+abbrev pub step_of : Step → replayed.Step
+step_of (steps.Take worker place) = replayed.Take worker place
+step_of (steps.Halve worker) = replayed.Halve worker
+step_of (steps.Descend worker) = replayed.Descend worker
+step_of (steps.Back worker) = replayed.Back worker
+step_of (steps.Search worker every) = replayed.Search worker every
 
 -- the tables, without where they lie in memory
-abbrev pub tables_of : Tables → Problem
+abbrev pub tables_of : BookTables → Problem
 tables_of t = record {
   period = t.period;
   weight = t.weight;
@@ -46,5 +57,5 @@ tables_of t = record {
 }
 
 -- the same with the duties in their order in time
-abbrev pub ordered : Tables → Problem
+abbrev pub ordered : BookTables → Problem
 ordered t = record (tables_of t) { duties = in_order t.duties.items }

@@ -7,4 +7,6 @@ pub enum Command {
     Solve,
     /// Judge the roster that the book gives.
     Check,
+    /// Find the best roster of the book, which may give the steps of a search.
+    Replay,
 }

@@ -20,13 +20,13 @@ pub struct Costs {
 impl Model for Costs {
     ghost use Rattle.std.specs.Prelude.{List};
     ghost use Rattle.roster_model.specs.records.Cost.{Cost as Entry};
-    ghost use Rattle.roster_problem.specs.Costs.{IsTableOf};
+    ghost use Rattle.roster_problem.specs.Costs.{AreUnitsOf};
 
     ghost Value = { List Entry };
 
     ghost view = { λ c. c.costs.items };
 
-    ghost invariant = { λ c. IsTableOf c.costs.items c.table.items };
+    ghost invariant = { λ c. AreUnitsOf c.costs.items c.table.items };
 }
 
 impl Costs {

@@ -16,6 +16,8 @@
 //! - `duty_list`: the duties of one person
 //! - `rule`: the rules by name
 //! - `roster`: who flies what
+//! - `placing`: a number at all places of a set
+//! - `step`: what a worker does in a search that is replayed
 //! - `command`: what the program is asked to do
 #![tactic(auto)]
 
@@ -31,11 +33,13 @@ mod name;
 mod order;
 mod pairing;
 mod person;
+mod placing;
 mod problem;
 mod roster;
 mod rule;
 mod sector;
 mod set;
+mod step;
 mod tables;
 
 pub use base::Base;
@@ -49,9 +53,11 @@ pub use name::{Name, is_identifier};
 pub use order::duties_in_order;
 pub use pairing::Pairing;
 pub use person::Person;
+pub use placing::{has_throughout, open_number, put};
 pub use problem::Problem;
 pub use roster::{Places, Roster};
 pub use rule::Rule;
 pub use sector::Sector;
 pub use set::Set;
-pub use tables::Tables;
+pub use step::{Step, Steps};
+pub use tables::BookTables;

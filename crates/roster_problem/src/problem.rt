@@ -15,7 +15,7 @@ use crate::leave::Leave;
 use crate::order::in_order;
 use crate::pairing::Pairing;
 use crate::person::Person;
-use crate::tables::Tables;
+use crate::tables::BookTables;
 use roster_instants::{BaseDays, Period};
 use roster_model::limits::MOST_DUTIES;
 use std::alloc::{AllocError, Global};
@@ -27,7 +27,7 @@ use std::marker::Model;
 #[derive(Debug, Drop)]
 pub struct Problem {
     // Duties are in their order in time.
-    tables: Tables,
+    tables: BookTables,
     by_pairing: Lists,
     by_person: Lists,
     on_leave: Lists,
@@ -50,7 +50,7 @@ impl Problem {
     ghost use Rattle.roster_problem.specs.View.{ordered};
 
     /// The problem of a book without a fault. Duties are put into their order in time.
-    pub fn new(alloc: Global, mut tables: Tables) -> Result<Problem, AllocError>
+    pub fn new(alloc: Global, mut tables: BookTables) -> Result<Problem, AllocError>
         requires sound { IsSound (ordered tables) }
         requires faultless { IsFaultless (ordered tables) }
         ensures { IfOk result (λ problem. problem ≡ ordered tables) }
@@ -66,6 +66,18 @@ impl Problem {
             by_person,
             on_leave,
         })
+    }
+
+    /// Nothing but what each problem keeps: its tables are within their limits, its references are
+    /// there, its records have no fault, and its duties are in order, each with its sectors in it.
+    pub fn is_sound(&self)
+        ensures sound { IsSound self.now }
+        ensures faultless { IsFaultless self.now }
+        ensures ordered { IsInOrder self.now.duties }
+        ensures timed { AreTimed self.now.duties }
+        ensures flown { AreFlown self.now.duties }
+    {
+        self.duties();
     }
 
     /// The month.

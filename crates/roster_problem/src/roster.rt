@@ -1,6 +1,6 @@
 //! Who flies what.
 
-ghost use Rattle.std.specs.Prelude.{◌≡◌};
+ghost use Rattle.std.specs.Prelude.{◌≡◌, length};
 
 use std::marker::Model;
 
@@ -34,6 +34,14 @@ impl Places {
         &self.places
     }
 
+    /// Becomes the places of another list of the same length. It takes no memory.
+    pub fn copy_from_slice(&mut self, places: &[u16])
+        requires { length self.old ≡ length places.now }
+        ensures { self.new ≡ places.now }
+    {
+        self.places.copy_from_slice(places);
+    }
+
     /// Gives the vector back.
     pub fn into_vec(self) -> Vec<u16>
         ensures { result.items ≡ self }
@@ -43,7 +51,7 @@ impl Places {
 }
 
 /// A roster, and a cost. That it is what the places cost is the word of whoever made it: plain data
-/// that a caller may write, so a reader that counts on it asks for it.
+/// that a caller may write, so a reader that counts on it asks for it. Contracts see it as its key.
 #[derive(Debug, Drop)]
 pub struct Roster {
     /// Who flies each pairing.
@@ -51,4 +59,12 @@ pub struct Roster {
     /// The penalties of open pairings, the units of placed ones, and the missed targets, in all, in
     /// cost units.
     pub cost: i64,
+}
+
+impl Model for Roster {
+    ghost use Rattle.roster_model.specs.Rosters.{Key};
+
+    ghost Value = { Key };
+
+    ghost view = { λ r. record { cost = r.cost; places = r.places } };
 }

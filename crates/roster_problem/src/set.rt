@@ -97,11 +97,12 @@ impl Set {
         Ok(set)
     }
 
-    // Puts the pairing at place `p` into it.
-    fn put(&mut self, p: usize)
+    /// Puts the pairing at place `p` into it. It takes no memory.
+    pub fn put(&mut self, p: usize)
         requires { p < MOST_PAIRINGS }
         ensures value { self.new ≡ with_place p self.old }
-        ensures ascending { IsStrictlyIncreasing self.old }
+        ensures members { (q : ℕ) → is_among self.new q ≡ (is_among self.old q || p == q) }
+        ensures last { All (λ q. q < p) self.old → self.new ≡ self.old ++ p ∷ [] }
     {
         set_bit(&mut self.words, p);
     }

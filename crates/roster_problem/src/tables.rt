@@ -11,7 +11,7 @@ use roster_instants::Period;
 /// The tables of a problem. They are given in book order; [`Problem`](crate::Problem) puts the duties
 /// into their order in time.
 #[derive(Debug, Drop)]
-pub struct Tables {
+pub struct BookTables {
     /// The month.
     pub period: Period,
     /// The cost of a minute by which a person's flight in the month misses the target, if it is given.

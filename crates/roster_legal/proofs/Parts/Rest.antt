@@ -9,15 +9,15 @@ use Rattle.roster_model.specs.records.Duty.{Duty}
 use Rattle.roster_model.specs.Rules.Rest.{IsRested, KeepsRest, is_of_pairing, least_rest}
 use Rattle.roster_problem.specs.Duties.{AreTimed}
 
-abbrev RestLies : Base → Duty → Duty → Type 0
+abbrev pub RestLies : Base → Duty → Duty → Type 0
 RestLies home a b = (is_of_pairing a.holder || is_of_pairing b.holder) ≡ true → IsRested home a b
 
 -- rest lies between a and the first of the list
-abbrev RestsFirst : Base → Duty → List Duty → Type 0
+abbrev pub RestsFirst : Base → Duty → List Duty → Type 0
 RestsFirst home a [] = Unit {0}
 RestsFirst home a (b ∷ list) = RestLies home a b
 
-abbrev Rests : Base → List Duty → Type 0
+abbrev pub Rests : Base → List Duty → Type 0
 Rests home [] = Unit {0}
 Rests home (a ∷ list) = RestsFirst home a list × Rests home list
 
@@ -30,11 +30,11 @@ first_rests : (home : Base) (a : Duty) (list : List Duty) → KeepsRest home (a 
 first_rests home a [] keeps = tt
 first_rests home a (b ∷ list) keeps = keeps 0 a b refl refl
 
-rests_from : (home : Base) (list : List Duty) → KeepsRest home list → Rests home list
+pub rests_from : (home : Base) (list : List Duty) → KeepsRest home list → Rests home list
 rests_from home [] keeps = tt
 rests_from home (a ∷ list) keeps = (first_rests home a list keeps, rests_from home list (tail_rests home a list keeps))
 
-keeps_from : (home : Base) (list : List Duty) → Rests home list → KeepsRest home list
+pub keeps_from : (home : Base) (list : List Duty) → Rests home list → KeepsRest home list
 keeps_from home [] rests i a b first second = absurd (none-some a first)
 keeps_from home (c ∷ []) rests zero a b first second = absurd (none-some b second)
 keeps_from home (c ∷ d ∷ list) rests zero a b first second =

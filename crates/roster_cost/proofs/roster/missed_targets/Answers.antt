@@ -1,4 +1,4 @@
-use Rattle.std.proofs.Common.{◌≡◌, ℕ, suc, ◌+◌, ◌*◌, ◌≤◌, List, length, pos, sym, ap, ◌∙◌, arith}
+use Rattle.std.proofs.Common.{◌≡◌, ℕ, ◌+◌, ◌*◌, ◌≤◌, List, length, pos, sym, ap, ◌∙◌, arith}
 use Rattle.std.specs.List.{range_with_len, sum_by}
 use Rattle.roster_model.specs.Costs.{distance, flight_of, missed_target}
 use Rattle.roster_model.specs.Places.{set_of}
@@ -7,16 +7,11 @@ use Rattle.roster_model.specs.Rules.{duty_list}
 use Rattle.roster_model.specs.declared.limits.TheConstants.{MOST_MINUTES, MOST_MONTH_MINUTES, MOST_WEIGHT}
 use Rattle.roster_model.proofs.CostLemmas.{total-pos}
 use Rattle.roster_model.proofs.SetLemmas.{places_of_number}
-use Rattle.roster_model.proofs.SumLemmas.{sum_by-range_more}
+use Rattle.roster_model.proofs.SumLemmas.{sum_by-range_next}
 use Rattle.roster_cost.proofs.roster.missed_targets.Goals as goal
 
 pub set_flight-requires-clause-places : goal.set_flight-requires-clause-places
 set_flight-requires-clause-places c = rw (c.of_places-set.ensures, ← c.requires) (places_of_number c.loop-k.k c.args.places.now)
-
-one_more : (f : ℕ → ℕ) (k : ℕ) → sum_by f (range_with_len 0 (k + 1)) ≡ sum_by f (range_with_len 0 k) + f k
-one_more f k =
-    let next : k + 1 ≡ suc k = omega arith in
-    ap (λ n. sum_by f (range_with_len 0 n)) next ∙ sum_by-range_more f 0 k k (omega arith)
 
 -- the minutes on the lists of persons up to one
 bounded : (c : goal.After-missed-cost)
@@ -26,7 +21,7 @@ bounded c =
     let k = c.loop-k.k in
     let lists : ℕ → ℕ = λ j. length (duty_list problem j (set_of j c.args.places.now)) in
     let listed = ap (λ (set : List ℕ). length (duty_list problem k set)) c.of_places-set.ensures in
-    omega (arith, c.loop-k.invariant.bound, c.missed-cost.ensures.bound, c.set_flight.ensures.bound, listed, one_more lists k)
+    omega (arith, c.loop-k.invariant.bound, c.missed-cost.ensures.bound, c.set_flight.ensures.bound, listed, sum_by-range_next lists k)
 
 pub overflow_add-cost : goal.overflow_add-cost
 overflow_add-cost c =
@@ -42,7 +37,7 @@ loop-k-preserved c =
     let flight = c.set_flight.ensures.value ∙ ap (flight_of problem k) c.of_places-set.ensures in
     let cost = c.missed-cost.ensures.value ∙ ap (λ minutes. weight_of problem * distance minutes (target_of problem k)) flight in
     record {
-      value = omega (arith, c.loop-k.invariant.value, cost, one_more (λ j. missed_target problem j (set_of j c.args.places.now)) k);
+      value = omega (arith, c.loop-k.invariant.value, cost, sum_by-range_next (λ j. missed_target problem j (set_of j c.args.places.now)) k);
       bound = bounded c;
     }
 

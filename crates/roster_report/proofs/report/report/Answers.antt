@@ -6,6 +6,7 @@ use Rattle.std.specs.Int.RustNames.{FitsSigned}
 use Rattle.std.specs.Fmt.{signed_decimal}
 use Rattle.roster_model.specs.Calendar.{Period}
 use Rattle.roster_model.specs.Places.{set_of, open_number}
+use Rattle.roster_model.specs.Rosters.{Key}
 use Rattle.roster_model.specs.Rules.{Rule}
 use Rattle.roster_model.specs.Texts.{report_text, line_of, period_text, crew_lines, names_of}
 use Rattle.roster_problem.specs.View.{rule_of}
@@ -17,11 +18,14 @@ unfolding report_text
 returns c =
     let problem = c.args.problem.now in
     let heading = c.in_ok-push_heading.ensures ∙ ap (λ (t : List ℕ). t ++ line_of (codes "ROSTER" ∷ period_text c.period.result ∷ [])) c.new-text.ensures.items ∙ ap (λ (p : Period). line_of (codes "ROSTER" ∷ period_text p ∷ [])) c.period.ensures in
-    let fits : FitsSigned w64 c.args.roster.now.cost = search rules in
-    let cost = c.in_ok-push_cost.ensures ∙ ap (λ (z : ℤ). c.push_heading.new.out.items ++ line_of (codes "COST" ∷ signed_decimal z ∷ [])) (to_z-of_z w64 c.args.roster.now.cost fits ∙ c.requires.cost) in
+    let inside = c.roster.inside in
+    let fits : FitsSigned w64 inside.cost = search rules in
+    let told = to_z-of_z w64 inside.cost fits ∙ ap (λ (key : Key). key.cost) c.roster.view_is ∙ c.requires.cost in
+    let placed = c.as_slice-places.ensures ∙ ap (λ (key : Key). key.places) c.roster.view_is in
+    let cost = c.in_ok-push_cost.ensures ∙ ap (λ (z : ℤ). c.push_heading.new.out.items ++ line_of (codes "COST" ∷ signed_decimal z ∷ [])) told in
     let locks : List (Option Rule) = map (option_map rule_of) c.in_ok-locks.locks.items in
-    let crews = c.in_ok-push_crews.ensures ∙ ap (λ (places : List ℕ). c.push_cost.new.out.items ++ crew_lines problem (map (option_map rule_of) c.deref.result.now) places) c.as_slice-places.ensures ∙ ap (λ ls. c.push_cost.new.out.items ++ crew_lines problem (map (option_map rule_of) ls) c.args.roster.now.places) c.deref.ensures.value in
-    let open_line = c.in_ok-push_open.ensures ∙ ap (λ (places : List ℕ). c.push_crews.new.out.items ++ line_of (codes "OPEN" ∷ names_of problem (set_of (open_number problem) places))) c.as_slice-places.ensures in
+    let crews = c.in_ok-push_crews.ensures ∙ ap (λ (places : List ℕ). c.push_cost.new.out.items ++ crew_lines problem (map (option_map rule_of) c.deref.result.now) places) placed ∙ ap (λ ls. c.push_cost.new.out.items ++ crew_lines problem (map (option_map rule_of) ls) c.args.roster.now.places) c.deref.ensures.value in
+    let open_line = c.in_ok-push_open.ensures ∙ ap (λ (places : List ℕ). c.push_crews.new.out.items ++ line_of (codes "OPEN" ∷ names_of problem (set_of (open_number problem) places))) placed in
     record {
       locks = locks;
       locked = c.in_ok-locks.ensures;

@@ -1,4 +1,4 @@
-use Rattle.std.proofs.Common.{sym}
+use Rattle.std.proofs.Common.{refl, sym}
 use Rattle.roster_book.specs.Draft.{contents_of, tables_of_draft}
 use Rattle.roster_book.proofs.Finishing.{IsBookOf-draft, IsFaultless-draft, first_fault-missing, first_fault-none}
 use Rattle.roster_book.proofs.Sound.{IsSound-in_order, IsSound-records}
@@ -20,7 +20,7 @@ new-requires-clause-faultless c = rw c.into_vec.ensures (IsFaultless-draft (cont
 pub returns-clause-told : goal.returns-clause-told
 returns-clause-told c = λ command row records d.
     IsBookOf-draft command row records (contents_of c.args.self) _ d (sym c.in_default.ensures)
-    (rw c.into_vec.ensures at c.in_ok-problem.ensures) c.in_ok-assigned.ensures
+    (rw c.into_vec.ensures at c.in_ok-problem.ensures) c.in_ok-assigned.ensures refl
 
 pub returns-in_err-assigned-clause-memory : goal.returns-in_err-assigned-clause-memory
 returns-in_err-assigned-clause-memory c = λ command row records d memory. first_fault-none command row records (contents_of c.args.self) d (sym c.in_default.ensures)

@@ -1,11 +1,11 @@
-use Rattle.std.proofs.Common.{ℕ, ◌<◌, eqb, eqb-true, ◌||◌, inl, inr, sym, subst, ap, ◌∙◌}
-use Rattle.std.specs.List.Sorted.{IsStrictlyIncreasing}
+use Rattle.std.proofs.Common.{◌≡◌, ℕ, ◌<◌, eqb, eqb-true, ◌||◌, inl, inr, sym, subst, ap, ◌∙◌}
 use Rattle.std.proofs.lemmas.Bool.{or_cases, eqb-true}
 use Rattle.roster_model.specs.declared.limits.TheConstants.{MOST_PAIRINGS}
-use Rattle.roster_model.proofs.SetLemmas.{rising_from_Ascends}
-use Rattle.roster_problem.specs.Set.{places_in}
+use Rattle.roster_model.specs.Rules.{is_among}
+use Rattle.roster_model.proofs.SetLemmas.{Ascends}
+use Rattle.roster_problem.specs.Set.{places_in, with_place}
 use Rattle.roster_problem.specs.Bits.{is_among-places_in, Ascends-places_in, places_in_set}
-use Rattle.roster_problem.proofs.SetParts.{Ascends-with_place, is_among-with_place}
+use Rattle.roster_problem.proofs.SetParts.{Ascends-with_place, is_among-with_place, with_place-last}
 use Rattle.roster_problem.proofs.set.Set.put.Goals as goal
 
 pub invariant_of-self : goal.invariant_of-self
@@ -18,8 +18,9 @@ invariant_of-self c = record {
   ];
 }
 
-pub returns-clause-value : goal.returns-clause-value
-returns-clause-value c =
+-- the words are those of the set with the place in it
+put_value : (c : goal.After-set_bit) → places_in c.set_bit.new.words ≡ with_place c.args.p c.args.self.now
+put_value c =
     let words = c.self.inside.words in
     let p = c.args.p in
     let up = Ascends-places_in words in
@@ -31,5 +32,13 @@ returns-clause-value c =
     ])
     (λ q. c.set_bit.ensures.bits q ∙ sym (members q)))
 
-pub returns-clause-ascending : goal.returns-clause-ascending
-returns-clause-ascending c = subst IsStrictlyIncreasing c.self.view_is (rising_from_Ascends _ (Ascends-places_in c.self.inside.words).1)
+pub returns-clause-value : goal.returns-clause-value
+returns-clause-value c = put_value c
+
+pub returns-clause-members : goal.returns-clause-members
+returns-clause-members c q = ap (λ set. is_among set q) (put_value c) ∙ is_among-with_place c.args.p c.args.self.now q
+
+pub returns-clause-last : goal.returns-clause-last
+returns-clause-last c last =
+    let rising = subst Ascends c.self.view_is (Ascends-places_in c.self.inside.words).1 in
+    put_value c ∙ with_place-last c.args.p c.args.self.now rising last

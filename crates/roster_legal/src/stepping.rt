@@ -1,0 +1,207 @@
+//! Sets that are judged with one pairing more, out of what is known of them.
+
+ghost use Rattle.std.specs.Prelude.{◌≡◌, ◌<◌, ◌≤◌, ◌-◌, ◌||◌, ℕ, [], true, false, IfOk, IsTrue, MatchOption, length, slice_index};
+ghost use Rattle.std.specs.List.Sorted.{IsStrictlyIncreasing};
+ghost use Rattle.roster_model.specs.Problem.{home_of, year_of, eleven_of};
+ghost use Rattle.roster_model.specs.Rules.{duty_list, is_among};
+ghost use Rattle.roster_model.specs.Rules.Recovery.{KeepsRecovery};
+ghost use Rattle.roster_cumulative.specs.Judged.{AreWithin};
+ghost use Rattle.roster_legal.specs.Stepping.{with_next, AreDutiesOf, AreRoomsOf, IsLegalNext, IsNext};
+
+use crate::listing::merge;
+use crate::loads::Loads;
+use roster_cumulative::{have_room, rooms_of, take_room};
+use roster_problem::{Problem, Set};
+use std::alloc::{AllocError, Global};
+use std::marker::Model;
+
+/// Memory of sets that are done with.
+#[derive(Debug, Drop)]
+pub struct Spare {
+    alloc: Global,
+    lists: Vec<Vec<u16>>,
+}
+
+impl Spare {
+    /// No memory so far.
+    pub fn new(alloc: Global) -> Spare {
+        Spare {
+            alloc,
+            lists: Vec::new(alloc),
+        }
+    }
+
+    /// Memory for a list, with nothing in it.
+    fn take(&mut self) -> Vec<u16>
+        ensures { result.items ≡ [] }
+    {
+        match self.lists.pop() {
+            Some(mut list) => {
+                list.clear();
+                list
+            }
+            None => Vec::new(self.alloc),
+        }
+    }
+
+    /// Keeps the memory of a list, where there is room to note that.
+    fn give(&mut self, list: Vec<u16>) {
+        let _ = self.lists.push(list);
+    }
+}
+
+/// A legal set of a person, with its duties and what they leave of the judged sums. Contracts see the
+/// set, and what stands behind it.
+#[derive(Debug, Drop)]
+pub struct JudgedSet<'a> {
+    loads: &'a Loads<'a>,
+    set: Set,
+    depth: usize,
+    positions: Vec<u16>,
+    rooms: Vec<u16>,
+}
+
+impl<'a> Model for JudgedSet<'a> {
+    ghost use Rattle.roster_legal.specs.Stepping.{IsStepped, Stepped};
+
+    ghost Value = { Stepped };
+
+    ghost view = { λ j. record { loads = j.loads.now; set = j.set } };
+
+    ghost invariant = { λ j. IsStepped j.loads.now j.set j.depth j.positions.items j.rooms.items };
+}
+
+impl<'a> JudgedSet<'a> {
+    /// The empty set.
+    pub fn empty(alloc: Global, loads: &'a Loads<'a>) -> Result<JudgedSet<'a>, AllocError>
+        ensures { IfOk result (λ judged. judged ≡ record { loads = loads.now; set = [] }) }
+    {
+        let positions = fixed_positions(alloc, loads)?;
+        let rooms = fixed_rooms(alloc, loads.problem(), loads.person())?;
+        Ok(JudgedSet {
+            loads,
+            set: Set::empty(),
+            depth: 0,
+            positions,
+            rooms,
+        })
+    }
+
+    /// The set with the pairing at place `p` behind, if that is legal. The rules that speak of one duty
+    /// or of two are known, since each two pairings are legal together; so it judges no more than
+    /// Recovery and the limits, and these of three pairings or more.
+    pub fn with(&self, p: usize, spare: &mut Spare) -> Result<Option<JudgedSet<'a>>, AllocError>
+        requires { IsNext self.now p }
+        ensures { IfOk result (λ judged. MatchOption judged (¬ IsLegalNext self.now p)
+            (λ longer. (longer ≡ with_next self.now p) × IsLegalNext self.now p)) }
+    {
+        if !self.has_room_for(p) {
+            return Ok(None);
+        }
+        let loads = self.loads;
+        let more = loads.problem().duties_of(p);
+        let positions = joined(spare.take(), &self.positions, more)?;
+        if !self.keeps_recovery_with(p, &positions) {
+            spare.give(positions);
+            return Ok(None);
+        }
+        let rooms = left(spare.take(), &self.rooms, loads.load(p))?;
+        let set = self.set.with(p)?;
+        Ok(Some(JudgedSet {
+            loads,
+            set,
+            depth: self.depth + 1,
+            positions,
+            rooms,
+        }))
+    }
+
+    /// Whether the limits are kept with the pairing at place `p`; of a pair or less that is known.
+    fn has_room_for(&self, p: usize) -> bool
+        requires { IsNext self.now p }
+        ensures yes { let problem = self.now.loads.problem in let k = self.now.loads.person in
+            IsTrue result → 2 ≤ length self.now.set
+            → AreWithin (home_of problem k).days
+            (duty_list problem k (with_next self.now p).set) (year_of problem k) (eleven_of problem k) }
+        ensures no { result ≡ false → ¬ IsLegalNext self.now p }
+    {
+        let loads = self.loads;
+        let _ = loads.problem();
+        self.depth < 2 || have_room(&self.rooms, loads.load(p))
+    }
+
+    /// Whether recurrent rests follow one another soon enough with the pairing at place `p`, which makes
+    /// the duties those at the positions; of a pair or less that is known.
+    fn keeps_recovery_with(&self, p: usize, positions: &[u16]) -> bool
+        requires next { IsNext self.now p }
+        requires positions { AreDutiesOf self.now.loads.problem self.now.loads.person
+            (with_next self.now p).set positions.now }
+        ensures yes { let problem = self.now.loads.problem in let k = self.now.loads.person in
+            IsTrue result → 2 ≤ length self.now.set
+            → KeepsRecovery (home_of problem k).days
+            (duty_list problem k (with_next self.now p).set) }
+        ensures no { result ≡ false → ¬ IsLegalNext self.now p }
+    {
+        let loads = self.loads;
+        let _ = loads.problem();
+        self.depth < 2 || loads.keep_recovery(positions)
+    }
+
+    /// Keeps its memory for others.
+    pub fn done(self, spare: &mut Spare) {
+        spare.give(self.positions);
+        spare.give(self.rooms);
+    }
+}
+
+// The positions of the fixed duties.
+fn fixed_positions(alloc: Global, loads: &Loads<'_>) -> Result<Vec<u16>, AllocError>
+    ensures { IfOk result
+        (λ positions. AreDutiesOf loads.now.problem loads.now.person [] positions.items) }
+{
+    let mut positions = Vec::new(alloc);
+    positions.extend_from_slice(loads.problem().fixed(loads.person()))?;
+    Ok(positions)
+}
+
+// What the fixed duties of person k leave of the judged sums.
+fn fixed_rooms(alloc: Global, problem: &Problem, k: usize) -> Result<Vec<u16>, AllocError>
+    requires { k < length problem.now.persons }
+    ensures { IfOk result (λ rooms. AreRoomsOf problem.now k [] rooms.items) }
+{
+    let list = merge(alloc, problem, k, &Set::empty())?;
+    let person = problem.person(k);
+    let rooms = rooms_of(alloc, problem.days_of(k), &list, person.year, person.eleven)?;
+    Ok(rooms)
+}
+
+// The positions of both, in order.
+fn joined(memory: Vec<u16>, old: &[u16], more: &[u16]) -> Result<Vec<u16>, AllocError>
+    requires empty { memory.items ≡ [] }
+    requires old { IsStrictlyIncreasing old.now }
+    requires more { IsStrictlyIncreasing more.now }
+    requires apart { (i : ℕ) → is_among old.now i ≡ true → is_among more.now i ≡ false }
+    ensures rising { IfOk result (λ positions. IsStrictlyIncreasing positions.items) }
+    ensures members { IfOk result (λ positions. (i : ℕ)
+        → is_among positions.items i ≡ (is_among old.now i || is_among more.now i)) }
+{
+    let mut positions = memory;
+    positions.extend_from_slice(old)?;
+    positions.extend_from_slice(more)?;
+    positions.sort_unstable();
+    Ok(positions)
+}
+
+// What the loads leave of the rooms.
+fn left(memory: Vec<u16>, rooms: &[u16], loads: &[u16]) -> Result<Vec<u16>, AllocError>
+    requires empty { memory.items ≡ [] }
+    requires same { length loads.now ≡ length rooms.now }
+    ensures long { IfOk result (λ left. length left.items ≡ length rooms.now) }
+    ensures each { IfOk result (λ left. (j : ℕ)
+        → slice_index left.items j ≡ slice_index rooms.now j - slice_index loads.now j) }
+{
+    let mut left = memory;
+    left.extend_from_slice(rooms)?;
+    take_room(&mut left, loads);
+    Ok(left)
+}
