@@ -1,9 +1,10 @@
 pub mod TreeLemmas
 pub mod Listed
 pub mod Marks
-pub mod Nodes
+pub mod Stems
 pub mod Walk
 pub mod Judged
 pub mod Cuts
 pub mod Lists
+pub mod Made
 pub mod Numbers

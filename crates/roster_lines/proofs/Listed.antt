@@ -1,8 +1,7 @@
--- The nodes of a listing: what may stand behind a line.
-use Rattle.std.proofs.Common.{◌≡◌, ℕ, ◌+◌, ◌<◌, true, false, ◌⊎◌, ◌&&◌, List, [], ◌∷◌, ◌++◌, length, pos, refl, sym, ap, ◌∙◌, subst, inl, inr, arith}
+-- The stems of a listing: what may stand behind a line.
+use Rattle.std.proofs.Common.{◌≡◌, ℕ, ◌<◌, true, false, ◌⊎◌, ◌&&◌, List, [], ◌∷◌, ◌++◌, length, pos, refl, sym, ◌∙◌, subst, inl, inr, arith}
 use Rattle.std.specs.Prelude.{All}
 use Rattle.std.proofs.lemmas.Bool.{and_from, and_parts, eqb-true, or_cases, or_left, or_right, false≢true, false_from_ne_true}
-use Rattle.std.proofs.lemmas.List.{length_push, nil_from_length}
 use Rattle.std.proofs.lemmas.List.Elements.{All-nil, All-cons, All-head, All-push}
 use Rattle.roster_model.specs.Costs.{flight_of, total}
 use Rattle.roster_model.specs.Lines.{IsLine}
@@ -10,8 +9,8 @@ use Rattle.roster_model.specs.Problem.{Problem, units_of}
 use Rattle.roster_model.specs.Rules.{is_among, IsLegal}
 use Rattle.roster_model.proofs.CostLemmas.{total-nil}
 use Rattle.roster_model.proofs.SetLemmas.{Ascends, Ascends-from_rising, Ascends-push, rising_from_Ascends, is_among-append, is_among-here, All-is_among, All-from_is_among}
-use Rattle.roster_lines.specs.declared.node.Node.{Node}
-use Rattle.roster_lines.specs.Listing.{AreAlone, ArePartsLegal, AreTogether, IsNode, IsRow}
+use Rattle.roster_lines.specs.declared.stem.Stem.{Stem}
+use Rattle.roster_lines.specs.Listing.{AreAlone, ArePartsLegal, AreTogether, IsStem, IsRow}
 
 -- ---- the front of a set, and what is behind
 
@@ -49,11 +48,11 @@ pub none_behind : (p : ℕ) (set : List ℕ) → All (λ q. q < p) set → is_am
 none_behind p set before =
     false_from_ne_true _ (λ h. let here : p < p = All-is_among (λ q. q < p) set p before h in omega arith)
 
--- a candidate behind its node, where the two are legal
-pub IsLine-with : (problem : Problem) (k : ℕ) (node : Node) (p : ℕ) → IsNode problem k node → is_among node.candidates p ≡ true → IsLegal problem k (node.set ++ p ∷ []) → IsLine problem k (node.set ++ p ∷ [])
-IsLine-with problem k node p is here legal = record {
-  ascending = rising_from_Ascends _ (Ascends-push node.set p (Ascends-from_rising node.set is.line.ascending) (is.behind p here));
-  places = All-push (λ q. q < length problem.pairings) node.set p is.line.places (is.places p here);
+-- a candidate behind its stem, where the two are legal
+pub IsLine-with : (problem : Problem) (k : ℕ) (stem : Stem) (p : ℕ) → IsStem problem k stem → is_among stem.candidates p ≡ true → IsLegal problem k (stem.set ++ p ∷ []) → IsLine problem k (stem.set ++ p ∷ [])
+IsLine-with problem k stem p is here legal = record {
+  ascending = rising_from_Ascends _ (Ascends-push stem.set p (Ascends-from_rising stem.set is.line.ascending) (is.behind p here));
+  places = All-push (λ q. q < length problem.pairings) stem.set p is.line.places (is.places p here);
   legal = legal;
 }
 
@@ -105,40 +104,40 @@ module _ (problem : Problem) (k : ℕ) (legal : ArePartsLegal problem k) where
   pub no_line_behind : (front : List ℕ) (p : ℕ) → (IsLine problem k (front ++ p ∷ []) → ⊥) → (rest : List ℕ) → IsLine problem k (front ++ p ∷ rest) → ⊥
   no_line_behind front p none rest line = none (IsLine-up_to front p rest line)
 
-  -- the node of a candidate
-  pub IsNode-below : (node below : Node) (p : ℕ) (row : List ℕ) → IsNode problem k node → is_among node.candidates p ≡ true → IsRow problem k p row → below.set ≡ node.set ++ p ∷ [] → below.depth ≡ node.depth + 1 → ((q : ℕ) → is_among below.candidates q ≡ (is_among node.candidates q && is_among row q)) → below.units ≡ total (units_of problem k) below.set → below.flight ≡ flight_of problem k below.set → IsLine problem k below.set → IsNode problem k below
-  IsNode-below node below p row is here is_row set depth both units flight line =
-      let parts = λ (q : ℕ) (h : is_among below.candidates q ≡ true). and_parts (is_among node.candidates q) (is_among row q) (sym (both q) ∙ h) in
-      let long : length below.set ≡ length node.set + 1 = ap length set ∙ length_push node.set p in
+  -- the stem of a candidate
+  pub IsStem-below : (stem below : Stem) (p : ℕ) (row : List ℕ) → IsStem problem k stem → is_among stem.candidates p ≡ true → IsRow problem k p row → below.set ≡ stem.set ++ p ∷ [] → ((q : ℕ) → is_among below.candidates q ≡ (is_among stem.candidates q && is_among row q)) → below.units ≡ total (units_of problem k) below.set → below.flight ≡ flight_of problem k below.set → IsLine problem k below.set → IsStem problem k below
+  IsStem-below stem below p row is here is_row set both units flight line =
+      let parts = λ (q : ℕ) (h : is_among below.candidates q ≡ true). and_parts (is_among stem.candidates q) (is_among row q) (sym (both q) ∙ h) in
       record {
         line = line;
-        depth = depth ∙ ap (λ n. n + 1) is.depth ∙ sym long;
         units = units;
         flight = flight;
         places = λ q h. is.places q (parts q h).0;
         behind = λ q h.
             let pair = (is_row q).0 (parts q h).1 in
-            subst (All (λ r. r < q)) (sym set) (All-push (λ r. r < q) node.set p (is.behind q (parts q h).0) pair.0);
-        known = λ few q h.
-            let pair = (is_row q).0 (parts q h).1 in
-            let depths = is.depth in
-            let none : node.set ≡ [] = nil_from_length node.set (omega arith) in
-            subst (λ s. IsLegal problem k (s ++ q ∷ [])) (sym (set ∙ ap (λ s. s ++ p ∷ []) none)) pair.2;
+            subst (All (λ r. r < q)) (sym set) (All-push (λ r. r < q) stem.set p (is.behind q (parts q h).0) pair.0);
+        single = λ q h. is.single q (parts q h).0;
+        pairs = λ q r h among.
+            let among' = subst (λ s. is_among s r ≡ true) set among in
+            elim (among_cases stem.set (p ∷ []) r among') [
+              | inl old ↦ is.pairs q r (parts q h).0 old
+              | inr new ↦ subst (λ s. IsLegal problem k (s ∷ q ∷ [])) (among_single p r new) ((is_row q).0 (parts q h).1).2
+            ];
         every = λ q rest line.
             let line' = subst (λ s. IsLine problem k (s ++ q ∷ rest)) set line in
-            both q ∙ and_from _ _ (is.every q [] (IsLine-without node.set p q rest line')) ((is_row q).1 (pair_of_line node.set p q rest line'));
+            both q ∙ and_from _ _ (is.every q [] (IsLine-without stem.set p q rest line')) ((is_row q).1 (pair_of_line stem.set p q rest line'));
       }
 
-  -- the node of the empty line
-  pub IsNode-root : (alone : List ℕ) (flight : ℕ) → AreAlone problem k alone → flight ≡ flight_of problem k [] → IsNode problem k (record { set = []; number = 0; depth = 0; candidates = alone; units = pos 0; flight = flight })
-  IsNode-root alone flight is flown = record {
+  -- the stem of the empty line
+  pub IsStem-root : (alone : List ℕ) (flight : ℕ) → AreAlone problem k alone → flight ≡ flight_of problem k [] → IsStem problem k (record { set = []; number = 0; candidates = alone; units = pos 0; flight = flight })
+  IsStem-root alone flight is flown = record {
     line = IsLine-empty problem k;
-    depth = refl;
     units = sym (total-nil (units_of problem k));
     flight = flown;
     places = λ p h. ((is p).0 h).0;
     behind = λ p h. All-nil (λ q. q < p);
-    known = λ few p h. ((is p).0 h).1;
+    single = λ p h. ((is p).0 h).1;
+    pairs = λ p q h among. absurd (false≢true among);
     every = λ p rest line.
         let single = IsLine-up_to [] p rest line in
         (is p).1 (All-head (λ q. q < length problem.pairings) p [] single.places, single.legal);

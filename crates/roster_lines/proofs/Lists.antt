@@ -1,15 +1,15 @@
 -- Lists of lines in order: one within another, and the same.
-use Rattle.std.proofs.Common.{◌≡◌, ℕ, zero, suc, ◌<◌, ◌≤◌, List, [], ◌∷◌, length, get_or, map, Some, refl, sym, ◌∙◌, subst, inl, inr, arith}
+use Rattle.std.proofs.Common.{◌≡◌, ℕ, zero, suc, ◌<◌, ◌≤◌, List, [], ◌∷◌, length, get_or, Some, refl, sym, ◌∙◌, subst, inl, inr, arith}
 use Rattle.std.specs.Prelude.{All, slice_get}
 use Rattle.std.proofs.lemmas.Bool.{both_ways, cases_lt}
 use Rattle.std.proofs.lemmas.List.{same_lists, length-map}
-use Rattle.std.proofs.lemmas.Option.{same_Some, slice_get_within, slice_get-get_or, slice_get-map, get_or_from_slice_get}
+use Rattle.std.proofs.lemmas.Option.{slice_get_within, slice_get-get_or, slice_get-map, get_or_from_slice_get}
 use Rattle.roster_model.specs.declared.limits.TheConstants.{MOST_LINES}
 use Rattle.roster_model.specs.Lines.{AreLines, AreOrdered, IsCrowded, IsLine}
 use Rattle.roster_model.specs.Problem.{Problem}
 use Rattle.roster_model.proofs.PlacesOrder.{places_le-refl}
 use Rattle.roster_lines.specs.Entries.{Entry, sets_of}
-use Rattle.roster_lines.specs.Person.{AreCosted, IsTableOf}
+use Rattle.roster_lines.specs.Person.{IsTableOf}
 use Rattle.roster_lines.proofs.Cuts.{one_place, ordered_at, still_before}
 use Rattle.roster_lines.proofs.TreeLemmas.{length-sets_of}
 
@@ -81,19 +81,3 @@ nobody_crowded problem table k is person =
     let there = slice_get-get_or table k none inside in
     let lines = is.sets.each k (sets_of (get_or table k none)) (slice_get-map sets_of table k ∙ rw there refl) in
     not_crowded problem k _ lines (omega (arith, length-sets_of (get_or table k none), is.few k none inside))
-
-pub IsTableOf-each : (problem : Problem) (table : List (List Entry)) → length table ≡ length problem.persons → ((j : ℕ) (lines : List Entry) → slice_get table j ≡ Some lines → AreLines problem j (sets_of lines) × AreCosted problem j lines × (length lines ≤ MOST_LINES)) → IsTableOf problem table
-IsTableOf-each problem table covers each =
-    let none : List Entry = [] in
-    record {
-      sets = record {
-        covers = length-map table sets_of ∙ covers;
-        each = λ k sets at.
-            let inside = slice_get_within (map sets_of table) k sets at in
-            let there = slice_get-get_or table k none (omega (arith, length-map table sets_of)) in
-            let same = same_Some _ _ (sym (slice_get-map sets_of table k ∙ rw there refl) ∙ at) in
-            subst (AreLines problem k) same (each k (get_or table k none) there).0;
-      };
-      costs = λ k lines at. (each k lines at).1;
-      few = λ k d inside. (each k (get_or table k d) (slice_get-get_or table k d inside)).2;
-    }

@@ -146,7 +146,7 @@ pub AreOrdered-push : (sets : List (List ℕ)) (set : List ℕ) → AreOrdered s
 AreOrdered-push sets set ordered before = all_pairs_push (λ a b. places_le b a ≡ false) sets set ordered before
 
 -- what is so of each of some elements at its place, and of one more
-each-push : {X : Type 0} (P : ℕ → X → Type 0) (xs : List X) (x : X) → ((i : ℕ) (y : X) → slice_get xs i ≡ Some y → P i y) → P (length xs) x → (i : ℕ) (y : X) → slice_get (xs ++ x ∷ []) i ≡ Some y → P i y
+pub each-push : {X : Type 0} (P : ℕ → X → Type 0) (xs : List X) (x : X) → ((i : ℕ) (y : X) → slice_get xs i ≡ Some y → P i y) → P (length xs) x → (i : ℕ) (y : X) → slice_get (xs ++ x ∷ []) i ≡ Some y → P i y
 each-push P xs x each here i y at =
     let inside = slice_get_within (xs ++ x ∷ []) i y at in
     let is : get_or (xs ++ x ∷ []) i y ≡ y = get_or_from_slice_get (xs ++ x ∷ []) i y y at in

@@ -1,14 +1,15 @@
 -- What is kept while the lines of a person are listed.
-use Rattle.std.specs.Prelude.{◌≡◌, ℕ, ◌<◌, ◌≤◌, ◌↔◌, true, false, List, [], ◌∷◌, ◌++◌, Some, length, slice_get, All}
+use Rattle.std.specs.Prelude.{◌≡◌, ℕ, ◌<◌, ◌≤◌, ◌↔◌, true, false, List, [], ◌∷◌, ◌++◌, Some, length, slice_get, All, Option, MatchOption}
 use Rattle.roster_model.specs.Costs.{flight_of, total}
 use Rattle.roster_model.specs.Lines.{AreSomeLines, IsCrowded, IsLine}
 use Rattle.roster_model.specs.Problem.{Problem, units_of}
 use Rattle.roster_model.specs.Places.{places_le}
 use Rattle.roster_model.specs.Rules.{is_among, IsLegal}
+use Rattle.roster_legal.specs.Stepping.{Stepped}
 use Rattle.roster_cost.specs.Amounts.{minutes_of_pairing, most_flight}
 use Rattle.roster_lines.specs.declared.extend.LinesFault.{LinesFault}
 use Rattle.roster_lines.specs.declared.extend.LinesFault.TheVariants.{TooMany, Memory}
-use Rattle.roster_lines.specs.declared.node.Node.{Node}
+use Rattle.roster_lines.specs.declared.stem.Stem.{Stem}
 use Rattle.roster_lines.specs.declared.pairs.Pairs.{Pairs}
 
 -- why the lines of person k aren't listed
@@ -57,14 +58,24 @@ pub record IsUpTo (problem : Problem) (k : ℕ) (mark : List ℕ) (sets : List (
   pub before : All (λ set. places_le mark set ≡ false) sets
   pub every : (set : List ℕ) → IsLine problem k set → places_le mark set ≡ false → (i : ℕ) × (slice_get sets i ≡ Some set)
 
--- The node is a line with its units and flight, and its candidates are pairings that may stand behind it:
--- all that are behind it in some line. Where it has one pairing or none, each of them makes a line with it.
-pub record IsNode (problem : Problem) (k : ℕ) (node : Node) : Type 0 where
-  pub line : IsLine problem k node.set
-  pub depth : node.depth ≡ length node.set
-  pub units : node.units ≡ total (units_of problem k) node.set
-  pub flight : node.flight ≡ flight_of problem k node.set
-  pub places : (p : ℕ) → is_among node.candidates p ≡ true → p < length problem.pairings
-  pub behind : (p : ℕ) → is_among node.candidates p ≡ true → All (λ q. q < p) node.set
-  pub known : node.depth < 2 → (p : ℕ) → is_among node.candidates p ≡ true → IsLegal problem k (node.set ++ p ∷ [])
-  pub every : (p : ℕ) (rest : List ℕ) → IsLine problem k (node.set ++ p ∷ rest) → is_among node.candidates p ≡ true
+-- The stem is a line with its units and flight, and its candidates are pairings that may stand behind it:
+-- all that are behind it in some line. Each is legal alone, and with each pairing of it.
+pub record IsStem (problem : Problem) (k : ℕ) (stem : Stem) : Type 0 where
+  pub line : IsLine problem k stem.set
+  pub units : stem.units ≡ total (units_of problem k) stem.set
+  pub flight : stem.flight ≡ flight_of problem k stem.set
+  pub places : (p : ℕ) → is_among stem.candidates p ≡ true → p < length problem.pairings
+  pub behind : (p : ℕ) → is_among stem.candidates p ≡ true → All (λ q. q < p) stem.set
+  pub single : (p : ℕ) → is_among stem.candidates p ≡ true → IsLegal problem k (p ∷ [])
+  pub pairs : (p q : ℕ) → is_among stem.candidates p ≡ true → is_among stem.set q ≡ true → IsLegal problem k (q ∷ p ∷ [])
+  pub every : (p : ℕ) (rest : List ℕ) → IsLine problem k (stem.set ++ p ∷ rest) → is_among stem.candidates p ≡ true
+
+-- what a judge of sets of person k knows of one
+abbrev pub judged_as : Problem → ℕ → List ℕ → List ℕ → Stepped
+judged_as problem k alone set = record { loads = record { problem = problem; person = k; alone = alone }; set = set }
+
+-- what is found of the stem with p behind: nothing where that is no line
+abbrev pub LineWith : Problem → ℕ → List ℕ → Stem → ℕ → Option Stepped → Type 0
+LineWith problem k alone stem p found =
+    MatchOption found (¬ IsLine problem k (stem.set ++ p ∷ []))
+    (λ longer. (longer ≡ judged_as problem k alone (stem.set ++ p ∷ [])) × IsLine problem k (stem.set ++ p ∷ []))

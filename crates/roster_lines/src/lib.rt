@@ -1,23 +1,26 @@
 //! Every line of each person: the legal sets of pairings, in order, and what each costs.
 //!
-//! `lines_of` lists the lines of one person, and `table_of` those of each. A line takes 16 bytes, since
-//! it says its cost, its last pairing and which line stands behind the earlier ones. In reading order:
+//! `lines_of` lists the lines of one person, `table_of` those of each, and `all_lines` has threads do the
+//! same. A line takes 16 bytes, since it says its cost, its last pairing and which line stands behind the
+//! earlier ones. In reading order:
 //!
 //! - `order`: which of two sets comes first
 //! - `lines`: the lines of a person, and how one of them is found
 //! - `pairs`: which pairings are legal alone, and which of those together
-//! - `node`: a line that others go on from
+//! - `stem`: a line that others go on from
 //! - `extend`: `lines_of`, from each line to those that go on from it
 //! - `table`: the lines of all persons
+//! - `shared`: the same table, by several threads
 //! - `laws`: what follows from the definitions
 #![tactic(auto)]
 
 mod extend;
 mod laws;
 mod lines;
-mod node;
 mod order;
 mod pairs;
+mod shared;
+mod stem;
 mod table;
 
 pub use extend::{LinesFault, lines_of};
@@ -25,4 +28,5 @@ pub use laws::{
     few_are_not_crowded, has_numbers, nobody_is_crowded, one_list_of_lines, one_list_of_numbers,
 };
 pub use lines::Lines;
+pub use shared::all_lines;
 pub use table::{Table, TableFault, table_of};

@@ -1,7 +1,8 @@
 //! The lines of all persons.
 
-ghost use Rattle.std.specs.Prelude.{◌≡◌, ◌<◌, ◌≤◌, ◌↔◌, ℕ, IfErr, IfOk, List, Some, length, slice_get};
+ghost use Rattle.std.specs.Prelude.{◌≡◌, ◌<◌, ◌≤◌, ◌↔◌, ◌+◌, ℕ, [], IfErr, IfOk, List, OnOk, Some, length, slice_get};
 ghost use Rattle.roster_lines.specs.Entries.{costs_of, sets_of};
+ghost use Rattle.roster_lines.specs.Made.{IsMadeOf, IsTableSoFar};
 ghost use Rattle.roster_lines.specs.Person.{lines_at, IsTableOf};
 ghost use Rattle.roster_lines.specs.TableFaults.{IsTableFaultOf};
 
@@ -66,19 +67,46 @@ pub fn table_of(alloc: Global, problem: &Problem) -> Result<Table, TableFault>
     ensures table { IfOk result (IsTableOf problem.now) }
     ensures fault { IfErr result (IsTableFaultOf problem.now) }
 {
-    let mut persons = Vec::new(alloc);
+    let mut table = Table::empty(alloc);
     for k in 0..problem.persons().len() {
-        let lines = match lines_of(alloc, problem, k) {
-            Ok(lines) => lines,
-            Err(LinesFault::TooMany) => return Err(TableFault::TooMany(k)),
-            Err(LinesFault::Memory) => return Err(TableFault::Memory),
-        };
-        persons.push(lines)?;
+        table.add(problem, lines_of(alloc, problem, k))?;
     }
-    Ok(Table { persons })
+    Ok(table)
 }
 
 impl Table {
+    /// No person's lines yet.
+    pub(crate) fn empty(alloc: Global) -> Table
+        ensures { result ≡ [] }
+    {
+        Table {
+            persons: Vec::new(alloc),
+        }
+    }
+
+    /// Adds the lines of the next person, if they were made. After a fault there is no table.
+    pub(crate) fn add(
+        &mut self,
+        problem: &Problem,
+        made: Result<Lines, LinesFault>,
+    ) -> Result<(), TableFault>
+        requires next { length self.old < length problem.now.persons }
+        requires table { IsTableSoFar problem.now self.old }
+        requires made { IsMadeOf problem.now (length self.old) made }
+        ensures table { OnOk result (IsTableSoFar problem.now self.new) }
+        ensures one_more { OnOk result (length self.new ≡ length self.old + 1) }
+        ensures fault { IfErr result (IsTableFaultOf problem.now) }
+    {
+        match made {
+            Ok(lines) => self.persons.push(lines)?,
+            Err(fault) => match fault {
+                LinesFault::TooMany => return Err(TableFault::TooMany(self.persons.len())),
+                LinesFault::Memory => return Err(TableFault::Memory),
+            },
+        }
+        Ok(())
+    }
+
     /// The lines of person `k`.
     pub fn lines(&self, k: usize) -> &Lines
         requires { k < length self.now }

@@ -1,4 +1,4 @@
 use Rattle.roster_lines.proofs.extend.parts_are_legal.Goals as goal
 
 pub returns : goal.returns
-returns c k set part within is = c.part_of_legal_is_legal.ensures c.args.problem.now k set part c.duties.ensures.ordered c.duties.ensures.timed within is
+returns c k set part within is = c.part_of_legal_is_legal.ensures c.args.problem.now k set part c.is_sound.ensures.ordered c.is_sound.ensures.timed within is

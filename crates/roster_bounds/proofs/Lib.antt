@@ -1,0 +1,5 @@
+pub mod PricedLines
+pub mod Placing
+pub mod OfNode
+pub mod Behind
+pub mod Summed

@@ -1,0 +1,50 @@
+use Rattle.std.proofs.Common.{◌≡◌, ◌<◌, length, get_or, ℤ, pos, ◌≤ℤ◌, ap, sym, ◌∙◌, subst, inl, inr, arith}
+use Rattle.std.proofs.lemmas.Bool.{cases_lt}
+use Rattle.std.proofs.lemmas.Int.{ints}
+use Rattle.std.proofs.lemmas.List.{get_or_default}
+use Rattle.roster_cost.specs.Priced.{reduced_cost}
+use Rattle.roster_lines.specs.Person.{lines_at}
+use Rattle.roster_bounds.specs.Amounts.{AreReduced, most_prices}
+use Rattle.roster_cost.specs.Amounts.{IsWithin}
+use Rattle.roster_bounds.specs.Chosen.{line_set, price_at}
+use Rattle.roster_bounds.proofs.PricedLines.{line_is, line_set-at, number_of_line, prices_of_line, same_prices, same_word128}
+use Rattle.roster_bounds.proofs.reduced.least_reduced.Goals as goal
+
+pub reduced_by-requires-clause-sum : goal.reduced_by-requires-clause-sum
+reduced_by-requires-clause-sum c =
+    let problem = c.args.problem.now in
+    let i = c.loop-i.i in
+    let sums = c.in_ok-sums.sums.items in
+    let inside : i < length (lines_at c.args.table.now c.args.k) = omega (arith, c.loop-i-test.true, c.width-i-end.ensures) in
+    let line = line_is problem c.args.table.now c.args.k i c.requires.priced.lines c.requires.person inside in
+    let read : c.index.result.now ≡ get_or sums i (pos 0) = c.index.ensures ∙ get_or_default sums i c.index.result.now (pos 0) (omega (arith, inside, c.in_ok-sums.ensures.covers)) in
+    let told = read ∙ c.in_ok-sums.ensures.each i inside in
+    let within = subst (IsWithin most_prices) (sym told) (prices_of_line problem c.args.prices.now c.args.k (line_set c.args.table.now c.args.k i) c.pairings.ensures.sound c.len.ensures.within line) in
+    same_prices c.index.result.now within ∙ told
+
+pub loop-i-preserved : goal.loop-i-preserved
+loop-i-preserved c =
+    let back = same_word128 c.lesser-least.result c.lesser-least.type_inv in
+    let other = same_word128 c.reduced_by.result c.reduced_by.type_inv in
+    let first = c.lesser-least.ensures.first in
+    let second = subst (λ (z : ℤ). c.lesser-least.result ≤ℤ z) other c.lesser-least.ensures.second in
+    let price = price_at c.args.prices.now in
+    record {
+      below = λ j set less at. subst (λ (z : ℤ). z ≤ℤ reduced_cost c.args.problem.now price c.args.k set) (sym back) (elim (cases_lt j c.loop-i.i) [
+        | inl before ↦ let low = c.loop-i.invariant.below j set before at in omega (arith, ints, first, low)
+        | inr on ↦
+            let here : j ≡ c.loop-i.i = omega arith in
+            let same = ap (line_set c.args.table.now c.args.k) (sym here) ∙ line_set-at c.args.table.now c.args.k j set at in
+            subst (λ (z : ℤ). c.lesser-least.result ≤ℤ z) (c.reduced_by.ensures.value ∙ ap (reduced_cost c.args.problem.now price c.args.k) same) second
+      ]);
+      bound = subst (AreReduced 1) (sym back) (elim c.lesser-least.ensures.one [
+        | inl is ↦ subst (AreReduced 1) (sym is) c.loop-i.invariant.bound
+        | inr is ↦ subst (AreReduced 1) (sym (is ∙ other)) c.reduced_by.ensures.bound
+      ]);
+    }
+
+pub returns-clause-least : goal.returns-clause-least
+returns-clause-least c set line =
+    let found = number_of_line c.args.problem.now c.args.table.now c.args.k set c.requires.priced.lines c.requires.person line in
+    let all : found.0 < c.loop-i.i = omega (arith, found.1, c.width-i-end.ensures) in
+    c.loop-i.invariant.below found.0 set all found.2

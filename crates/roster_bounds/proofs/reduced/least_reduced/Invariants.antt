@@ -1,0 +1,15 @@
+use Rattle.std.proofs.Common.{◌≡◌, ℕ, ◌<◌, List, Some}
+use Rattle.std.specs.Prelude.{slice_get, ◌≤ℤ◌}
+use Rattle.roster_cost.specs.Priced.{reduced_cost}
+use Rattle.roster_lines.specs.Entries.{sets_of}
+use Rattle.roster_lines.specs.Person.{lines_at}
+use Rattle.roster_bounds.specs.Amounts.{AreReduced}
+use Rattle.roster_bounds.specs.Chosen.{price_at}
+use Rattle.roster_bounds.proofs.reduced.least_reduced.Given as goal
+
+-- no line so far has a lower reduced cost
+abbrev pub invariant-loop-i : goal.invariant-loop-i
+invariant-loop-i l = record {
+  below : (j : ℕ) (set : List ℕ) → j < l.i → slice_get (sets_of (lines_at l.table l.k)) j ≡ Some set → l.least ≤ℤ reduced_cost l.problem (price_at l.prices) l.k set;
+  bound : AreReduced 1 l.least;
+}

@@ -1,0 +1,174 @@
+//! Prices over the lines of all persons.
+
+ghost use Rattle.std.specs.Prelude.{◌≡◌, ◌<◌, ◌≤ℤ◌, IfErr, IfOk, length, pos};
+ghost use Rattle.roster_model.specs.Lines.{IsLine};
+ghost use Rattle.roster_lines.specs.Person.{lines_at, IsTableOf};
+ghost use Rattle.roster_cost.specs.Amounts.{IsWithin};
+ghost use Rattle.roster_bounds.specs.declared.prices.TheConstants.{MOST_PRICE};
+ghost use Rattle.roster_bounds.specs.Amounts.{AreReduced};
+ghost use Rattle.roster_bounds.specs.Chosen.{line_set, priced_table, reduced_at, ArePriced, AreReducedBounds, IsReducedBound, penalty_at, price_at};
+
+use crate::prices::Prices;
+use crate::reduced::{least_reduced, reduced};
+use roster_lines::Table;
+use roster_problem::{Problem, Set};
+use std::alloc::{AllocError, Global};
+use std::marker::Model;
+
+/// A problem, the table of its lines, and a price for each pairing, with what bounds need of each
+/// person.
+#[derive(Debug, Drop)]
+pub struct Tables<'a> {
+    problem: &'a Problem,
+    table: &'a Table,
+    prices: Prices,
+    // Of each person a number that no reduced cost of a line is below.
+    bounds: Vec<i128>,
+}
+
+impl<'a> Model for Tables<'a> {
+    ghost use Rattle.roster_bounds.specs.Chosen.{PricedTable, priced_table};
+    ghost use Rattle.roster_bounds.specs.Chosen.{IsBuilt};
+
+    ghost Value = { PricedTable };
+
+    ghost view = { λ t. priced_table t.problem.now t.table.now t.prices };
+
+    ghost invariant = { λ t. IsBuilt t.problem.now t.table.now t.prices t.bounds.items };
+}
+
+impl<'a> Tables<'a> {
+    /// The tables of a problem, the table of its lines, and a price for each pairing. The prices are
+    /// handed back where memory runs out.
+    pub fn build(
+        alloc: Global,
+        problem: &'a Problem,
+        table: &'a Table,
+        prices: Prices,
+    ) -> Result<Tables<'a>, (Prices, AllocError)>
+        requires lines { IsTableOf problem.now table.now }
+        requires covers { length prices ≡ length problem.now.pairings }
+        ensures ok { IfOk result
+            (λ tables. tables ≡ priced_table problem.now table.now prices) }
+        ensures back { IfErr result (λ refused. refused.0 ≡ prices) }
+    {
+        match bounds_of(alloc, problem, table, &prices) {
+            Ok(bounds) => Ok(Tables {
+                problem,
+                table,
+                prices,
+                bounds,
+            }),
+            Err(refused) => Err((prices, refused)),
+        }
+    }
+
+    /// The problem.
+    pub fn problem(&self) -> &'a Problem
+        ensures { result.now ≡ self.now.problem }
+    {
+        self.problem
+    }
+
+    /// The table of its lines.
+    pub fn table(&self) -> &'a Table
+        ensures value { result.now ≡ self.now.table }
+        ensures priced { ArePriced self.now.problem self.now.table self.now.prices }
+    {
+        self.table
+    }
+
+    /// The prices.
+    pub fn prices(&self) -> &Prices
+        ensures { result.now ≡ self.now.prices }
+    {
+        &self.prices
+    }
+
+    /// How many lines person `k` has.
+    pub(crate) fn width(&self, k: usize) -> usize
+        requires { k < length self.now.problem.persons }
+        ensures value { result ≡ length (lines_at self.now.table k) }
+        ensures lines { IsTableOf self.now.problem self.now.table }
+    {
+        self.table.width(k)
+    }
+
+    /// The set of line `i` of person `k`.
+    pub(crate) fn set(&self, k: usize, i: usize) -> Set
+        requires person { k < length self.now.problem.persons }
+        requires line { i < length (lines_at self.now.table k) }
+        ensures value { result ≡ line_set self.now.table k i }
+        ensures line { IsLine self.now.problem k result }
+    {
+        self.table.set(k, i)
+    }
+
+    /// The reduced cost of line `i` of person `k`.
+    pub(crate) fn reduced(&self, k: usize, i: usize) -> i128
+        requires person { k < length self.now.problem.persons }
+        requires line { i < length (lines_at self.now.table k) }
+        ensures value { result ≡ reduced_at self.now k (line_set self.now.table k i) }
+        ensures fits { AreReduced 1 result }
+    {
+        reduced(self.problem, self.table, &self.prices, k, i)
+    }
+
+    /// The price of the pairing at place `p`.
+    pub(crate) fn price(&self, p: usize) -> i64
+        requires { p < length self.now.problem.pairings }
+        ensures value { result ≡ price_at self.now.prices p }
+        ensures fits { IsWithin MOST_PRICE result }
+    {
+        self.prices.at(p)
+    }
+
+    /// The penalty of the pairing at place `p`.
+    pub(crate) fn penalty(&self, p: usize) -> i64
+        requires { p < length self.now.problem.pairings }
+        ensures value { result ≡ pos (penalty_at self.now.problem p) }
+        ensures fits { IsWithin MOST_PRICE result }
+    {
+        let pairing = &self.problem.pairings()[p];
+        i64::from(pairing.penalty)
+    }
+
+    /// The smaller of the two.
+    pub(crate) fn penalty_or_price(&self, p: usize) -> i64
+        requires { p < length self.now.problem.pairings }
+        ensures price { result ≤ℤ price_at self.now.prices p }
+        ensures penalty { result ≤ℤ pos (penalty_at self.now.problem p) }
+        ensures fits { IsWithin MOST_PRICE result }
+    {
+        let price = self.price(p);
+        let penalty = self.penalty(p);
+        if price < penalty { price } else { penalty }
+    }
+
+    /// A number that no reduced cost of a line of person `k` is below.
+    pub(crate) fn bound_of(&self, k: usize) -> i128
+        requires { k < length self.now.problem.persons }
+        ensures below { IsReducedBound self.now.problem self.now.prices k result }
+        ensures fits { AreReduced 1 result }
+    {
+        self.bounds[k]
+    }
+}
+
+/// Of each person a number that no reduced cost of a line is below.
+fn bounds_of(
+    alloc: Global,
+    problem: &Problem,
+    table: &Table,
+    prices: &Prices,
+) -> Result<Vec<i128>, AllocError>
+    requires { ArePriced problem.now table.now prices.now }
+    ensures { IfOk result (λ bounds. AreReducedBounds problem.now prices.now
+        (length problem.now.persons) bounds.items) }
+{
+    let mut bounds = Vec::new(alloc);
+    for k in 0..problem.persons().len() {
+        bounds.push(least_reduced(alloc, problem, table, prices, k)?)?;
+    }
+    Ok(bounds)
+}

@@ -1,0 +1,3 @@
+pub mod LegalLines
+pub mod SpanLemmas
+pub mod Settling

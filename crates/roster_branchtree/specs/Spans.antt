@@ -1,0 +1,41 @@
+-- Spans: the line numbers of the first persons, and a range for the next one.
+use Rattle.std.specs.Prelude.{◌≡◌, ℕ, ◌<◌, ◌≤◌, ◌+◌, ◌==◌, if◌then◌else◌, List, Option, Some, None, length, map, slice_get}
+use Rattle.roster_model.specs.Lines.{AreNumbersOf}
+use Rattle.roster_lines.specs.Entries.{Entry, sets_of}
+use Rattle.roster_lines.specs.Person.{lines_at}
+
+-- the numbers of the first persons' lines, and the next person's from the first number up to the second,
+-- which isn't one of them
+pub record Span : Type 0 where
+  pub path : List ℕ
+  pub lo : ℕ
+  pub hi : ℕ
+
+-- a list of line numbers begins with the path, and its next number is in the range
+pub record LiesIn (span : Span) (numbers : List ℕ) : Type 0 where
+  pub front : (k i : ℕ) → slice_get span.path k ≡ Some i → slice_get numbers k ≡ Some i
+  pub next : (i : ℕ) × (slice_get numbers (length span.path) ≡ Some i) × (span.lo ≤ i) × (i < span.hi)
+
+-- the places have a list of line numbers that lies in the span
+abbrev pub IsInSpan : List (List Entry) → Span → List ℕ → Type 0
+IsInSpan table span places = (numbers : List ℕ) × AreNumbersOf (map sets_of table) places numbers × LiesIn span numbers
+
+-- the range of one line number, where there is one
+abbrev pub range_or : Option ℕ → ℕ × ℕ → ℕ × ℕ
+range_or (Some i) other = (i, i + 1)
+range_or None other = other
+
+-- the range of line numbers that the span leaves person k
+abbrev pub range_at : List (List Entry) → Span → ℕ → ℕ × ℕ
+range_at table span k =
+    range_or (slice_get span.path k)
+    (if k == length span.path then (span.lo, span.hi) else (0, length (lines_at table k)))
+
+-- the ranges of the first persons, so many of them
+pub record AreRangesOf (table : List (List Entry)) (span : Span) (count : ℕ) (ranges : List (ℕ × ℕ)) : Type 0 where
+  pub covers : length ranges ≡ count
+  pub each : (k : ℕ) → k < count → slice_get ranges k ≡ Some (range_at table span k)
+
+-- each number of the path is that of a line
+abbrev pub AreLineNumbers : List (List Entry) → List ℕ → Type 0
+AreLineNumbers table path = (k i : ℕ) → slice_get path k ≡ Some i → i < length (lines_at table k)

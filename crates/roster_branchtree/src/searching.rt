@@ -1,0 +1,154 @@
+//! The search of a span.
+
+ghost use Rattle.std.specs.Prelude.{◌≡◌, ◌<◌, ℕ, true, IfErr, IfOk, List, MatchBool, Some, length, unwrap_or};
+ghost use Rattle.std.specs.Arc.{arc_value};
+ghost use Rattle.roster_lines.specs.Person.{IsTableOf};
+ghost use Rattle.roster_model.specs.Rosters.{key_le, key_of, IsLegalRoster};
+ghost use Rattle.roster_model.specs.Settled.{IsHeld, IsNotAfter, Settles};
+ghost use Rattle.roster_bounds.specs.Chosen.{priced_table};
+ghost use Rattle.roster_branchtree.specs.Spans.{AreLineNumbers, IsInSpan};
+
+use crate::ranges::{node_of, ranges_of};
+use crate::sight::Sight;
+use crate::span::{Piece, Span};
+use crate::watch::{Watch, earlier_if};
+use roster_bounds::Tables;
+use roster_cost::Key;
+use roster_lines::Table;
+use roster_problem::{Problem, Roster};
+use roster_search::{Nodes, least_of_box};
+use std::alloc::{AllocError, Global};
+use std::sync::Arc;
+
+/// A piece whose span is settled, and by which roster. It must be spent, as a piece must.
+#[derive(Debug)]
+pub struct Done {
+    /// The piece.
+    pub piece: Piece,
+    /// The roster.
+    pub best: Arc<Roster>,
+}
+
+/// Searches the span of the piece. The roster that it answers is legal, with its cost; its key is after
+/// that of no legal roster in the span, and not after that of the known one.
+///
+/// It looks at the sight at its nodes `every`, twice `every` and so on, and never where that is 0; its
+/// first node is the span's own, and it is met before anything may end the search. What it is shown may be
+/// anything, and so may the span: a path that is too long, numbers that name no line, or a range with
+/// nothing in it. Where `every` is 0 the answer is the known roster or one of the span. The piece is
+/// handed back where memory runs out.
+pub fn search<S: Sight>(
+    alloc: Global,
+    problem: &Problem,
+    table: &Table,
+    tables: &Tables<'_>,
+    piece: Piece,
+    sight: &mut S,
+    every: usize,
+    known: &Arc<Roster>,
+) -> Result<Done, (Piece, AllocError)>
+    requires table { IsTableOf problem.now table.now }
+    requires tables { tables.now ≡ priced_table problem.now table.now tables.now.prices }
+    requires known { IsHeld problem.now (arc_value known.now) }
+    ensures span { IfOk result (λ done. done.piece ≡ piece) }
+    ensures settled { IfOk result (λ done. Settles problem.now (IsInSpan table.now piece)
+        (λ places. every ≡ 0 → IsInSpan table.now piece places)
+        (Some (arc_value known.now)) (arc_value done.best)) }
+    ensures back { IfErr result (λ refused. refused.0 ≡ piece) }
+{
+    match best_of(
+        alloc,
+        problem,
+        table,
+        tables,
+        piece.span(),
+        sight,
+        every,
+        known,
+    ) {
+        Ok(best) => Ok(Done { piece, best }),
+        Err(refused) => Err((piece, refused)),
+    }
+}
+
+/// The roster that the search of the span answers.
+fn best_of<S: Sight>(
+    alloc: Global,
+    problem: &Problem,
+    table: &Table,
+    tables: &Tables<'_>,
+    span: &Span,
+    sight: &mut S,
+    every: usize,
+    known: &Arc<Roster>,
+) -> Result<Arc<Roster>, AllocError>
+    requires table { IsTableOf problem.now table.now }
+    requires tables { tables.now ≡ priced_table problem.now table.now tables.now.prices }
+    requires known { IsHeld problem.now (arc_value known.now) }
+    ensures { IfOk result (λ best. Settles problem.now (IsInSpan table.now span.now)
+        (λ places. every ≡ 0 → IsInSpan table.now span.now places)
+        (Some (arc_value known.now)) (arc_value best)) }
+{
+    let mut watch = Watch::new(problem, table, sight, every, Arc::try_clone(known)?);
+    watch.node()?;
+    let held = watch.best()?;
+    if is_settled(alloc, tables, span, &held)? {
+        return Ok(held);
+    }
+    let found = least_in(alloc, problem, table, span, &held, &mut watch)?;
+    let seen = watch.best()?;
+    let best = earlier_if(alloc, found, seen)?;
+    Ok(best)
+}
+
+/// Whether the span's own node shows that no legal roster of the span comes before the given one; else the
+/// path is that of a node.
+fn is_settled(
+    alloc: Global,
+    tables: &Tables<'_>,
+    span: &Span,
+    best: &Roster,
+) -> Result<bool, AllocError>
+    requires table { IsTableOf tables.now.problem tables.now.table }
+    requires best { IsHeld tables.now.problem best.now }
+    ensures { IfOk result (λ settled. MatchBool settled
+        (IsNotAfter tables.now.problem (IsInSpan tables.now.table span.now) best.now)
+        ((length span.now.path < length tables.now.problem.persons)
+        × AreLineNumbers tables.now.table span.now.path)) }
+{
+    let path = span.path.as_slice();
+    if path.len() >= tables.problem().persons().len() {
+        return Ok(true);
+    }
+    match node_of(alloc, tables, path)? {
+        Some(node) => {
+            if node.may_skip(&Key::of(best)) {
+                return Ok(true);
+            }
+            Ok(false)
+        }
+        None => Ok(true),
+    }
+}
+
+/// The least roster of the span, if it comes before the given one.
+fn least_in<N: Nodes>(
+    alloc: Global,
+    problem: &Problem,
+    table: &Table,
+    span: &Span,
+    best: &Roster,
+    nodes: &mut N,
+) -> Result<Option<Roster>, AllocError>
+    requires table { IsTableOf problem.now table.now }
+    requires person { length span.now.path < length problem.now.persons }
+    requires path { AreLineNumbers table.now span.now.path }
+    requires best { IsHeld problem.now best.now }
+    ensures settled { IfOk result (λ found. Settles problem.now (IsInSpan table.now span.now)
+        (IsInSpan table.now span.now) (Some best.now) (unwrap_or found best.now)) }
+    ensures goes_on { N.goes_on nodes.old nodes.new }
+{
+    let ranges = ranges_of(alloc, problem, table, span)?;
+    let found = least_of_box(alloc, problem, table, &ranges, best, nodes)?;
+    Ok(found)
+}

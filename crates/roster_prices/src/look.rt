@@ -1,0 +1,150 @@
+//! A look at the lines of persons at some prices: the least value, and which pairings the best lines hold.
+
+use crate::powers::halved;
+use crate::reading::number_at;
+use roster_model::limits::MOST_PAIRINGS;
+use roster_regions::Choice;
+use std::alloc::{AllocError, Global};
+
+/// One whole, of which covers are parts.
+pub(crate) const WHOLE: u64 = 65_536;
+
+/// The cover of a pairing that a person's one line holds.
+pub(crate) const SETTLED: u64 = u64::MAX;
+
+/// How often each pairing is held by the lines that were looked at, if each person spreads over their
+/// lines: the nearer to the least the value of a line is, the greater is its share. The other lists are
+/// kept from one look to the next, for their memory.
+#[derive(Debug, Drop)]
+pub(crate) struct Look {
+    covers: Vec<u64>,
+    values: Vec<i64>,
+    // By depth: the prices of the pairings on the way, and the weights of the lines below.
+    sums: Vec<i64>,
+    weights: Vec<u64>,
+    // By pairing: the weights of a person's lines that hold it.
+    masses: Vec<u64>,
+}
+
+impl Look {
+    /// Nothing was looked at.
+    pub(crate) fn new(alloc: Global) -> Result<Look, AllocError> {
+        Ok(Look {
+            covers: vec![in alloc; 0; MOST_PAIRINGS]?,
+            values: Vec::new(alloc),
+            sums: vec![in alloc; 0; MOST_PAIRINGS + 2]?,
+            weights: vec![in alloc; 0; MOST_PAIRINGS + 2]?,
+            masses: vec![in alloc; 0; MOST_PAIRINGS]?,
+        })
+    }
+
+    /// Begins anew.
+    pub(crate) fn clear(&mut self) {
+        self.covers.fill(0);
+    }
+
+    /// How often the pairing at place `p` is held, in parts of a whole.
+    pub(crate) fn cover(&self, p: usize) -> u64 {
+        if p < self.covers.len() {
+            self.covers[p]
+        } else {
+            0
+        }
+    }
+
+    /// Adds the pairings of a person's one line, which nobody else can have, and gives its value at the
+    /// prices.
+    pub(crate) fn settle(&mut self, choices: &[Choice], prices: &[i64]) -> Result<i64, AllocError> {
+        for choice in choices {
+            let p = usize::from(choice.last);
+            if choice.depth > 0 && p < self.covers.len() {
+                self.covers[p] = SETTLED;
+            }
+        }
+        self.read(choices, prices)
+    }
+
+    /// Adds what a person's lines hold at the prices, and gives the least value of a line.
+    pub(crate) fn add(
+        &mut self,
+        choices: &[Choice],
+        prices: &[i64],
+        softness: u32,
+    ) -> Result<i64, AllocError> {
+        let least = self.read(choices, prices)?;
+        let total = self.weigh(choices, least, softness);
+        self.share(total);
+        Ok(least)
+    }
+
+    // Reads the value of each choice, and gives the least of a line.
+    fn read(&mut self, choices: &[Choice], prices: &[i64]) -> Result<i64, AllocError> {
+        self.values.clear();
+        let mut least = i64::MAX;
+        for choice in choices {
+            let value = self.value(choice, prices);
+            self.values.push(value)?;
+            if choice.live && value < least {
+                least = value;
+            }
+        }
+        Ok(least)
+    }
+
+    // The value of the choice to which the walk goes on.
+    #[inline]
+    fn value(&mut self, choice: &Choice, prices: &[i64]) -> i64 {
+        let depth = usize::from(choice.depth);
+        if depth == 0 || depth >= self.sums.len() {
+            return choice.extra;
+        }
+        let price = number_at(prices, usize::from(choice.last));
+        let sum = self.sums[depth - 1].wrapping_add(price);
+        self.sums[depth] = sum;
+        choice.extra.wrapping_sub(sum)
+    }
+
+    // Weighs the choices from the last to the first, and gives the weight of all lines.
+    fn weigh(&mut self, choices: &[Choice], least: i64, softness: u32) -> u64 {
+        let mut total: u64 = 0;
+        for back in 0..choices.len() {
+            let i = choices.len() - 1 - back;
+            let choice = choices[i];
+            let weight = if choice.live {
+                let value = number_at(&self.values, i);
+                halved(value.wrapping_sub(least).unsigned_abs(), softness)
+            } else {
+                0
+            };
+            total = total.wrapping_add(weight);
+            self.climb(&choice, weight);
+        }
+        total
+    }
+
+    // Adds the weight to those of the lines below the choice, and hands them on to the one above.
+    #[inline]
+    fn climb(&mut self, choice: &Choice, weight: u64) {
+        let depth = usize::from(choice.depth);
+        let last = usize::from(choice.last);
+        if depth == 0 || depth + 1 >= self.weights.len() || last >= self.masses.len() {
+            return;
+        }
+        let weights = weight.wrapping_add(self.weights[depth + 1]);
+        self.weights[depth + 1] = 0;
+        self.weights[depth] = self.weights[depth].wrapping_add(weights);
+        self.masses[last] = self.masses[last].wrapping_add(weights);
+    }
+
+    // Adds the parts that the masses are of the total.
+    fn share(&mut self, total: u64) {
+        let part = total / WHOLE + 1;
+        for p in 0..self.masses.len() {
+            if p < self.covers.len() {
+                self.covers[p] = self.covers[p].saturating_add(self.masses[p] / part);
+            }
+        }
+        self.masses.fill(0);
+        self.weights.fill(0);
+    }
+}

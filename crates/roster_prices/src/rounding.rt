@@ -1,0 +1,336 @@
+//! Rosters that are rounded from prices.
+
+ghost use Rattle.std.specs.Prelude.{◌≡◌, ◌<◌, IfOk, IfSome, length};
+ghost use Rattle.roster_regions.specs.Regions.{IsRegion};
+
+use crate::dual_prices::scaled_penalty;
+use crate::reading::number_at;
+use roster_model::limits::MOST_PAIRINGS;
+use roster_problem::{Problem, open_number};
+use roster_regions::{Choice, Region};
+use std::alloc::{AllocError, Global};
+
+/// How often all persons may choose again.
+const MOST_ROUNDS: usize = 20;
+
+/// What a pairing earns that must not be open.
+const MUST: i64 = 1 << 50;
+
+/// What each person has on the way to a roster, by the number of its choice.
+#[derive(Debug, Drop)]
+struct Draft {
+    chosen: Vec<usize>,
+    nobody: u16,
+    // By depth: the prices of the pairings on the way.
+    sums: Vec<i64>,
+}
+
+/// A roster that is near the best at these prices and seems to cost no more than the room: persons choose
+/// one after the other, from the one at place `turn` on, and then again as long as one of them saves
+/// something by it. None where no line is left for a person, or where it costs more. Nothing is promised
+/// of the places but how many they are. The room is as in `Ascent::look`.
+pub fn rounded(
+    alloc: Global,
+    problem: &Problem,
+    region: &Region,
+    prices: &[i64],
+    room: i64,
+    turn: usize,
+) -> Result<Option<Vec<u16>>, AllocError>
+    requires { IsRegion problem.now region.now }
+    ensures { IfOk result (λ places. IfSome places
+        (λ places. length places.items ≡ length problem.now.pairings)) }
+{
+    let mut places = vec![in alloc; open_number(problem); problem.pairings().len()]?;
+    let mut draft = Draft::new(alloc, problem)?;
+    if !draft.choose_all(problem, region, prices, turn, &mut places) {
+        return Ok(None);
+    }
+    let savings = savings(alloc, problem, region)?;
+    draft.improve(problem, region, &savings, turn, &mut places);
+    if draft.cost(problem, region, &places) > room {
+        return Ok(None);
+    }
+    Ok(Some(places))
+}
+
+/// What each pairing saves that isn't left open.
+fn savings(alloc: Global, problem: &Problem, region: &Region) -> Result<Vec<i64>, AllocError> {
+    let mut savings = Vec::new(alloc);
+    for p in 0..problem.pairings().len() {
+        let saved = if region.is_flown(p) {
+            MUST
+        } else {
+            scaled_penalty(problem, region.scale(), p)
+        };
+        savings.push(saved)?;
+    }
+    Ok(savings)
+}
+
+/// The number in turn after so many others.
+fn in_turn(turn: usize, step: usize, count: usize) -> usize
+    requires { step < count }
+    ensures { result < count }
+{
+    (turn % count).wrapping_add(step) % count
+}
+
+impl Draft {
+    // Nobody has anything.
+    fn new(alloc: Global, problem: &Problem) -> Result<Draft, AllocError> {
+        Ok(Draft {
+            chosen: vec![in alloc; 0; problem.persons().len()]?,
+            nobody: open_number(problem),
+            sums: vec![in alloc; 0; MOST_PAIRINGS + 1]?,
+        })
+    }
+
+    // What the places cost, in parts of a cost unit, without what empty lines cost.
+    fn cost(&self, problem: &Problem, region: &Region, places: &[u16]) -> i64
+        requires { IsRegion problem.now region.now }
+    {
+        let mut cost: i64 = 0;
+        for k in 0..problem.persons().len() {
+            let choices = region.choices(k);
+            let chosen = self.chosen_by(k);
+            if chosen < choices.len() {
+                cost = cost.wrapping_add(choices[chosen].extra);
+            }
+        }
+        for (p, place) in places.iter().enumerate() {
+            if *place == self.nobody {
+                cost = cost.wrapping_add(scaled_penalty(problem, region.scale(), p));
+            }
+        }
+        cost
+    }
+
+    // Each person takes a line of what is left, those with one line first. False where there is none.
+    fn choose_all(
+        &mut self,
+        problem: &Problem,
+        region: &Region,
+        prices: &[i64],
+        turn: usize,
+        places: &mut [u16],
+    ) -> bool
+        requires { IsRegion problem.now region.now }
+    {
+        let count = problem.persons().len();
+        for k in 0..count {
+            if region.width(k) == 1 && !self.choose(region, prices, k, places) {
+                return false;
+            }
+        }
+        for step in 0..count {
+            let k = in_turn(turn, step, count);
+            if region.width(k) != 1 && !self.choose(region, prices, k, places) {
+                return false;
+            }
+        }
+        true
+    }
+
+    // Person `k` takes the line of least value of what is left. False where there is none.
+    fn choose(&mut self, region: &Region, prices: &[i64], k: usize, places: &mut [u16]) -> bool
+        requires { k < length region.now.choices }
+    {
+        let choices = region.choices(k);
+        match self.best_choice(choices, prices, k, places) {
+            Some(i) => {
+                self.take(choices, i, k, places);
+                true
+            }
+            None => false,
+        }
+    }
+
+    // The choice that person `k` has taken.
+    fn chosen_by(&self, k: usize) -> usize {
+        if k < self.chosen.len() {
+            self.chosen[k]
+        } else {
+            0
+        }
+    }
+
+    // Persons choose again, until nobody saves anything by it.
+    fn improve(
+        &mut self,
+        problem: &Problem,
+        region: &Region,
+        savings: &[i64],
+        turn: usize,
+        places: &mut [u16],
+    )
+        requires { IsRegion problem.now region.now }
+    {
+        for _round in 0..MOST_ROUNDS {
+            if !self.improve_once(problem, region, savings, turn, places) {
+                return;
+            }
+        }
+    }
+
+    // Each person chooses again. Whether somebody saved something.
+    fn improve_once(
+        &mut self,
+        problem: &Problem,
+        region: &Region,
+        savings: &[i64],
+        turn: usize,
+        places: &mut [u16],
+    ) -> bool
+        requires { IsRegion problem.now region.now }
+    {
+        let count = problem.persons().len();
+        let mut saved = false;
+        for step in 0..count {
+            let k = in_turn(turn, step, count);
+            if region.width(k) > 1 && self.choose_again(region, savings, k, places) {
+                saved = true;
+            }
+        }
+        saved
+    }
+
+    // Person `k` chooses again. Whether something is saved by it.
+    fn choose_again(
+        &mut self,
+        region: &Region,
+        savings: &[i64],
+        k: usize,
+        places: &mut [u16],
+    ) -> bool
+        requires { k < length region.now.choices }
+    {
+        let choices = region.choices(k);
+        let chosen = self.chosen_by(k);
+        let Some(i) = self.best_choice(choices, savings, k, places) else {
+            return false;
+        };
+        if value_at(choices, savings, i) >= value_at(choices, savings, chosen) {
+            return false;
+        }
+        put(choices, chosen, self.nobody, places);
+        self.take(choices, i, k, places);
+        true
+    }
+
+    // Person `k` takes the line of choice `i`.
+    fn take(&mut self, choices: &[Choice], i: usize, k: usize, places: &mut [u16]) {
+        if k < self.chosen.len() {
+            self.chosen[k] = i;
+        }
+        let number = k.min(usize::from(self.nobody)) as u16;
+        put(choices, i, number, places);
+    }
+
+    // The choice of least value among those whose pairings nobody else has.
+    fn best_choice(
+        &mut self,
+        choices: &[Choice],
+        prices: &[i64],
+        k: usize,
+        places: &[u16],
+    ) -> Option<usize> {
+        let mut best = None;
+        let mut least = i64::MAX;
+        // Choices deeper than this go on from one whose pairing somebody else has.
+        let mut free = usize::MAX;
+        for (i, choice) in choices.iter().enumerate() {
+            let depth = usize::from(choice.depth);
+            if depth > free {
+                continue;
+            }
+            free = usize::MAX;
+            if depth > 0 && is_taken(places, usize::from(choice.last), k, self.nobody) {
+                free = depth;
+                continue;
+            }
+            let value = self.value(choice, prices);
+            if choice.live && value < least {
+                least = value;
+                best = Some(i);
+            }
+        }
+        best
+    }
+
+    // The value of the choice to which the walk goes on.
+    fn value(&mut self, choice: &Choice, prices: &[i64]) -> i64 {
+        let depth = usize::from(choice.depth);
+        if depth == 0 || depth >= self.sums.len() {
+            return choice.extra;
+        }
+        let price = number_at(prices, usize::from(choice.last));
+        let sum = self.sums[depth - 1].wrapping_add(price);
+        self.sums[depth] = sum;
+        choice.extra.wrapping_sub(sum)
+    }
+}
+
+/// Puts the number at the pairings of the line of choice `i`.
+fn put(choices: &[Choice], i: usize, number: u16, places: &mut [u16]) {
+    let mut depth = depth_at(choices, i);
+    for back in 0..choices.len() {
+        if depth == 0 || back > i {
+            return;
+        }
+        if depth_at(choices, i - back) == depth {
+            let p = last_at(choices, i - back);
+            if p < places.len() {
+                places[p] = number;
+            }
+            depth -= 1;
+        }
+    }
+}
+
+/// Whether somebody else than person `k` has the pairing at place `p`.
+fn is_taken(places: &[u16], p: usize, k: usize, nobody: u16) -> bool {
+    if p >= places.len() {
+        return false;
+    }
+    let place = places[p];
+    place != nobody && usize::from(place) != k
+}
+
+/// The depth of choice `i`, or 0 past the last.
+fn depth_at(choices: &[Choice], i: usize) -> u16 {
+    if i < choices.len() {
+        choices[i].depth
+    } else {
+        0
+    }
+}
+
+/// The last pairing of choice `i`, or 0 past the last.
+fn last_at(choices: &[Choice], i: usize) -> usize {
+    if i < choices.len() {
+        usize::from(choices[i].last)
+    } else {
+        0
+    }
+}
+
+/// The value of the line of choice `i`.
+fn value_at(choices: &[Choice], prices: &[i64], i: usize) -> i64 {
+    let mut value = if i < choices.len() {
+        choices[i].extra
+    } else {
+        0
+    };
+    let mut depth = depth_at(choices, i);
+    for back in 0..choices.len() {
+        if depth == 0 || back > i {
+            return value;
+        }
+        if depth_at(choices, i - back) == depth {
+            value = value.wrapping_sub(number_at(prices, last_at(choices, i - back)));
+            depth -= 1;
+        }
+    }
+    value
+}

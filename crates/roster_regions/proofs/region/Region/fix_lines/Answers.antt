@@ -1,0 +1,17 @@
+use Rattle.std.proofs.Common.{length, get_or, pos, ◌+ℤ◌, w64, SFits, to_z, of_z, sym, ap, ◌∙◌, subst, arith, rules}
+use Rattle.std.proofs.lemmas.Int.{to_z-of_z}
+use Rattle.roster_regions.specs.Bounds.{IsValueWithin}
+use Rattle.roster_regions.proofs.Fixing.{value_within_part}
+use Rattle.roster_regions.proofs.region.Region.fix_lines.Goals as goal
+
+pub fix_lines_of-requires-clause-within : goal.fix_lines_of-requires-clause-within
+fix_lines_of-requires-clause-within c =
+    let problem = c.args.problem.now in
+    let k = c.loop-k.k in
+    let most = to_z w64 (of_z w64 c.args.most) in
+    let persons = ap length c.persons-k-end.ensures.value in
+    let fits : SFits w64 c.cut_of_line-cut.result = search rules in
+    let cut = to_z-of_z w64 c.cut_of_line-cut.result fits ∙ c.cut_of_line-cut.ensures in
+    let whole = subst (λ m. IsValueWithin problem c.args.self.now c.args.prices.now k m (get_or c.args.bounds.now.values.items k (pos 0) +ℤ c.args.bounds.now.slack)) (sym (to_z-of_z w64 c.args.most c.ranges.most)) (c.requires.bounds.is_slack.lines k (omega (arith, persons, c.loop-k-test.true))) in
+    subst (λ z. IsValueWithin problem c.loop-k.self c.args.prices.now k most z) (sym cut)
+    (value_within_part problem c.args.self.now c.loop-k.self c.args.prices.now k most (get_or c.args.bounds.now.values.items k (pos 0) +ℤ c.args.bounds.now.slack) c.loop-k.invariant whole)

@@ -1,0 +1,11 @@
+pub mod Regions
+pub mod Trees
+pub mod Steps
+pub mod Writing
+pub mod Prices
+pub mod Building
+pub mod Bounds
+pub mod Propagation
+pub mod Tightening
+pub mod Splits
+pub mod Inside

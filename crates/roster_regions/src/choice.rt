@@ -1,0 +1,41 @@
+//! Steps in the tree of a person's lines.
+
+/// How many parts a cost unit is counted in, at most.
+pub const MOST_SCALE: u32 = 16384;
+
+/// What a line costs more than the empty one, or less, at most, in parts of a cost unit.
+pub const MOST_EXTRA: u64 = 1 << 52;
+
+/// A dual price, at most, and below 0, in parts of a cost unit.
+pub const MOST_PRICE: u64 = 1 << 42;
+
+/// What a line costs more than the empty one less the prices of its pairings, at most, in parts of a cost
+/// unit.
+pub(crate) const MOST_VALUE: u64 = 1 << 53;
+
+/// How far a cost lies from what it costs that nobody has a pairing, at most, in parts of a cost unit.
+pub(crate) const MOST_LIMIT: u64 = 1 << 61;
+
+/// What such a cost leaves over above a bound, at most.
+pub(crate) const MOST_SLACK: u64 = (1 << 61) + (1 << 62);
+
+/// What a pairing adds to a bound, at most, and below 0, in parts of a cost unit.
+pub(crate) const MOST_TERM: u64 = 1 << 44;
+
+/// A line of a person, by what it has behind the one before: its first pairings are as many of those of
+/// the choice before as its depth says, less one, and then comes its last.
+#[derive(Clone, Copy, Debug)]
+pub struct Choice {
+    /// What the line costs more than the empty one, in parts of a cost unit. It says nothing where the
+    /// choice isn't live.
+    pub extra: i64,
+    /// How many pairings the line has.
+    pub depth: u16,
+    /// The last of them; nothing at the empty line.
+    pub last: u16,
+    /// Whether the line is allowed. Those that are not stand on the way to others.
+    pub live: bool,
+}
+
+// There may be millions of them.
+const _: () = prove!(size_of::<Choice>() <= 16);

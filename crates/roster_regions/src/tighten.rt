@@ -1,0 +1,255 @@
+//! Regions without what costs too much.
+
+ghost use Rattle.std.specs.Prelude.{◌≡◌, ◌<◌, ◌+ℤ◌, ◌-ℤ◌, ◌*ℤ◌, IfOk, IfSome, MatchBool, MatchOption, OnOk, length, pos, slice_index_or};
+ghost use Rattle.roster_cost.specs.Amounts.{IsWithin};
+ghost use Rattle.roster_regions.specs.Bounds.{CostsAtMost, IsAllAbove, IsShareWithin, IsValueWithin};
+ghost use Rattle.roster_regions.specs.Prices.{ArePrices};
+ghost use Rattle.roster_regions.specs.Regions.{IsNarrowed, IsRegion};
+
+use crate::bound::sum_of;
+use crate::choice::MOST_LIMIT;
+use crate::region::Region;
+use crate::sums::price_of;
+use roster_cost::priced_shares_add_up;
+use roster_problem::Problem;
+use std::alloc::{AllocError, Global};
+
+/// How often a region is tightened at once, at most.
+const MOST_ROUNDS: usize = 32;
+
+/// What each person's line and each pairing adds at least, and what a cost leaves over.
+#[derive(Debug, Drop)]
+pub(crate) struct Bounds {
+    pub(crate) values: Vec<i64>,
+    pub(crate) terms: Vec<i64>,
+    pub(crate) slack: i64,
+}
+
+impl Bounds {
+    ghost use Rattle.roster_regions.specs.Tightening.{AreNear};
+
+    /// The most that person `k`'s line may add.
+    fn cut_of_line(&self, k: usize) -> i64
+        requires near { AreNear self.now }
+        requires inside { k < length self.now.values.items }
+        ensures { result ≡ slice_index_or self.now.values.items k (pos 0) +ℤ self.now.slack }
+    {
+        self.values[k] + self.slack
+    }
+
+    /// The most that the pairing at place `p` may add.
+    fn cut_of_pairing(&self, p: usize) -> i64
+        requires near { AreNear self.now }
+        requires inside { p < length self.now.terms.items }
+        ensures { result ≡ slice_index_or self.now.terms.items p (pos 0) +ℤ self.now.slack }
+    {
+        self.terms[p] + self.slack
+    }
+}
+
+impl Region {
+    ghost use Rattle.roster_regions.specs.Tightening.{IsUse};
+
+    /// A cost in parts of a cost unit above what it costs that nobody has a pairing; none where that is
+    /// further from 0 than any roster's.
+    fn limit(&self, most: i64) -> Option<i64>
+        ensures value { IfSome result
+            (λ limit. limit ≡ pos self.now.scale *ℤ (most -ℤ self.now.idle)) }
+        ensures bound { IfSome result (IsWithin MOST_LIMIT) }
+    {
+        let above = most.checked_sub(self.idle)?;
+        let limit = above.checked_mul(i64::from(self.scale))?;
+        if limit < -(MOST_LIMIT as i64) || limit > MOST_LIMIT as i64 {
+            return None;
+        }
+        Some(limit)
+    }
+
+    /// Takes person `k`'s lines away whose value is beyond the cut.
+    fn fix_lines_of(
+        &mut self,
+        alloc: Global,
+        problem: &Problem,
+        prices: &[i64],
+        k: usize,
+        cut: i64,
+        most: i64,
+    ) -> Result<(), AllocError>
+        requires region { IsRegion problem.now self.old }
+        requires prices { ArePrices prices.now }
+        requires person { k < length problem.now.persons }
+        requires within { IsValueWithin problem.now self.old prices.now k most cut }
+        ensures { OnOk result (IsNarrowed problem.now (CostsAtMost problem.now most)
+            self.old self.new) }
+    {
+        if self.greatest(k, prices) > cut {
+            self.keep_within(alloc, k, prices, cut)?;
+        }
+        Ok(())
+    }
+
+    /// Takes the lines away whose value is further than the slack above the least one.
+    fn fix_lines(
+        &mut self,
+        alloc: Global,
+        problem: &Problem,
+        prices: &[i64],
+        bounds: &Bounds,
+        most: i64,
+    ) -> Result<(), AllocError>
+        requires region { IsRegion problem.now self.old }
+        requires prices { ArePrices prices.now }
+        requires bounds { IsUse problem.now self.old prices.now bounds.now most }
+        ensures { OnOk result (IsNarrowed problem.now (CostsAtMost problem.now most)
+            self.old self.new) }
+    {
+        for k in 0..problem.persons().len() {
+            let cut = bounds.cut_of_line(k);
+            self.fix_lines_of(alloc, problem, prices, k, cut, most)?;
+        }
+        Ok(())
+    }
+
+    /// The pairing at place `p` isn't open, if its penalty is beyond the cut.
+    fn fix_flown(&mut self, problem: &Problem, prices: &[i64], p: usize, cut: i64, most: i64)
+        requires region { IsRegion problem.now self.old }
+        requires pairing { p < length problem.now.pairings }
+        requires within { IsShareWithin problem.now self.old prices.now p most cut }
+        ensures { IsNarrowed problem.now (CostsAtMost problem.now most) self.old self.new }
+    {
+        if self.penalty(problem, p) > cut {
+            self.fly(problem, p);
+        }
+    }
+
+    /// The pairing at place `p` is open, if its price is beyond the cut.
+    fn fix_open(&mut self, problem: &Problem, prices: &[i64], p: usize, cut: i64, most: i64)
+        requires region { IsRegion problem.now self.old }
+        requires prices { ArePrices prices.now }
+        requires pairing { p < length problem.now.pairings }
+        requires within { IsShareWithin problem.now self.old prices.now p most cut }
+        ensures { IsNarrowed problem.now (CostsAtMost problem.now most) self.old self.new }
+    {
+        if price_of(prices, p) > cut {
+            self.leave_open(problem, p);
+        }
+    }
+
+    /// Decides for each pairing whether it is open, where the slack leaves only one answer.
+    fn fix_pairings(&mut self, problem: &Problem, prices: &[i64], bounds: &Bounds, most: i64)
+        requires region { IsRegion problem.now self.old }
+        requires prices { ArePrices prices.now }
+        requires bounds { IsUse problem.now self.old prices.now bounds.now most }
+        ensures { IsNarrowed problem.now (CostsAtMost problem.now most) self.old self.new }
+    {
+        for p in 0..problem.pairings().len() {
+            let cut = bounds.cut_of_pairing(p);
+            self.fix_flown(problem, prices, p, cut, most);
+            self.fix_open(problem, prices, p, cut, most);
+        }
+    }
+
+    /// One round of `tighten`.
+    fn tighten_once(
+        &mut self,
+        alloc: Global,
+        problem: &Problem,
+        prices: &[i64],
+        most: i64,
+    ) -> Result<bool, AllocError>
+        requires region { IsRegion problem.now self.old }
+        requires prices { ArePrices prices.now }
+        ensures { IfOk result (λ some. MatchBool some
+            (IsNarrowed problem.now (CostsAtMost problem.now most) self.old self.new)
+            (IsAllAbove problem.now self.old most)) }
+    {
+        if !self.propagate(alloc, problem)? {
+            return Ok(false);
+        }
+        let Some(limit) = self.limit(most) else {
+            return Ok(true);
+        };
+        match self.bounds(alloc, problem, prices, most, limit)? {
+            None => Ok(false),
+            Some(bounds) => {
+                self.fix_lines(alloc, problem, prices, &bounds, most)?;
+                self.fix_pairings(problem, prices, &bounds, most);
+                Ok(true)
+            }
+        }
+    }
+
+    /// Takes away what no roster that costs at most so much has: lines, and open or flown pairings. It
+    /// answers no where there is no such roster in the region.
+    pub fn tighten(
+        &mut self,
+        alloc: Global,
+        problem: &Problem,
+        prices: &[i64],
+        most: i64,
+    ) -> Result<bool, AllocError>
+        requires region { IsRegion problem.now self.old }
+        requires prices { ArePrices prices.now }
+        ensures { IfOk result (λ some. MatchBool some
+            (IsNarrowed problem.now (CostsAtMost problem.now most) self.old self.new)
+            (IsAllAbove problem.now self.old most)) }
+    {
+        for _ in 0..MOST_ROUNDS {
+            let before = self.weight(problem);
+            if !self.tighten_once(alloc, problem, prices, most)? {
+                return Ok(false);
+            }
+            if self.weight(problem) == before {
+                break;
+            }
+        }
+        Ok(true)
+    }
+
+    /// What the parts add at least, and what a cost leaves over; none where every roster costs more.
+    fn bounds(
+        &self,
+        alloc: Global,
+        problem: &Problem,
+        prices: &[i64],
+        most: i64,
+        limit: i64,
+    ) -> Result<Option<Bounds>, AllocError>
+        requires region { IsRegion problem.now self.now }
+        requires prices { ArePrices prices.now }
+        requires limit { limit ≡ pos self.now.scale *ℤ (most -ℤ self.now.idle) }
+        requires near { IsWithin MOST_LIMIT limit }
+        ensures { IfOk result (λ bounds. MatchOption bounds
+            (IsAllAbove problem.now self.now most)
+            (λ bounds. IsUse problem.now self.now prices.now bounds most)) }
+    {
+        problem.is_sound();
+        priced_shares_add_up();
+        let values = self.least_values(alloc, problem, prices)?;
+        let terms = self.terms(alloc, problem, prices)?;
+        let bound = sum_of(&values) + sum_of(&terms);
+        if limit < bound {
+            return Ok(None);
+        }
+        let slack = limit - bound;
+        Ok(Some(Bounds {
+            values,
+            terms,
+            slack,
+        }))
+    }
+
+    /// How much is left to decide: it falls where something is taken away.
+    fn weight(&self, problem: &Problem) -> usize {
+        let mut weight: usize = 0;
+        for lines in &self.persons {
+            weight = weight.wrapping_add(lines.tree().count());
+        }
+        for p in 0..problem.pairings().len() {
+            if !self.is_flown(p) && !self.is_left_open(p) {
+                weight = weight.wrapping_add(1);
+            }
+        }
+        weight
+    }
+}

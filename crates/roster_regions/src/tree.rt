@@ -1,0 +1,194 @@
+//! The lines that a person may still have.
+
+ghost use Rattle.std.specs.Prelude.{◌≡◌, ◌⊎◌, ℕ, true, List, All, IfOk, MatchBool, filter, length, ◌≤ℤ◌, int_le};
+ghost use Rattle.roster_model.specs.Rules.{is_among};
+ghost use Rattle.roster_cost.specs.Amounts.{IsWithin};
+ghost use Rattle.roster_regions.specs.Prices.{value_of, ArePrices};
+ghost use Rattle.roster_regions.specs.Regions.{AllowedLine};
+ghost use Rattle.roster_regions.specs.Trees.{agrees, lines_in, AreCertain, ArePossible, HasJust, IsLimited, Offers};
+
+use crate::choice::{Choice, MOST_VALUE};
+use crate::path::Path;
+use crate::sums::Sums;
+use crate::writer::{Writer, is_same};
+use roster_problem::Set;
+use std::alloc::{AllocError, Global};
+use std::marker::Model;
+
+/// The lines that a person may still have, as a tree. Contracts see their list.
+#[derive(Debug, Drop)]
+pub(crate) struct Tree {
+    choices: Vec<Choice>,
+    possible: Set,
+    certain: Set,
+    count: usize,
+}
+
+impl Model for Tree {
+    ghost use Rattle.std.specs.Prelude.{List};
+    ghost use Rattle.roster_regions.specs.Regions.{AllowedLine};
+
+    ghost Value = { List AllowedLine };
+
+    ghost use Rattle.roster_regions.specs.Trees.{lines_in, IsTree};
+
+    ghost view = { λ t. lines_in t.choices.items };
+
+    ghost invariant = { λ t. IsTree t.choices.items t.possible t.certain t.count };
+}
+
+/// Whether a test answers what is wanted.
+fn is_wanted(wanted: bool, answer: bool) -> bool
+    ensures { result ≡ agrees wanted answer }
+{
+    if wanted { answer } else { !answer }
+}
+
+/// The lower of a bound and the value of a line, if the line counts.
+fn lower(bound: i64, counts: bool, value: i64) -> i64
+    ensures kept { result ≤ℤ bound }
+    ensures below { counts ≡ true → result ≤ℤ value }
+    ensures either { (result ≡ bound) ⊎ (result ≡ value) }
+{
+    if counts && value < bound {
+        value
+    } else {
+        bound
+    }
+}
+
+impl Tree {
+    ghost use Rattle.roster_regions.specs.Writing.{IsWriting};
+
+    /// What a writer has written.
+    pub(crate) fn of(writer: Writer) -> Tree
+        requires { (path : List ℕ) × (lines : List AllowedLine) × IsWriting writer path lines }
+        ensures { result ≡ lines_in writer.choices.items }
+    {
+        Tree {
+            choices: writer.choices,
+            possible: writer.possible,
+            certain: writer.certain,
+            count: writer.count,
+        }
+    }
+
+    /// The tree's choices.
+    pub(crate) fn choices(&self) -> &[Choice]
+        ensures value { lines_in result.now ≡ self.now }
+        ensures limited { All IsLimited result.now }
+    {
+        &self.choices
+    }
+
+    /// How many lines there are.
+    pub(crate) fn count(&self) -> usize
+        ensures { result ≡ length self.now }
+    {
+        self.count
+    }
+
+    /// The pairings that some of the lines have.
+    pub(crate) fn possible(&self) -> Set
+        ensures { ArePossible self.now result }
+    {
+        self.possible
+    }
+
+    /// The pairings that all of the lines have, if there are any.
+    pub(crate) fn certain(&self) -> Set
+        ensures { AreCertain self.now result }
+    {
+        self.certain
+    }
+
+    /// The lines that have the pairing at place `p`, or those that haven't.
+    pub(crate) fn having(&self, alloc: Global, p: usize, wanted: bool) -> Result<Tree, AllocError>
+        ensures { IfOk result
+            (λ tree. tree ≡ filter (λ line. agrees wanted (is_among line.set p)) self.now) }
+    {
+        let choices = self.choices();
+        let mut path = Path::new(alloc);
+        let mut writer = Writer::new(alloc);
+        for choice in choices {
+            path.step(choice)?;
+            writer.pass(choice);
+            writer.keep(&path, choice, is_wanted(wanted, path.set().has(p)))?;
+        }
+        Ok(Tree::of(writer))
+    }
+
+    /// The lines whose value at the prices is at most so much.
+    pub(crate) fn within(
+        &self,
+        alloc: Global,
+        prices: &[i64],
+        most: i64,
+    ) -> Result<Tree, AllocError>
+        requires { ArePrices prices.now }
+        ensures { IfOk result
+            (λ tree. tree ≡ filter (λ line. int_le (value_of prices.now line) most) self.now) }
+    {
+        let choices = self.choices();
+        let mut path = Path::new(alloc);
+        let mut sums = Sums::new();
+        let mut writer = Writer::new(alloc);
+        for choice in choices {
+            path.step(choice)?;
+            sums.step(choice, prices);
+            writer.pass(choice);
+            writer.keep(&path, choice, sums.value(choice) <= most)?;
+        }
+        Ok(Tree::of(writer))
+    }
+
+    /// The least value of a line at the prices, or less.
+    pub(crate) fn least(&self, prices: &[i64]) -> i64
+        requires { ArePrices prices.now }
+        ensures least { All (λ line. result ≤ℤ value_of prices.now line) self.now }
+        ensures bound { IsWithin MOST_VALUE result }
+    {
+        let choices = self.choices();
+        let mut sums = Sums::new();
+        let mut least = MOST_VALUE as i64;
+        for choice in choices {
+            sums.step(choice, prices);
+            least = lower(least, choice.live, sums.value(choice));
+        }
+        least
+    }
+
+    /// The greatest value of a line at the prices; what asks for it counts on nothing.
+    pub(crate) fn greatest(&self, prices: &[i64]) -> i64
+        requires { ArePrices prices.now }
+    {
+        let choices = self.choices();
+        let mut sums = Sums::new();
+        let mut greatest = -(MOST_VALUE as i64);
+        for choice in choices {
+            sums.step(choice, prices);
+            let value = sums.value(choice);
+            if choice.live && value > greatest {
+                greatest = value;
+            }
+        }
+        greatest
+    }
+
+    /// Whether one of the lines has just the pairings of the set.
+    pub(crate) fn has(&self, alloc: Global, set: &Set) -> Result<bool, AllocError>
+        ensures { IfOk result (λ has. MatchBool has (Offers self.now set.now)
+            (All (λ line. ¬ HasJust set.now line) self.now)) }
+    {
+        let choices = self.choices();
+        let mut path = Path::new(alloc);
+        for choice in choices {
+            path.step(choice)?;
+            let same = is_same(&path.set(), set);
+            if choice.live && same {
+                return Ok(true);
+            }
+        }
+        Ok(false)
+    }
+}

@@ -1,0 +1,121 @@
+-- What is found in parts of a region.
+use Rattle.std.proofs.Common.{◌≡◌, Bool, true, false, MatchBool, Result, Ok, Err, IfOk, OnOk, ℕ, ◌+◌, ◌<◌, List, Option, Some, None, ℤ, ◌≤ℤ◌, ◌<ℤ◌, ap, sym, ◌∙◌, ◌⊎◌, inl, inr, arith}
+use borrow.Author.Differences.{up, down}
+use Rattle.std.proofs.lemmas.Bool.{cases_lt}
+use Rattle.std.proofs.lemmas.Bool.Decides.{eqb_tells}
+use Rattle.std.proofs.lemmas.Int.{ints}
+use Rattle.std.proofs.lemmas.Option.{none-some, same_Some, slice_get_cases}
+use Rattle.roster_model.specs.Costs.{cost_of}
+use Rattle.roster_model.specs.Problem.{Problem}
+use Rattle.roster_model.specs.Rosters.{Key, key_of}
+use Rattle.roster_model.specs.Settled.{CostsMore, IsFoundWithin, IsWithinCost}
+use Rattle.roster_search.specs.Least.{IsCheapest, IsLeast}
+use Rattle.roster_search.proofs.Keys.{by_cost}
+use Rattle.roster_regions.specs.Regions.{Has, HasNot, IsIn, IsNarrowed, Region}
+use Rattle.roster_regions.specs.Bounds.{CostsAtMost, IsAllAbove}
+
+-- what a test says where its answer is known
+pub says_yes : (b : Bool) (Yes No : Type 0) → MatchBool b Yes No → b ≡ true → Yes
+says_yes true Yes No says is = says
+says_yes false Yes No says is = absurd (cc)
+
+pub says_no : (b : Bool) (Yes No : Type 0) → MatchBool b Yes No → b ≡ false → No
+says_no false Yes No says is = says
+says_no true Yes No says is = absurd (cc)
+
+-- what follows of a result
+pub if_ok : {X E : Type 0} (r : Result X E) (P Q : X → Type 0) → IfOk r P → ((x : X) → P x → Q x) → IfOk r Q
+if_ok (Ok x) P Q is f = f x is
+if_ok (Err e) P Q is f = tt
+
+pub both_on_ok : {X E : Type 0} (r : Result X E) (P Q R : Type 0) → OnOk r P → OnOk r Q → (P → Q → R) → OnOk r R
+both_on_ok (Ok x) P Q R p q f = f p q
+both_on_ok (Err e) P Q R p q f = tt
+
+-- a roster costs at most so much, or more
+cost_cases : (most cost : ℤ) → (cost ≤ℤ most) ⊎ (most <ℤ cost)
+cost_cases most cost =
+    elim (cases_lt (up most + down cost) (up cost + down most)) [
+      | inl less ↦ inr (omega (arith, ints))
+      | inr more ↦ inl (omega (arith, ints))
+    ]
+
+-- a person has a pairing, or hasn't
+has_cases : (k p : ℕ) (places : List ℕ) → Has k p places ⊎ HasNot k p places
+has_cases k p places =
+    elim (slice_get_cases places p).1 [
+      | inl here ↦ elim (eqb_tells here.0 k) [
+        | inl same ↦ inl (here.2 ∙ ap Some same.1)
+        | inr other ↦ inr (λ has. other.1 (same_Some _ _ (sym here.2 ∙ has)))
+      ]
+      | inr past ↦ inr (λ has. none-some _ (sym past.1 ∙ has))
+    ]
+
+-- a cheap roster of a part is one of the whole
+pub within_part : (problem : Problem) (Kept : List ℕ → Type 0) (old new : Region) (most : ℤ) (key : Key) → IsNarrowed problem Kept old new → IsWithinCost problem (IsIn problem new) most key → IsWithinCost problem (IsIn problem old) most key
+within_part problem Kept old new most key part found = record {
+  held = found.held;
+  inside = part.inside key.places found.inside;
+  within = found.within;
+}
+
+-- where a part has all that is cheap, and nothing in it is, nothing is
+pub more_than_part : (problem : Problem) (old new : Region) (most : ℤ) → IsNarrowed problem (CostsAtMost problem most) old new → CostsMore problem (IsIn problem new) most → CostsMore problem (IsIn problem old) most
+more_than_part problem old new most part more =
+    λ others legal inside. elim (cost_cases most (cost_of problem others)) [
+      | inl cheap ↦ more others legal (part.kept others inside cheap)
+      | inr above ↦ above
+    ]
+
+-- the same of its rosters
+pub above_part : (problem : Problem) (old new : Region) (most : ℤ) → IsNarrowed problem (CostsAtMost problem most) old new → IsAllAbove problem new most → IsAllAbove problem old most
+above_part problem old new most part above =
+    λ places inside. elim (cost_cases most (cost_of problem places)) [
+      | inl cheap ↦ above places (part.kept places inside cheap)
+      | inr more ↦ more
+    ]
+
+-- what is found in a part that has all that is cheap is what is found in the whole
+pub found_in_part : (problem : Problem) (old new : Region) (most : ℤ) (found : Option Key) → IsNarrowed problem (CostsAtMost problem most) old new → IsFoundWithin problem (IsIn problem new) most found → IsFoundWithin problem (IsIn problem old) most found
+found_in_part problem old new most None part is = more_than_part problem old new most part is
+found_in_part problem old new most (Some key) part is = within_part problem (CostsAtMost problem most) old new most key part is
+
+-- where nothing is cheap in which the person has the pairing, what is found among the others is what is
+-- found in the whole
+pub found_in_rest : (problem : Problem) (k p : ℕ) (old having rest : Region) (most : ℤ) (found : Option Key) → IsNarrowed problem (Has k p) old having → IsNarrowed problem (HasNot k p) old rest → CostsMore problem (IsIn problem having) most → IsFoundWithin problem (IsIn problem rest) most found → IsFoundWithin problem (IsIn problem old) most found
+found_in_rest problem k p old having rest most (Some key) given denied more is = within_part problem (HasNot k p) old rest most key denied is
+found_in_rest problem k p old having rest most None given denied more is =
+    λ others legal inside. elim (has_cases k p others) [
+      | inl has ↦ more others legal (given.kept others inside has)
+      | inr not ↦ is others legal (denied.kept others inside not)
+    ]
+
+-- ---- parts that have all that is cheap
+
+-- a cheapest roster is one in the part that has all that cost no more
+pub cheapest_in_part : (problem : Problem) (old new : Region) (key : Key) → IsCheapest problem (IsIn problem old) key → IsNarrowed problem (CostsAtMost problem key.cost) old new → IsCheapest problem (IsIn problem new) key
+cheapest_in_part problem old new key cheapest part =
+    let cost = cheapest.held.cost in
+    record {
+      held = cheapest.held;
+      inside = part.kept key.places cheapest.inside (omega (arith, ints));
+      least = λ others legal inside. cheapest.least others legal (part.inside others inside);
+    }
+
+-- the least roster of the part is that of the whole
+pub least_in_whole : (problem : Problem) (old new : Region) (most : ℤ) (key : Key) → IsNarrowed problem (CostsAtMost problem most) old new → key.cost ≤ℤ most → IsLeast problem (IsIn problem new) key → IsLeast problem (IsIn problem old) key
+least_in_whole problem old new most key part cheap least = record {
+  held = least.held;
+  inside = part.inside key.places least.inside;
+  least = λ others legal inside. elim (cost_cases most (cost_of problem others)) [
+    | inl no_more ↦ least.least others legal (part.kept others inside no_more)
+    | inr more ↦ by_cost key (key_of problem others) (omega (arith, ints))
+  ];
+}
+
+-- a roster doesn't cost more than itself
+pub none_above : (problem : Problem) (region : Region) (key : Key) → IsCheapest problem (IsIn problem region) key → IsAllAbove problem region key.cost → ⊥
+none_above problem region key cheapest above =
+    let more = above key.places cheapest.inside in
+    let cost = cheapest.held.cost in
+    omega (arith, ints)

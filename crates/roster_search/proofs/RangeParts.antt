@@ -1,0 +1,107 @@
+-- Parts of a box by ranges of lines.
+use Rattle.std.proofs.Common.{◌≡◌, ℕ, ◌<◌, true, false, cond, eqb, List, [], length, get_or, Some, ℤ, Option, None, refl, sym, ap, ◌∙◌, subst, inl, inr, arith}
+use Rattle.std.specs.Prelude.{slice_get}
+use Rattle.std.proofs.lemmas.Bool.{both_ways, cases_Bool, cases_lt}
+use Rattle.std.proofs.lemmas.List.{length-map}
+use Rattle.std.proofs.lemmas.List.Elements.{All-nil}
+use Rattle.std.proofs.lemmas.Option.{same_Some, get_or_from_slice_get, slice_get-get_or, slice_get-map, slice_get_within}
+use Rattle.roster_model.specs.Lines.{AreLines, IsLine}
+use Rattle.roster_model.specs.Places.{places_le, set_of}
+use Rattle.roster_model.specs.Problem.{Problem}
+use Rattle.roster_model.specs.Rosters.{IsLegalRoster, Key}
+use Rattle.roster_model.proofs.SetLemmas.{rising_from_Ascends}
+use Rattle.roster_lines.specs.Entries.{Entry, sets_of}
+use Rattle.roster_lines.specs.Person.{lines_at, IsTableOf}
+use Rattle.roster_regions.specs.Regions.{IsInRanges}
+use Rattle.roster_search.specs.Least.{IsLeastBelow}
+use Rattle.roster_search.specs.Parts.{base_of_person, AreOwnRanges, IsInPart, IsNumbered}
+use Rattle.roster_search.proofs.Bases.{found_at}
+
+-- ---- the first line
+
+lines_in_table : (problem : Problem) (table : List (List Entry)) (k : ℕ) → IsTableOf problem table → k < length problem.persons → AreLines problem k (sets_of (lines_at table k))
+lines_in_table problem table k is person =
+    let none : List Entry = [] in
+    let inside : k < length table = omega (arith, is.sets.covers, length-map table sets_of) in
+    let there = slice_get-get_or table k none inside in
+    is.sets.each k (sets_of (get_or table k none)) (slice_get-map sets_of table k ∙ rw there refl)
+
+empty_is_line : (problem : Problem) (k : ℕ) → IsLine problem k []
+empty_is_line problem k = record {
+  ascending = rising_from_Ascends [] tt;
+  places = All-nil (λ p. p < length problem.pairings);
+  legal = inl refl;
+}
+
+-- the first line is the empty one
+pub first_line : (problem : Problem) (table : List (List Entry)) (k : ℕ) → IsTableOf problem table → k < length problem.persons → slice_get (sets_of (lines_at table k)) 0 ≡ Some []
+first_line problem table k is person =
+    let sets : List (List ℕ) = sets_of (lines_at table k) in
+    let are = lines_in_table problem table k is person in
+    let found = are.every [] (empty_is_line problem k) in
+    elim (cases_lt 0 found.0) [
+      | inl later ↦
+          let inside = slice_get_within sets found.0 [] found.1 in
+          let before = are.some.ordered 0 found.0 [] later inside in
+          let empty : get_or sets found.0 [] ≡ [] = get_or_from_slice_get sets found.0 [] [] found.1 in
+          absurd (both_ways _ before (subst (λ (set : List ℕ). places_le set (get_or sets 0 []) ≡ true) (sym empty) refl))
+      | inr here ↦
+          let first : found.0 ≡ 0 = omega arith in
+          subst (λ i. slice_get sets i ≡ Some []) first found.1
+    ]
+
+-- ---- the ranges of a base
+
+module _ (problem : Problem) (table : List (List Entry)) (ranges own : List (ℕ × ℕ)) (base : ℕ) (is : IsTableOf problem table) (covers : length ranges ≡ length problem.persons) (are : AreOwnRanges problem base ranges own) where
+  choice : ℕ → ℕ × ℕ → ℕ × ℕ
+  choice k range = cond (eqb (base_of_person problem k) base) range (0, 1)
+
+  own_here : (k : ℕ) (range : ℕ × ℕ) → slice_get ranges k ≡ Some range → eqb (base_of_person problem k) base ≡ true → slice_get own k ≡ Some range
+  own_here k range at here = are.each k range at ∙ ap (λ b. Some (cond b range (0, 1))) here
+
+  own_elsewhere : (k : ℕ) (range : ℕ × ℕ) → slice_get ranges k ≡ Some range → eqb (base_of_person problem k) base ≡ false → slice_get own k ≡ Some (0, 1)
+  own_elsewhere k range at none = are.each k range at ∙ ap (λ b. Some (cond b range (0, 1))) none
+
+  -- the line whose number is below 1
+  empty_from_number : (k : ℕ) (set : List ℕ) → k < length problem.persons → IsNumbered table k (0, 1) set → set ≡ []
+  empty_from_number k set person numbered =
+      let first : numbered.0 ≡ 0 = omega (arith, numbered.2) in
+      let there = subst (λ i. slice_get (sets_of (lines_at table k)) i ≡ Some set) first numbered.3 in
+      same_Some _ _ (sym there ∙ first_line problem table k is person)
+
+  pub in_part_from_ranges : (places : List ℕ) → IsLegalRoster problem places → IsInRanges table own places → IsInPart problem table ranges (λ b. eqb b base) places
+  in_part_from_ranges places legal inside = record {
+    legal = legal;
+    numbered = λ k range at here. inside k range (own_here k range at here);
+    home = λ k person none.
+        let range = found_at ranges k (omega (arith, person)) in
+        empty_from_number k (set_of k places) person (inside k (0, 1) (own_elsewhere k range.0 range.1 none));
+  }
+
+  pub in_ranges_from_part : (places : List ℕ) → IsInPart problem table ranges (λ b. eqb b base) places → IsInRanges table own places
+  in_ranges_from_part places part k mine at =
+      let person : k < length problem.persons = omega (arith, slice_get_within own k mine at, are.covers) in
+      let range = found_at ranges k (omega (arith, person)) in
+      elim (cases_Bool (eqb (base_of_person problem k) base)) [
+        | inl here ↦
+            let same : mine ≡ range.0 = same_Some _ _ (sym at ∙ own_here k range.0 range.1 here) in
+            subst (λ r. IsNumbered table k r (set_of k places)) (sym same) (part.numbered k range.0 range.1 here)
+        | inr none ↦
+            let same : mine ≡ (0, 1) = same_Some _ _ (sym at ∙ own_elsewhere k range.0 range.1 none) in
+            let empty = part.home k person none in
+            subst (λ r. IsNumbered table k r (set_of k places)) (sym same)
+            (0, omega arith, omega arith, first_line problem table k is person ∙ ap (λ (set : List ℕ). Some set) (sym empty))
+      ]
+
+-- ---- the same region by another name
+
+pub least_in_other : (problem : Problem) (Region Other : List ℕ → Type 0) (limit : ℤ) (found : Option Key) → ((places : List ℕ) → Region places → Other places) → ((places : List ℕ) → IsLegalRoster problem places → Other places → Region places) → IsLeastBelow problem Region limit found → IsLeastBelow problem Other limit found
+least_in_other problem Region Other limit None there back least = λ others legal inside. least others legal (back others legal inside)
+least_in_other problem Region Other limit (Some key) there back least = (
+  record {
+    held = least.0.held;
+    inside = there key.places least.0.inside;
+    least = λ others legal inside. least.0.least others legal (back others legal inside);
+  },
+  least.1,
+)

@@ -1,0 +1,7 @@
+use Rattle.roster_regions.specs.Regions.{IsNarrowed}
+use Rattle.roster_regions.specs.Bounds.{CostsAtMost}
+use Rattle.roster_search.proofs.refining.refine.Given as goal
+
+-- what is left has all that is cheap
+abbrev pub invariant-loop-step : goal.invariant-loop-step
+invariant-loop-step l = IsNarrowed l.fn.problem (CostsAtMost l.fn.problem l.fn.most) l.fn.region l.region

@@ -1,0 +1,33 @@
+-- What is found of the cheapest rosters of a region, and of the first among them.
+use Rattle.std.specs.Prelude.{ℕ, List, Option, Some, None, ℤ, ◌≤ℤ◌, ◌<ℤ◌}
+use Rattle.roster_model.specs.Costs.{cost_of}
+use Rattle.roster_model.specs.Problem.{Problem}
+use Rattle.roster_model.specs.Rosters.{IsLegalRoster, Key}
+use Rattle.roster_model.specs.Settled.{IsHeld, IsNotAfter}
+
+-- every legal roster in the region costs at least so much
+abbrev pub CostsAtLeast : Problem → (List ℕ → Type 0) → ℤ → Type 0
+CostsAtLeast problem Region least =
+    (others : List ℕ) → IsLegalRoster problem others → Region others → least ≤ℤ cost_of problem others
+
+-- the key is that of a legal roster in the region, and each roster there costs at least as much
+pub record IsCheapest (problem : Problem) (Region : List ℕ → Type 0) (key : Key) : Type 0 where
+  pub held : IsHeld problem key
+  pub inside : Region key.places
+  pub least : CostsAtLeast problem Region key.cost
+
+-- a cheapest roster that costs less than the limit, or none, and then every one costs at least that
+abbrev pub IsCheapestBelow : Problem → (List ℕ → Type 0) → ℤ → Option Key → Type 0
+IsCheapestBelow problem Region limit None = CostsAtLeast problem Region limit
+IsCheapestBelow problem Region limit (Some key) = IsCheapest problem Region key × (key.cost <ℤ limit)
+
+-- the key is that of a legal roster in the region, and isn't after that of any other there
+pub record IsLeast (problem : Problem) (Region : List ℕ → Type 0) (key : Key) : Type 0 where
+  pub held : IsHeld problem key
+  pub inside : Region key.places
+  pub least : IsNotAfter problem Region key
+
+-- the least roster if it costs less than the limit, or none, and then every one costs at least that
+abbrev pub IsLeastBelow : Problem → (List ℕ → Type 0) → ℤ → Option Key → Type 0
+IsLeastBelow problem Region limit None = CostsAtLeast problem Region limit
+IsLeastBelow problem Region limit (Some key) = IsLeast problem Region key × (key.cost <ℤ limit)

@@ -1,0 +1,4 @@
+pub mod Least
+pub mod Firsts
+pub mod Parts
+pub mod Refined

@@ -1,0 +1,15 @@
+-- What is left of a region in the search for a roster that costs at most so much.
+use Rattle.std.specs.Prelude.{ℤ}
+use Rattle.roster_model.specs.Problem.{Problem}
+use Rattle.roster_model.specs.Settled.{IsWithinCost}
+use Rattle.roster_regions.specs.Bounds.{CostsAtMost, IsAllAbove}
+use Rattle.roster_regions.specs.Regions.{IsIn, IsNarrowed, Region}
+use Rattle.roster_search.specs.declared.refining.Refined.{Refined}
+use Rattle.roster_search.specs.declared.refining.Refined.TheVariants.{Found, Nothing, Part}
+
+-- A roster of the region that costs at most so much; or nothing, and then each of them costs more; or a
+-- part of it that has all that cost at most so much.
+abbrev pub IsRefined : Problem → ℤ → Region → Region → Refined → Type 0
+IsRefined problem most old new (Found roster) = IsWithinCost problem (IsIn problem old) most roster
+IsRefined problem most old new Nothing = IsAllAbove problem old most
+IsRefined problem most old new (Part prices) = IsNarrowed problem (CostsAtMost problem most) old new

@@ -1,0 +1,76 @@
+//! The least roster of a box.
+
+ghost use Rattle.std.specs.Prelude.{◌≡◌, false, true, IfOk, MatchOption, Some, length, not, unwrap_or};
+ghost use Rattle.roster_lines.specs.Person.{IsTableOf};
+ghost use Rattle.roster_model.specs.Rosters.{key_le, key_of};
+ghost use Rattle.roster_model.specs.Settled.{IsHeld, Settles};
+ghost use Rattle.roster_regions.specs.Regions.{IsInRanges};
+
+use crate::least::costs_fit;
+use crate::nodes::Nodes;
+use crate::parts::{least_of_base, merged};
+use roster_cost::{Key, order_of_keys, roster_cost, shares_add_up};
+use roster_lines::Table;
+use roster_model::limits::MOST_BASES;
+use roster_problem::{Places, Problem, Roster, open_number};
+use std::alloc::{AllocError, Global};
+
+/// The least roster of the box, with its cost, if its key is before that of the known roster. The box has
+/// the legal rosters in which the line of each person has a number in the person's range: from its first
+/// number up to the second, which isn't in it.
+///
+/// No line has another base's pairing, so each base is searched apart, and the answers are merged. Two
+/// problems that share nothing take as long as one after the other.
+pub fn least_of_box<N: Nodes>(
+    alloc: Global,
+    problem: &Problem,
+    table: &Table,
+    ranges: &[(usize, usize)],
+    known: &Roster,
+    nodes: &mut N,
+) -> Result<Option<Roster>, AllocError>
+    requires table { IsTableOf problem.now table.now }
+    requires ranges { length ranges.now ≡ length table.now }
+    requires known { IsHeld problem.now known.now }
+    ensures settled { IfOk result (λ found. Settles problem.now
+        (IsInRanges table.now ranges.now) (IsInRanges table.now ranges.now)
+        (Some known.now) (unwrap_or found known.now)) }
+    ensures goes_on { N.goes_on nodes.old nodes.new }
+{
+    shares_add_up();
+    costs_fit(problem);
+    problem.is_sound();
+    let mut places = vec![in alloc; open_number(problem); problem.pairings().len()]?;
+    for base in 0..MOST_BASES {
+        match least_of_base(alloc, problem, table, ranges, base, nodes)? {
+            Some(part) => places = merged(alloc, problem, base, &part, &places)?,
+            None => return Ok(None),
+        }
+    }
+    Ok(if_before(problem, known, places))
+}
+
+/// The roster with these places, if its key is before that of the known one.
+fn if_before(problem: &Problem, known: &Roster, places: Vec<u16>) -> Option<Roster>
+    requires { length places.items ≡ length problem.now.pairings }
+    ensures { MatchOption result (key_le known.now (key_of problem.now places.items) ≡ true)
+        (λ roster. (roster ≡ key_of problem.now places.items)
+        × (key_le known.now roster ≡ false)) }
+{
+    let cost = roster_cost(problem, &places);
+    if !comes_after(known, cost, &places) {
+        return None;
+    }
+    Some(Roster {
+        places: Places::new(places),
+        cost,
+    })
+}
+
+/// Whether the roster's key is after that of the one with this cost and these places.
+fn comes_after(roster: &Roster, cost: i64, places: &[u16]) -> bool
+    ensures { result ≡ not (key_le roster.now (record { cost = cost; places = places.now })) }
+{
+    order_of_keys();
+    Key { cost, places } < Key::of(roster)
+}

@@ -1,0 +1,152 @@
+//! The first of the cheapest rosters of a region.
+
+ghost use Rattle.std.specs.Prelude.{◌≡◌, ◌<◌, ◌≤◌, ◌≤ℤ◌, false, IfOk, OnOk, length, unwrap_or};
+ghost use Rattle.roster_model.specs.Places.{open_number as nobody};
+ghost use Rattle.roster_model.specs.Settled.{IsFoundWithin};
+ghost use Rattle.roster_regions.specs.Regions.{Has, HasNot, IsIn, IsNarrowed, IsRegion, IsWhollyIn};
+ghost use Rattle.roster_search.specs.Firsts.{AgreeBefore, IsSettledAt};
+ghost use Rattle.roster_search.specs.Least.{IsCheapest, IsLeast};
+
+use crate::finding::find;
+use crate::nodes::Nodes;
+use roster_prices::DualPrices;
+use roster_problem::{Problem, Roster, open_number};
+use roster_regions::Region;
+use std::alloc::{AllocError, Global};
+
+/// The first in the list of the rosters of the region that cost as little as the given one, which is a
+/// cheapest one there.
+///
+/// It settles one pairing after another: the first person who has it in a cheapest roster, if there is
+/// one, and from there on the region has no others.
+pub(crate) fn first<N: Nodes>(
+    alloc: Global,
+    problem: &Problem,
+    region: &mut Region,
+    roster: &mut Roster,
+    prices: &DualPrices,
+    nodes: &mut N,
+) -> Result<(), AllocError>
+    requires region { IsRegion problem.now region.old }
+    requires cheapest { IsCheapest problem.now (IsIn problem.now region.old) roster.old }
+    ensures least { OnOk result (IsLeast problem.now (IsIn problem.now region.old) roster.new) }
+    ensures cheap { OnOk result (roster.new.cost ≤ℤ roster.old.cost) }
+    ensures goes_on { N.goes_on nodes.old nodes.new }
+{
+    for p in 0..problem.pairings().len() {
+        settle(alloc, problem, region, roster, prices, p, nodes)?;
+    }
+    Ok(())
+}
+
+/// Settles who has the pairing at place `p`. In the new region all have there what the new roster has: the
+/// first number that a roster has there which costs as little as the old one.
+fn settle<N: Nodes>(
+    alloc: Global,
+    problem: &Problem,
+    region: &mut Region,
+    roster: &mut Roster,
+    prices: &DualPrices,
+    p: usize,
+    nodes: &mut N,
+) -> Result<(), AllocError>
+    requires pairing { p < length problem.now.pairings }
+    requires agree { AgreeBefore problem.now p region.old roster.old }
+    ensures settled { OnOk result
+        (IsSettledAt problem.now p region.old roster.old region.new roster.new) }
+    ensures goes_on { N.goes_on nodes.old nodes.new }
+{
+    if let Some(earlier) = earlier_at(alloc, problem, region, roster, prices, p, nodes)? {
+        *roster = earlier;
+    }
+    Ok(())
+}
+
+/// The roster with the first number at place `p`, if that is before the number of the given one. It is
+/// settled there in the region.
+fn earlier_at<N: Nodes>(
+    alloc: Global,
+    problem: &Problem,
+    region: &mut Region,
+    roster: &Roster,
+    prices: &DualPrices,
+    p: usize,
+    nodes: &mut N,
+) -> Result<Option<Roster>, AllocError>
+    requires pairing { p < length problem.now.pairings }
+    requires agree { AgreeBefore problem.now p region.old roster.now }
+    ensures settled { IfOk result (λ earlier. IsSettledAt problem.now p region.old roster.now
+        region.new (unwrap_or earlier roster.now)) }
+    ensures goes_on { N.goes_on nodes.old nodes.new }
+{
+    let number = roster.places.as_slice()[p];
+    let cost = roster.cost;
+    for k in 0..usize::from(number) {
+        match with_person(alloc, problem, region, k, p, prices, cost, nodes)? {
+            Some(earlier) => {
+                region.give(alloc, problem, k, p)?;
+                return Ok(Some(earlier));
+            }
+            None => region.deny(alloc, problem, k, p)?,
+        }
+    }
+    leave_number(alloc, problem, region, number, p)?;
+    Ok(None)
+}
+
+/// Some roster of the region that costs at most so much and in which person `k` has the pairing at place
+/// `p`, or none, and then each of them costs more.
+fn with_person<N: Nodes>(
+    alloc: Global,
+    problem: &Problem,
+    region: &Region,
+    k: usize,
+    p: usize,
+    prices: &DualPrices,
+    most: i64,
+    nodes: &mut N,
+) -> Result<Option<Roster>, AllocError>
+    requires region { IsRegion problem.now region.now }
+    requires person { k < length problem.now.persons }
+    requires pairing { p < length problem.now.pairings }
+    ensures found { IfOk result (IsFoundWithin problem.now
+        (λ places. IsIn problem.now region.now places × Has k p places) most) }
+    ensures goes_on { N.goes_on nodes.old nodes.new }
+{
+    if !may_have(problem, region, k, p) {
+        return Ok(None);
+    }
+    let mut given = region.copy(alloc)?;
+    given.give(alloc, problem, k, p)?;
+    find(alloc, problem, given, prices, most, nodes)
+}
+
+/// Whether some line that the region leaves person `k` has the pairing at place `p`.
+fn may_have(problem: &Problem, region: &Region, k: usize, p: usize) -> bool
+    requires region { IsRegion problem.now region.now }
+    requires person { k < length problem.now.persons }
+    ensures { result ≡ false → IsWhollyIn problem.now region.now (HasNot k p) }
+{
+    region.possible(k).has(p)
+}
+
+/// Leaves in the region only rosters that have the number at place `p`.
+fn leave_number(
+    alloc: Global,
+    problem: &Problem,
+    region: &mut Region,
+    number: u16,
+    p: usize,
+) -> Result<(), AllocError>
+    requires region { IsRegion problem.now region.old }
+    requires number { number ≤ nobody problem.now }
+    requires pairing { p < length problem.now.pairings }
+    ensures narrowed { OnOk result (IsNarrowed problem.now (Has number p) region.old region.new) }
+    ensures wholly { OnOk result (IsWhollyIn problem.now region.new (Has number p)) }
+{
+    if number == open_number(problem) {
+        region.leave_open(problem, p);
+        return Ok(());
+    }
+    region.give(alloc, problem, usize::from(number), p)
+}

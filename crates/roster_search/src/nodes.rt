@@ -1,0 +1,18 @@
+//! Nodes of a search, as they are counted.
+
+use std::alloc::AllocError;
+
+/// What is told of each node of a search, before the node is searched. It may count them, and look
+/// elsewhere now and then; nothing that a search answers rests on it.
+pub trait Nodes {
+    /// What becomes of it by nodes and nothing else.
+    ghost goes_on: { Self → Self → Type 0 };
+
+    /// One more node. An error ends the search.
+    fn node(&mut self) -> Result<(), AllocError>
+        ensures { goes_on self.old self.new };
+
+    ghost stays: { (now : Self) → goes_on now now };
+
+    ghost follows: { (old mid new : Self) → goes_on old mid → goes_on mid new → goes_on old new };
+}

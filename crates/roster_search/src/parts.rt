@@ -1,0 +1,80 @@
+//! The parts of a box: the persons of one base each.
+
+ghost use Rattle.std.specs.Prelude.{◌≡◌, ◌<ℤ◌, ◌^◌, ◌-◌, ◌==◌, IfOk, length, pos};
+ghost use Rattle.roster_lines.specs.Person.{IsTableOf};
+ghost use Rattle.roster_search.specs.Least.{IsLeastBelow};
+ghost use Rattle.roster_search.specs.Parts.{merge, AreOwnRanges, IsInPart};
+
+use crate::least::least;
+use crate::nodes::Nodes;
+use roster_lines::Table;
+use roster_problem::{Problem, Roster};
+use roster_regions::Region;
+use std::alloc::{AllocError, Global};
+
+/// The least roster in which the persons of one base have lines in their ranges and all others no pairing,
+/// if there is one.
+pub(crate) fn least_of_base<N: Nodes>(
+    alloc: Global,
+    problem: &Problem,
+    table: &Table,
+    ranges: &[(usize, usize)],
+    base: usize,
+    nodes: &mut N,
+) -> Result<Option<Roster>, AllocError>
+    requires table { IsTableOf problem.now table.now }
+    requires ranges { length ranges.now ≡ length table.now }
+    ensures least { IfOk result (IsLeastBelow problem.now
+        (IsInPart problem.now table.now ranges.now (λ b. b == base)) (pos (2 ^ 63 - 1))) }
+    ensures goes_on { N.goes_on nodes.old nodes.new }
+{
+    let own = own_ranges(alloc, problem, ranges, base)?;
+    let region = Region::of_ranges(alloc, problem, table, &own)?;
+    least(alloc, problem, region, i64::MAX, nodes)
+}
+
+/// The ranges of the persons of the base; everybody else has the empty line only.
+fn own_ranges(
+    alloc: Global,
+    problem: &Problem,
+    ranges: &[(usize, usize)],
+    base: usize,
+) -> Result<Vec<(usize, usize)>, AllocError>
+    requires { length ranges.now ≡ length problem.now.persons }
+    ensures { IfOk result (λ own. AreOwnRanges problem.now base ranges.now own.items) }
+{
+    let mut own = Vec::new(alloc);
+    for (k, range) in ranges.iter().enumerate() {
+        own.push(if problem.person(k).base == base {
+            *range
+        } else {
+            (0, 1)
+        })?;
+    }
+    Ok(own)
+}
+
+/// The places with the numbers of the part at the pairings of the base.
+pub(crate) fn merged(
+    alloc: Global,
+    problem: &Problem,
+    base: usize,
+    part: &Roster,
+    places: &[u16],
+) -> Result<Vec<u16>, AllocError>
+    requires part { length part.now.places ≡ length problem.now.pairings }
+    requires places { length places.now ≡ length problem.now.pairings }
+    ensures { IfOk result (λ merged. merged.items
+        ≡ merge problem.now (λ b. b == base) part.now.places places.now) }
+{
+    let own = part.places.as_slice();
+    let mut merged = Vec::new(alloc);
+    for (p, number) in places.iter().enumerate() {
+        merged.push(if problem.pairing(p).base == base {
+            own[p]
+        } else {
+            *number
+        })?;
+    }
+    Ok(merged)
+}

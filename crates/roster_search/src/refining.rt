@@ -1,0 +1,150 @@
+//! Regions made smaller by prices that rise.
+
+ghost use Rattle.std.specs.Prelude.{◌<◌, IfOk, IfSome, MatchBool, MatchOption, length};
+ghost use Rattle.roster_model.specs.Settled.{IsWithinCost};
+ghost use Rattle.roster_regions.specs.Bounds.{CostsAtMost, IsAllAbove};
+ghost use Rattle.roster_regions.specs.Regions.{IsDecided, IsIn, IsNarrowed, IsRegion, IsSplit};
+ghost use Rattle.roster_search.specs.Refined.{IsRefined};
+
+use crate::root::room;
+use roster_cost::roster_cost;
+use roster_prices::{Ascent, DualPrices, branch, rounded};
+use roster_problem::{Places, Problem, Roster};
+use roster_regions::Region;
+use std::alloc::{AllocError, Global};
+
+/// How often prices move at a node, at most.
+const MOST_STEPS: usize = 20;
+
+/// After this step a roster is rounded, and after the last one.
+const FIRST_ROUNDING: usize = 1;
+
+/// What is known of a region after its prices have risen.
+#[derive(Drop)]
+pub(crate) enum Refined {
+    /// A roster that costs little enough.
+    Found(Roster),
+    /// There is none.
+    Nothing,
+    /// It is in the part that is left. These prices are good ones there.
+    Part(DualPrices),
+}
+
+/// Raises the prices step by step, leaves out of the region what costs more than it may by them, and
+/// rounds a roster now and then.
+pub(crate) fn refine(
+    alloc: Global,
+    problem: &Problem,
+    region: &mut Region,
+    prices: &DualPrices,
+    most: i64,
+) -> Result<Refined, AllocError>
+    requires { IsRegion problem.now region.old }
+    ensures { IfOk result (IsRefined problem.now most region.old region.new) }
+{
+    let room = room(region, most);
+    let mut ascent = Ascent::new(alloc, prices)?;
+    for step in 0..MOST_STEPS {
+        if !fix(alloc, problem, region, &mut ascent, most, room)? {
+            return Ok(Refined::Nothing);
+        }
+        if let Some(roster) = cheap_at(alloc, problem, region, &ascent, most, room, step)? {
+            return Ok(Refined::Found(roster));
+        }
+        ascent.step(problem, region)?;
+    }
+    if !region.tighten(alloc, problem, ascent.best(), most)? {
+        return Ok(Refined::Nothing);
+    }
+    Ok(Refined::Part(ascent.into_best()))
+}
+
+/// Leaves out of the region what costs more than it may by the prices, if that is worth its time. False
+/// where each roster costs more.
+pub(crate) fn fix(
+    alloc: Global,
+    problem: &Problem,
+    region: &mut Region,
+    ascent: &mut Ascent,
+    most: i64,
+    room: i64,
+) -> Result<bool, AllocError>
+    requires { IsRegion problem.now region.old }
+    ensures { IfOk result (λ left. MatchBool left
+        (IsNarrowed problem.now (CostsAtMost problem.now most) region.old region.new)
+        (IsAllAbove problem.now region.old most)) }
+{
+    if ascent.is_decided() || !ascent.look(problem, region, room)? {
+        return Ok(true);
+    }
+    region.tighten(alloc, problem, ascent.prices(), most)
+}
+
+/// After some of the steps, a roster of the region that is rounded from the prices, if it costs at most
+/// so much.
+fn cheap_at(
+    alloc: Global,
+    problem: &Problem,
+    region: &Region,
+    ascent: &Ascent,
+    most: i64,
+    room: i64,
+    step: usize,
+) -> Result<Option<Roster>, AllocError>
+    requires { IsRegion problem.now region.now }
+    ensures { IfOk result (λ roster. IfSome roster
+        (IsWithinCost problem.now (IsIn problem.now region.now) most)) }
+{
+    if step != FIRST_ROUNDING && step != MOST_STEPS - 1 {
+        return Ok(None);
+    }
+    cheap(alloc, problem, region, ascent, most, room)
+}
+
+/// A roster of the region that is rounded from the prices, if it costs at most so much.
+fn cheap(
+    alloc: Global,
+    problem: &Problem,
+    region: &Region,
+    ascent: &Ascent,
+    most: i64,
+    room: i64,
+) -> Result<Option<Roster>, AllocError>
+    requires { IsRegion problem.now region.now }
+    ensures { IfOk result (λ roster. IfSome roster
+        (IsWithinCost problem.now (IsIn problem.now region.now) most)) }
+{
+    let Some(places) = rounded(alloc, problem, region, ascent.prices(), room, 0)? else {
+        return Ok(None);
+    };
+    let places = Places::new(places);
+    if !region.is_in(alloc, problem, places.as_slice())? {
+        return Ok(None);
+    }
+    let cost = roster_cost(problem, places.as_slice());
+    if cost > most {
+        return Ok(None);
+    }
+    Ok(Some(Roster { places, cost }))
+}
+
+/// The person and the pairing to settle next, if all isn't decided.
+pub(crate) fn next_split(
+    alloc: Global,
+    problem: &Problem,
+    region: &Region,
+    prices: &DualPrices,
+) -> Result<Option<(usize, usize)>, AllocError>
+    requires { IsRegion problem.now region.now }
+    ensures { IfOk result (λ split. MatchOption split (IsDecided region.now) (λ split.
+        IsSplit region.now split.0 split.1 × (split.0 < length problem.now.persons)
+        × (split.1 < length problem.now.pairings))) }
+{
+    let (k, p) = branch(alloc, problem, region, prices)?;
+    if k < problem.persons().len() && p < problem.pairings().len() {
+        if region.is_split(k, p) {
+            return Ok(Some((k, p)));
+        }
+    }
+    Ok(region.pick(problem))
+}
