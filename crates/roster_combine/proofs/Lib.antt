@@ -1,5 +1,4 @@
-pub mod Settles
-pub mod AllOpen
 pub mod Best
-pub mod Put
-pub mod Walk
+pub mod RootLemmas
+pub mod PartLemmas
+pub mod ReplayLemmas

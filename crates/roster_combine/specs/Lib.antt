@@ -1,3 +1,3 @@
-pub mod Settled
-pub mod Walk
 pub mod SolveFaults
+pub mod Parts
+pub mod Replays

@@ -2,7 +2,8 @@
 
 ghost use Rattle.std.specs.Prelude.{◌≡◌, ℕ, List, length, replicate};
 ghost use Rattle.roster_model.specs.Problem.{Problem};
-ghost use Rattle.roster_model.specs.Rosters.{IsBest, IsLegalRoster};
+ghost use Rattle.roster_model.specs.Rosters.{IsLegalRoster};
+ghost use Rattle.roster_model.specs.Settled.{IsBest};
 
 /// A problem has at most one best roster.
 pub fn one_best()

@@ -1,22 +1,30 @@
 //! The best roster of a problem.
 //!
-//! `solve` makes the lines of each person, and walks through all choices of one line for each in which no
-//! two meet: these are the legal rosters. It keeps the one of least key. `solve_plainly` tries every list
-//! of places, and is there to be compared with: tests run both. In reading order:
+//! `solve` makes the lines of each person, and finds the legal roster of least key. Workers take parts of that
+//! search from a pool, and what they find is put together in the end. In reading order:
 //!
-//! - `search`: `solve`, and the walk through the lines
-//! - `incumbent`: the best roster met so far
-//! - `places`: a number at all places of a set
-//! - `plain`: `solve_plainly`, and the lists in turn
+//! - `search`: `solve`, and why it finds none
+//! - `root`: one search of all rosters
+//! - `gate`: where workers can be met
+//! - `working`: what a worker does
+//! - `combining`: the least of all that workers found
+//! - `threads`: a search by several threads
+//! - `replaying`: a search under a written schedule
 //! - `laws`: a problem has one best roster; leaving all open is legal
 #![tactic(auto)]
 
-mod incumbent;
+mod combining;
+mod gate;
 mod laws;
-mod places;
-mod plain;
+mod replaying;
+mod root;
 mod search;
+mod threads;
+mod working;
 
+pub use combining::{Solved, combine};
+pub use gate::{Gate, Open, Point};
 pub use laws::{all_open_is_legal, has_best, one_best};
-pub use plain::solve_plainly;
+pub use replaying::replay;
 pub use search::{SolveFault, solve};
+pub use working::work;

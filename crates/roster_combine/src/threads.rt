@@ -1,0 +1,168 @@
+//! A search by several threads.
+
+ghost use Rattle.std.specs.Prelude.{◌≡◌, ◌+◌, ◌<◌, ◌≤◌, [], All, IfErr, IfOk, List, length, map, vec_len};
+ghost use Rattle.std.specs.Arc.{arc_value};
+ghost use Rattle.std.specs.Thread.{IsSync};
+ghost use Rattle.roster_model.specs.Problem.{Problem as PlainProblem};
+ghost use Rattle.roster_lines.specs.Entries.{Entry};
+ghost use Rattle.roster_lines.specs.Person.{IsTableOf};
+ghost use Rattle.roster_bounds.specs.Chosen.{priced_table};
+ghost use Rattle.roster_combine.specs.Parts.{AreSettled, IsBestKey};
+
+use crate::combining::{Solved, combine, solved_again};
+use crate::gate::Gate;
+use crate::root::{first_known, search_root, widths_of};
+use crate::working::work;
+use roster_bounds::{Tables, choose_tables};
+use roster_incumbent::Incumbent;
+use roster_lines::Table;
+use roster_problem::Problem;
+use roster_subtreepool::{Pool, PoolState, Settled, Share};
+use std::alloc::{AllocError, Global};
+use std::marker::Brand;
+use std::sync::Wait;
+use std::sync::ledger::{Blank, Ledger};
+use std::thread::{Threads, map_vec};
+
+/// The best roster, found by so many workers.
+pub(crate) fn solve_over<R: Threads + Wait + Sync, G: Gate + Sync>(
+    rt: &R,
+    alloc: Global,
+    problem: &Problem,
+    table: &Table,
+    workers: usize,
+    gate: &G,
+) -> Result<Solved, AllocError>
+    requires table { IsTableOf problem.now table.now }
+    requires workers { 0 < workers }
+    ensures { IfOk result (λ solved. IsBestKey problem.now (arc_value solved.roster)) }
+{
+    if problem.persons().is_empty() {
+        let roster = search_root(alloc, problem, table)?;
+        return Ok(Solved {
+            roster,
+            fallbacks: 0,
+        });
+    }
+    let tables = choose_tables(alloc, problem, table)?;
+    solve_from::<Brand, R, G>(
+        rt,
+        alloc,
+        problem,
+        table,
+        &tables,
+        workers,
+        gate,
+        Blank::new(workers as u64),
+    )
+}
+
+/// `solve_over`, over a new pool. The calling thread is worker 0. Where a thread can't be started its
+/// worker comes last, when nothing is left to do.
+fn solve_from<L: Ledger + Send + Sync, R: Threads + Wait + Sync, G: Gate + Sync>(
+    rt: &R,
+    alloc: Global,
+    problem: &Problem,
+    table: &Table,
+    tables: &Tables<'_>,
+    workers: usize,
+    gate: &G,
+    blank: Blank,
+) -> Result<Solved, AllocError>
+    requires table { IsTableOf problem.now table.now }
+    requires tables { tables.now ≡ priced_table problem.now table.now tables.now.prices }
+    requires persons { 0 < length problem.now.persons }
+    requires workers { 0 < workers }
+    requires name { blank.name ≡ L.name }
+    requires parts { blank.parts ≡ L.parts }
+    requires one_each { blank.parts ≡ workers }
+    ensures { IfOk result (λ solved. IsBestKey problem.now (arc_value solved.roster)) }
+{
+    let widths = widths_of(alloc, problem, table)?;
+    let known = first_known(alloc, problem)?;
+    let (state, shares) = match PoolState::<L>::start(alloc, &widths, workers, blank) {
+        Ok(started) => started,
+        Err((_, refused)) => return Err(refused),
+    };
+    let pool = Pool::new(state);
+    let incumbent = Incumbent::new(known);
+    let jobs = jobs_of(alloc, shares)?;
+    let parts = work_all(
+        rt, alloc, problem, table, tables, &pool, &incumbent, jobs, gate,
+    )?;
+    let (shares, lists) = handed_in(alloc, parts)?;
+    match pool.into_state().close(shares) {
+        Ok(closed) => combine(alloc, problem, table, lists, closed),
+        Err(_) => solved_again(alloc, problem, table),
+    }
+}
+
+/// What each worker hands in, with its share; each works in a thread of its own, the last one in this one.
+fn work_all<L: Ledger + Send + Sync, R: Threads + Wait + Sync, G: Gate + Sync>(
+    rt: &R,
+    alloc: Global,
+    problem: &Problem,
+    table: &Table,
+    tables: &Tables<'_>,
+    pool: &Pool<L>,
+    incumbent: &Incumbent,
+    jobs: Vec<(usize, Share<L>)>,
+    gate: &G,
+) -> Result<Vec<Result<(Share<L>, Vec<Settled>), AllocError>>, AllocError>
+    requires table { IsTableOf problem.now table.now }
+    requires tables { tables.now ≡ priced_table problem.now table.now tables.now.prices }
+    ensures shares { IfOk result (λ parts. vec_len parts ≡ vec_len jobs) }
+    ensures settled { IfOk result (λ parts.
+        All (λ part. IfOk part (λ handed. AreSettled problem.now table.now handed.1.items)) parts.items) }
+{
+    let part = |job: (usize, Share<L>)| -> Result<(Share<L>, Vec<Settled>), AllocError>
+        requires { IsTableOf problem.now table.now
+            × (tables.now ≡ priced_table problem.now table.now tables.now.prices) }
+        ensures { IfOk result (λ handed. AreSettled problem.entry.now table.entry.now handed.1.items) }
+    {
+        let (worker, mut share) = job;
+        let list = work(
+            rt, alloc, problem, table, tables, pool, incumbent, worker, &mut share, gate,
+        )?;
+        Ok((share, list))
+    };
+    let parts = map_vec(rt, jobs, &part)?;
+    Ok(parts)
+}
+
+/// A job for each worker, with its number and its share: the last worker's first, since the last job is done
+/// in the calling thread.
+fn jobs_of<L: Ledger>(
+    alloc: Global,
+    shares: Vec<Share<L>>,
+) -> Result<Vec<(usize, Share<L>)>, AllocError>
+    ensures { IfOk result (λ jobs. vec_len jobs ≡ vec_len shares) }
+{
+    let mut shares = shares;
+    let mut jobs = Vec::with_capacity(alloc, shares.len())?;
+    while let Some(share) = shares.pop() {
+        jobs.push((shares.len(), share))?;
+    }
+    Ok(jobs)
+}
+
+/// The shares and the lists of all workers, worker 0's first; or that one of them met want of memory.
+fn handed_in<L: Ledger>(
+    alloc: Global,
+    parts: Vec<Result<(Share<L>, Vec<Settled>), AllocError>>,
+) -> Result<(Vec<Share<L>>, Vec<Vec<Settled>>), AllocError>
+    ensures shares { IfOk result (λ all. vec_len all.0 ≡ vec_len parts) }
+    ensures settled { IfOk result (λ all. (problem : PlainProblem) (table : List (List Entry))
+        → All (λ part. IfOk part (λ handed. AreSettled problem table handed.1.items)) parts.items
+        → All (AreSettled problem table) (map (λ list. list.items) all.1.items)) }
+{
+    let mut parts = parts;
+    let mut shares = Vec::with_capacity(alloc, parts.len())?;
+    let mut lists = Vec::with_capacity(alloc, parts.len())?;
+    while let Some(part) = parts.pop() {
+        let (share, list) = part?;
+        shares.push(share)?;
+        lists.push(list)?;
+    }
+    Ok((shares, lists))
+}

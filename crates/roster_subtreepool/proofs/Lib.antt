@@ -1,0 +1,4 @@
+pub mod SpanParts
+pub mod StepLemmas
+pub mod TimesLemmas
+pub mod LiesLemmas
