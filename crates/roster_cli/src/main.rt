@@ -8,6 +8,7 @@ ghost use Rattle.std.specs.declared.io.ErrorKind.TheVariants.{OutOfMemory};
 ghost use Rattle.std.specs.Process.{exit_status};
 ghost use Rattle.roster_run.specs.Run.{exit_number};
 
+use roster_combine::Open;
 use roster_commandline::{LineFault, read_line};
 use roster_run::{Status, run};
 use roster_watched::Watched;
@@ -22,13 +23,21 @@ fn main(rt: HostRuntime) -> ExitCode {
         Ok(words) => words,
         Err(error) => return unread(&rt, &error),
     };
-    let (command, _workers) = match read_line(rt.alloc(), words.as_slice()) {
+    let (command, workers) = match read_line(rt.alloc(), words.as_slice()) {
         Ok(line) => line,
         Err(fault) => return unasked(&rt, &fault),
     };
     let mut reader = Watched::new(rt.reader());
     let mut writer = Watched::new(io::writer(&rt));
-    let status = run(rt.alloc(), command, &mut reader, &mut writer);
+    let status = run(
+        &rt,
+        rt.alloc(),
+        command,
+        workers,
+        &mut reader,
+        &mut writer,
+        &Open,
+    );
     ended(&rt, status)
 }
 

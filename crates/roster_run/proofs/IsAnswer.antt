@@ -3,13 +3,14 @@ use Rattle.std.proofs.Common.{◌≡◌, ◌⊎◌, ℕ, zero, suc, ◌<◌, Lis
 use Rattle.std.specs.Prelude.{slice_get}
 use Rattle.std.proofs.lemmas.Bool.{cases_lt}
 use Rattle.std.proofs.lemmas.Option.{same_Some, slice_get-get_or}
-use Rattle.roster_model.specs.Answer.{IsAnswer, IsCrowdedFault, IsFirstFault, IsProblemFault, IsRefusal, IsReport, Reports}
+use Rattle.roster_model.specs.Answer.{IsAnswer, IsBestReport, IsCrowdedFault, IsFirstFault, IsProblemFault, IsRefusal, IsReport, Reports}
 use Rattle.roster_model.specs.Code.{TooManyLines}
 use Rattle.roster_model.specs.Faults.{Fault, fault_at, first_fault}
 use Rattle.roster_model.specs.Lines.{IsCrowded, IsFirstCrowded}
 use Rattle.roster_model.specs.Problem.{Problem, problem_of}
-use Rattle.roster_model.specs.Record.{Record, Command, Solve, Check}
-use Rattle.roster_model.specs.Rosters.{AreVerdicts, IsBest}
+use Rattle.roster_model.specs.Record.{Record, Command, Solve, Check, Replay}
+use Rattle.roster_model.specs.Rosters.{AreVerdicts}
+use Rattle.roster_model.specs.Settled.{IsBest}
 use Rattle.roster_model.specs.Rules.{AreLocks, Rule}
 use Rattle.roster_model.specs.Texts.{IsCheckOf, IsReportOf, check_text, report_text, fault_text}
 use Rattle.roster_model.specs.records.Assign.{assigned_in}
@@ -39,6 +40,7 @@ same_crowded_fault problem a b p q =
 same_problem_fault : (command : Command) (problem : Problem) (a b : Fault) → IsProblemFault command problem a → IsProblemFault command problem b → a ≡ b
 same_problem_fault Solve problem a b p q = same_crowded_fault problem a b p q
 same_problem_fault Check problem a b p q = absurd p
+same_problem_fault Replay problem a b p q = same_crowded_fault problem a b p q
 
 same_fault : (command : Command) (records : List Record) (a b : Fault) → IsFirstFault command records a → IsFirstFault command records b → a ≡ b
 same_fault command records a b (inl p) (inl q) = same_Some a b (sym p ∙ q)
@@ -65,11 +67,15 @@ same_check one problem places s t p q =
     p.written ∙ ap (λ locks. check_text problem locks p.verdicts places) locks
     ∙ ap (λ verdicts. check_text problem q.locks verdicts places) verdicts ∙ sym q.written
 
-same_reports : Single → (command : Command) (problem : Problem) (assigned s t : List ℕ) → Reports command problem assigned s → Reports command problem assigned t → s ≡ t
-same_reports one Solve problem assigned s t p q =
+same_best : Single → (problem : Problem) (s t : List ℕ) → IsBestReport problem s → IsBestReport problem t → s ≡ t
+same_best one problem s t p q =
     let same : p.places ≡ q.places = one.best problem p.places q.places p.best q.best in
     same_report one problem q.places s t (subst (λ places. IsReportOf problem places s) same p.written) q.written
+
+same_reports : Single → (command : Command) (problem : Problem) (assigned s t : List ℕ) → Reports command problem assigned s → Reports command problem assigned t → s ≡ t
+same_reports one Solve problem assigned s t p q = same_best one problem s t p q
 same_reports one Check problem assigned s t p q = same_check one problem assigned s t p q
+same_reports one Replay problem assigned s t p q = same_best one problem s t p q
 
 no_both : (command : Command) (records : List Record) (s t : List ℕ) → IsRefusal command records s → IsReport command records t → s ≡ t
 no_both command records s t p q = absurd (q.faultless p.fault p.first)
@@ -104,8 +110,8 @@ crowded_before problem (suc n) none =
 somebody : Person
 somebody = record { id = []; base = 0; target = 0; year = 0; eleven = 0; row = 0 }
 
-problem_fault : (command : Command) (problem : Problem) → ¬ ¬ (((fault : Fault) × IsProblemFault command problem fault) ⊎ ((fault : Fault) → ¬ IsProblemFault command problem fault))
-problem_fault Solve problem none =
+crowded_fault : (problem : Problem) → ¬ ¬ (((fault : Fault) × IsCrowdedFault problem fault) ⊎ ((fault : Fault) → ¬ IsCrowdedFault problem fault))
+crowded_fault problem none =
     crowded_before problem (length problem.persons) (λ persons.
     elim persons [
       | inl found ↦
@@ -121,14 +127,22 @@ problem_fault Solve problem none =
           ))
       | inr few ↦ none (inr (λ fault told. few told.k told.crowded.person told.crowded.crowded))
     ])
-problem_fault Check problem none = none (inr (λ fault told. absurd told))
 
-some_report : Present → (command : Command) (problem : Problem) (assigned : List ℕ) → ¬ ¬ ((text : List ℕ) × Reports command problem assigned text)
-some_report has Solve problem assigned none =
+problem_fault : (command : Command) (problem : Problem) → ¬ ¬ (((fault : Fault) × IsProblemFault command problem fault) ⊎ ((fault : Fault) → ¬ IsProblemFault command problem fault))
+problem_fault Solve problem none = crowded_fault problem none
+problem_fault Check problem none = none (inr (λ fault told. absurd told))
+problem_fault Replay problem none = crowded_fault problem none
+
+best_report : Present → (problem : Problem) → ¬ ¬ ((text : List ℕ) × IsBestReport problem text)
+best_report has problem none =
     has.best problem (λ best. has.locks problem (λ locks. none (
       report_text problem locks.0 best.0,
       record { places = best.0; best = best.1; written = record { locks = locks.0; locked = locks.1; written = refl } },
     )))
+
+some_report : Present → (command : Command) (problem : Problem) (assigned : List ℕ) → ¬ ¬ ((text : List ℕ) × Reports command problem assigned text)
+some_report has Solve problem assigned none = best_report has problem none
+some_report has Replay problem assigned none = best_report has problem none
 some_report has Check problem assigned none =
     has.locks problem (λ locks. has.verdicts problem assigned (λ verdicts. none (
       check_text problem locks.0 verdicts.0 assigned,
