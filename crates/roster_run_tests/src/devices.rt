@@ -2,10 +2,13 @@
 
 use crate::runs::{BOOK, REPORT};
 use roster_book::{Command, Watched};
+use roster_combine::Open;
 use roster_run::{Status, run};
 use std::io;
 use std::io::{Read, Write};
 use std::process::Abort;
+use std::sync::Wait;
+use std::thread::Threads;
 
 /// What is written of a book without a record.
 const LINE: &[u8] = b"FAULT 1 1\n";
@@ -41,7 +44,15 @@ fn tells_a_failed_reader(rt: HostRuntime) {
     for reads in 0..BOOK.len() + 1 {
         let mut reader = Watched::new(FailingReader { bytes: BOOK, reads });
         let mut writer = Watched::new(Vec::new(rt.alloc()));
-        let status = run(rt.alloc(), Command::Solve, &mut reader, &mut writer);
+        let status = run(
+            &rt,
+            rt.alloc(),
+            Command::Solve,
+            1,
+            &mut reader,
+            &mut writer,
+            &Open,
+        );
         assert!(rt; matches!(status, Status::ReadFailed), "after {reads} reads");
         assert!(rt; reader.failed() && !writer.failed());
         assert!(rt; writer.inner().is_empty());
@@ -51,7 +62,15 @@ fn tells_a_failed_reader(rt: HostRuntime) {
         reads: BOOK.len() + 2,
     });
     let mut writer = Watched::new(Vec::new(rt.alloc()));
-    let status = run(rt.alloc(), Command::Solve, &mut reader, &mut writer);
+    let status = run(
+        &rt,
+        rt.alloc(),
+        Command::Solve,
+        1,
+        &mut reader,
+        &mut writer,
+        &Open,
+    );
     assert!(rt; matches!(status, Status::Answered));
     assert!(rt; writer.inner().as_slice() == REPORT);
     assert!(rt; writer.flushed());
@@ -61,7 +80,15 @@ fn tells_a_failed_reader(rt: HostRuntime) {
         reads: 7,
     });
     let mut writer = Watched::new(Vec::new(rt.alloc()));
-    let status = run(rt.alloc(), Command::Solve, &mut reader, &mut writer);
+    let status = run(
+        &rt,
+        rt.alloc(),
+        Command::Solve,
+        1,
+        &mut reader,
+        &mut writer,
+        &Open,
+    );
     assert!(rt; matches!(status, Status::Refused));
     assert!(rt; writer.inner().as_slice() == LINE);
 }
@@ -111,7 +138,13 @@ impl Write for FailingWriter {
 }
 
 /// The writer's failure is told, and the first bytes of the text were written.
-fn tells<R: Abort + AllocGlobal>(rt: &R, book: &[u8], text: &[u8], writes: u16, failure: Failure) {
+fn tells<R: Threads + Wait + Abort + AllocGlobal + Sync>(
+    rt: &R,
+    book: &[u8],
+    text: &[u8],
+    writes: u16,
+    failure: Failure,
+) {
     let mut reader = Watched::new(book);
     let mut writer = Watched::new(FailingWriter {
         taken: Vec::new(rt.alloc()),
@@ -119,7 +152,15 @@ fn tells<R: Abort + AllocGlobal>(rt: &R, book: &[u8], text: &[u8], writes: u16, 
         failure,
         flushes: 0,
     });
-    let status = run(rt.alloc(), Command::Solve, &mut reader, &mut writer);
+    let status = run(
+        rt,
+        rt.alloc(),
+        Command::Solve,
+        1,
+        &mut reader,
+        &mut writer,
+        &Open,
+    );
     assert!(rt; matches!(status, Status::WriteFailed));
     assert!(rt; writer.failed() && !reader.failed());
     let taken = &writer.inner().taken;

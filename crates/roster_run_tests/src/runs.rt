@@ -5,14 +5,16 @@ ghost use Rattle.roster_model.specs.Answer.{IsAnswer, records_of};
 ghost use Rattle.roster_problem.specs.View.{command_of};
 
 use roster_book::{Command, Watched, duties_in_order};
-use roster_combine::{all_open_is_legal, has_best, one_best};
+use roster_combine::{Open, all_open_is_legal, has_best, one_best};
 use roster_legal::{
     has_locks, has_verdicts, one_first_broken, one_list_of_locks, one_list_of_verdicts,
     part_of_legal_is_legal,
 };
 use roster_run::{Status, has_answer, one_answer, run};
 use std::alloc::{AllocError, Global};
+use std::sync::Wait;
 use std::test::Fail;
+use std::thread::Threads;
 
 pub const BOOK: &[u8] =
     b"period,2024-03\nbase,BAS,UTC0\ncrew,A,BAS,0,0,0\ncrew,B,BAS,0,0,0\npairing,P1,BAS,100\nduty,Q1,P,P1,BAS,2024-03-04T06:00Z,2024-03-04T14:00Z\n";
@@ -24,13 +26,18 @@ const CHECK: &[u8] = b"CHECK 2024-03\nCOST 100\nCREW A OK\nCREW B OK\n";
 
 /// What a run over memory writes. That its clause is proved shows that a reader and a writer over
 /// memory meet all that `run` supposes of them.
-fn text_of(alloc: Global, command: Command, book: &[u8]) -> Result<Option<Vec<u8>>, AllocError>
+fn text_of<R: Threads + Wait + Sync>(
+    rt: &R,
+    alloc: Global,
+    command: Command,
+    book: &[u8],
+) -> Result<Option<Vec<u8>>, AllocError>
     ensures { IfOk result (λ text. IfSome text (λ text.
         IsAnswer (command_of command) (records_of book.now) text.items)) }
 {
     let mut reader = Watched::new(book);
     let mut writer = Watched::new(Vec::new(alloc));
-    match run(alloc, command, &mut reader, &mut writer) {
+    match run(rt, alloc, command, 1, &mut reader, &mut writer, &Open) {
         Status::Answered | Status::Refused => {
             Ok(Some(Vec::from_slice(alloc, writer.inner().as_slice())?))
         }
@@ -40,14 +47,14 @@ fn text_of(alloc: Global, command: Command, book: &[u8]) -> Result<Option<Vec<u8
 
 #[test]
 fn the_report_of_the_best_roster_is_written(rt: HostRuntime) -> Result<(), Fail> {
-    let text = text_of(rt.alloc(), Command::Solve, BOOK)?.ok_or("a text")?;
+    let text = text_of(&rt, rt.alloc(), Command::Solve, BOOK)?.ok_or("a text")?;
     assert!(rt; text.as_slice() == REPORT);
     Ok(())
 }
 
 #[test]
 fn what_a_check_says_is_written(rt: HostRuntime) -> Result<(), Fail> {
-    let text = text_of(rt.alloc(), Command::Check, BOOK)?.ok_or("a text")?;
+    let text = text_of(&rt, rt.alloc(), Command::Check, BOOK)?.ok_or("a text")?;
     assert!(rt; text.as_slice() == CHECK);
     Ok(())
 }

@@ -2,10 +2,11 @@
 
 use crate::legal::{problem_of, set_of};
 use roster_cost::{
-    Key, cost_at, fixed_flight, line_cost, one_pairing_more, open_number, order_of_keys,
-    pairing_flight, roster_cost, set_flight, set_units, shares_add_up, units_of_set,
+    Key, cost_at, cost_without_pairings, fixed_flight, keys_are_in_order, line_cost,
+    lines_are_near, one_pairing_more, order_of_keys, pairing_flight, roster_cost, set_flight,
+    set_units, shares_add_up, units_of_set,
 };
-use roster_problem::Set;
+use roster_problem::{Places, Roster, Set, has_throughout, open_number, put};
 use std::test::Fail;
 
 // A has no target, and B one of the flight of P1. P1 flies 480 minutes in March, P2 none. Each minute
@@ -51,6 +52,7 @@ fn a_line_costs_what_its_pairings_bring_one_by_one(rt: HostRuntime) -> Result<()
     assert!(rt; cost_at(&problem, 1, -3, 500) == 17);
     one_pairing_more();
     units_of_set();
+    lines_are_near();
     Ok(())
 }
 
@@ -59,6 +61,7 @@ fn a_roster_costs_its_open_pairings_and_its_lines(rt: HostRuntime) -> Result<(),
     let problem = problem_of(rt.alloc(), BOOK)?;
     assert!(rt; problem.pairings().len() == 2);
     assert!(rt; open_number(&problem) == 2);
+    assert!(rt; cost_without_pairings(&problem) == 480);
     assert!(rt; roster_cost(&problem, &[2, 2]) == 630);
     assert!(rt; roster_cost(&problem, &[0, 2]) == 1017);
     assert!(rt; roster_cost(&problem, &[1, 2]) == 47);
@@ -83,6 +86,26 @@ fn keys_are_compared_by_cost_and_then_by_place(rt: HostRuntime) -> Result<(), Fa
     };
     assert!(rt; cheap < first && first < second && cheap <= cheap && second > cheap);
     assert!(rt; first == first && first != second && cheap != first);
+    let roster = Roster {
+        places: Places::new([0u16, 2].to_vec(rt.alloc())?),
+        cost: 47,
+    };
+    assert!(rt; Key::of(&roster) == first);
     order_of_keys();
+    keys_are_in_order();
+    Ok(())
+}
+
+#[test]
+fn a_number_is_put_at_the_places_of_a_set(rt: HostRuntime) -> Result<(), Fail> {
+    let problem = problem_of(rt.alloc(), BOOK)?;
+    assert!(rt; problem.pairings().len() == 2);
+    let first = set_of(&problem, &[0, 2]).ok_or("a set")?;
+    let mut places = [2u16, 2];
+    assert!(rt; has_throughout(&places, &first, 2));
+    put(&mut places, &first, 1);
+    assert!(rt; places == [1, 2]);
+    assert!(rt; !has_throughout(&places, &first, 2));
+    problem.is_sound();
     Ok(())
 }

@@ -1,11 +1,17 @@
 //! Tests of lines and of searches: what no clause says, and each public call that no book of `data/`
 //! reaches. A crate with tests of its own would be proved twice. In reading order:
 //!
+//! - `judged`: lines beside all sets that are judged from the first duty to the last
 //! - `lines`: the lines of persons, and their numbers
-//! - `searches`: the walk of lines beside the plain search
+//! - `random`: books that are put together at random
+//! - `searches`: the search beside the walk of lines and the plain search
 #![tactic(auto)]
 
 #[cfg(test)]
+mod judged;
+#[cfg(test)]
 mod lines;
+#[cfg(test)]
+mod random;
 #[cfg(test)]
 mod searches;

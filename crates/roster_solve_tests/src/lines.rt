@@ -1,17 +1,44 @@
 //! The lines of persons, and their numbers.
 
+ghost use Rattle.roster_lines.specs.Person.{IsTableOf};
+
 use roster_book::{Command, Watched, read_book};
 use roster_lines::{
-    Lines, TableFault, few_are_not_crowded, has_numbers, lines_of, nobody_is_crowded,
-    one_list_of_lines, one_list_of_numbers, table_of,
+    Lines, Table, TableFault, all_lines, few_are_not_crowded, has_numbers, lines_of,
+    nobody_is_crowded, one_list_of_lines, one_list_of_numbers, table_of,
 };
 use roster_model::limits::MOST_PAIRINGS;
 use roster_problem::{Problem, Set};
 use std::alloc::{AllocError, Global};
 use std::test::Fail;
+use std::thread::Threads;
 
 /// Five pairings on one day, and five on the next.
 const TWO_DAYS: [u8; 10] = [4, 4, 4, 4, 4, 5, 5, 5, 5, 5];
+
+/// Pairings any of which go together: more than 60000 sets.
+const MANY: [u8; 16] = [1, 3, 5, 7, 9, 11, 13, 15, 17, 19, 21, 23, 25, 27, 29, 31];
+
+/// One person.
+const ONE: &[u8] = b"crew,A,BAS,0,0,0
+";
+
+/// On those two days B is away on the first, and C on the second.
+const THREE: &[u8] = b"crew,A,BAS,0,0,0
+crew,B,BAS,0,0,0
+crew,C,BAS,0,0,0
+leave,B,2024-03-04T00:00Z,2024-03-05T00:00Z
+leave,C,2024-03-05T00:00Z,2024-03-06T00:00Z
+";
+
+/// A and C are away for the month.
+const FOUR: &[u8] = b"crew,A,BAS,0,0,0
+crew,B,BAS,0,0,0
+crew,C,BAS,0,0,0
+crew,D,BAS,0,0,0
+leave,A,2024-03-01T00:00Z,2024-04-01T00:00Z
+leave,C,2024-03-01T00:00Z,2024-04-01T00:00Z
+";
 
 /// A has a target of 500 minutes, and B none, but a fixed duty with 60 minutes of flight. P1 flies 480
 /// minutes, and P2 240. Each minute that a target is missed by costs 2.
@@ -64,11 +91,16 @@ pub fn book_of(alloc: Global, crew: &[u8], days: &[u8]) -> Result<Vec<u8>, Alloc
     Ok(book)
 }
 
-/// The problem of that book with one person.
-pub fn problem_of(alloc: Global, days: &[u8]) -> Result<Problem, Fail> {
-    let book = book_of(alloc, b"crew,A,BAS,0,0,0\n", days)?;
+/// The problem of that book.
+fn problem_with(alloc: Global, crew: &[u8], days: &[u8]) -> Result<Problem, Fail> {
+    let book = book_of(alloc, crew, days)?;
     let mut reader = Watched::new(book.as_slice());
     Ok(read_book(alloc, &mut reader, Command::Solve)?.problem)
+}
+
+/// The problem of that book with one person.
+pub fn problem_of(alloc: Global, days: &[u8]) -> Result<Problem, Fail> {
+    problem_with(alloc, ONE, days)
 }
 
 /// The set of these pairings.
@@ -85,6 +117,41 @@ fn set_of(pairings: &[usize]) -> Set {
 /// Whether the line with this number is the one of these pairings.
 fn stands(lines: &Lines, pairings: &[usize], number: usize) -> bool {
     lines.find(&set_of(pairings)) == Some(number)
+}
+
+/// Whether any number of threads makes the table that is made without them.
+fn do_threads_agree<R: Threads + Sync>(
+    rt: &R,
+    alloc: Global,
+    problem: &Problem,
+) -> Result<bool, TableFault> {
+    let table = table_of(alloc, problem)?;
+    for workers in [1, 2, 3, 8, 64] {
+        let shared = all_lines(rt, alloc, problem, workers)?;
+        if !are_same(problem, &table, &shared) {
+            return Ok(false);
+        }
+    }
+    Ok(true)
+}
+
+/// Whether two tables of the problem are the same.
+fn are_same(problem: &Problem, a: &Table, b: &Table) -> bool
+    requires a { IsTableOf problem.now a.now }
+    requires b { IsTableOf problem.now b.now }
+{
+    for k in 0..problem.persons().len() {
+        let width = a.width(k);
+        if b.width(k) != width {
+            return false;
+        }
+        for i in 0..width {
+            if a.set(k, i) != b.set(k, i) || a.cost(k, i) != b.cost(k, i) {
+                return false;
+            }
+        }
+    }
+    true
 }
 
 #[test]
@@ -191,10 +258,46 @@ fn a_table_has_the_lines_of_each_person(rt: HostRuntime) -> Result<(), Fail> {
 
 #[test]
 fn a_person_may_have_too_many_lines(rt: HostRuntime) -> Result<(), Fail> {
-    let days = [1, 3, 5, 7, 9, 11, 13, 15, 17, 19, 21, 23, 25, 27, 29, 31];
-    let problem = problem_of(rt.alloc(), &days)?;
+    let problem = problem_of(rt.alloc(), &MANY)?;
     assert!(rt; problem.persons().len() == 1);
     assert!(rt; matches!(table_of(rt.alloc(), &problem), Err(TableFault::TooMany(0))));
+    Ok(())
+}
+
+#[test]
+fn threads_make_the_same_table(rt: HostRuntime) -> Result<(), Fail> {
+    let problem = problem_with(rt.alloc(), THREE, &TWO_DAYS)?;
+    assert!(rt; problem.persons().len() == 3);
+    let table = all_lines(&rt, rt.alloc(), &problem, 2)?;
+    assert!(rt; table.width(0) == 36 && table.width(1) == 6 && table.width(2) == 6);
+    assert!(rt; do_threads_agree(&rt, rt.alloc(), &problem)?);
+    Ok(())
+}
+
+#[test]
+fn threads_find_the_same_costs(rt: HostRuntime) -> Result<(), Fail> {
+    let mut reader = Watched::new(COSTS);
+    let problem = read_book(rt.alloc(), &mut reader, Command::Solve)?.problem;
+    assert!(rt; do_threads_agree(&rt, rt.alloc(), &problem)?);
+    Ok(())
+}
+
+#[test]
+fn the_first_person_with_too_many_lines_is_told(rt: HostRuntime) -> Result<(), Fail> {
+    let problem = problem_with(rt.alloc(), FOUR, &MANY)?;
+    assert!(rt; problem.persons().len() == 4);
+    for workers in [1, 3, 64] {
+        let shared = all_lines(&rt, rt.alloc(), &problem, workers);
+        assert!(rt; matches!(shared, Err(TableFault::TooMany(1))));
+    }
+    Ok(())
+}
+
+#[test]
+fn threads_may_have_nobody_to_work_for(rt: HostRuntime) -> Result<(), Fail> {
+    let problem = problem_with(rt.alloc(), b"", &TWO_DAYS)?;
+    assert!(rt; problem.persons().is_empty());
+    assert!(rt; all_lines(&rt, rt.alloc(), &problem, 8).is_ok());
     Ok(())
 }
 

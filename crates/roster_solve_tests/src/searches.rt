@@ -1,12 +1,17 @@
-//! The walk of lines beside the plain search.
+//! The search beside the walk of lines and the plain search.
 
 use crate::lines::{book_of, problem_of};
+use crate::random::random_book;
 use roster_book::{Command, Watched, read_book};
-use roster_combine::{solve, solve_plainly};
+use roster_combine::{Open, SolveFault, solve};
+use roster_lines::table_of;
 use roster_model::limits::MOST_PAIRINGS;
-use roster_problem::Roster;
+use roster_problem::{Problem, Roster, open_number};
+use roster_reference::{solve_by_lines, solve_plainly};
 use std::alloc::Global;
+use std::sync::Wait;
 use std::test::Fail;
+use std::thread::Threads;
 
 /// Three pairings at one time for two persons. The last one is the cheapest to leave open.
 const AT_ONE_TIME: &[u8] =
@@ -31,41 +36,147 @@ fn is(roster: &Roster, places: &[u16], cost: i64) -> bool {
     roster.places.as_slice() == places && roster.cost == cost
 }
 
-/// Whether both find this roster, at this cost.
-fn find(alloc: Global, book: &[u8], places: &[u16], cost: i64) -> Result<bool, Fail> {
+/// Whether one worker finds this roster, at this cost.
+fn is_solved<R: Threads + Wait + Sync>(
+    rt: &R,
+    alloc: Global,
+    problem: &Problem,
+    places: &[u16],
+    cost: i64,
+) -> Result<bool, SolveFault> {
+    let solved = solve(rt, alloc, problem, 1, &Open)?;
+    Ok(is(&solved.roster, places, cost))
+}
+
+/// Whether the walk of lines finds this roster, at this cost.
+fn is_walked(alloc: Global, problem: &Problem, places: &[u16], cost: i64) -> Result<bool, Fail> {
+    let table = table_of(alloc, problem)?;
+    let walked = solve_by_lines(alloc, problem, &table)?;
+    Ok(is(&walked, places, cost))
+}
+
+/// Whether the plain search finds this roster, at this cost.
+fn is_plain(alloc: Global, problem: &Problem, places: &[u16], cost: i64) -> Result<bool, Fail> {
+    let plain = solve_plainly(alloc, problem)?;
+    Ok(is(&plain, places, cost))
+}
+
+/// Whether all searches find this roster, at this cost.
+fn all_find<R: Threads + Wait + Sync>(
+    rt: &R,
+    alloc: Global,
+    problem: &Problem,
+    places: &[u16],
+    cost: i64,
+) -> Result<bool, Fail> {
+    if !is_solved(rt, alloc, problem, places, cost)? {
+        return Ok(false);
+    }
+    Ok(is_walked(alloc, problem, places, cost)? && is_plain(alloc, problem, places, cost)?)
+}
+
+/// The same of the problem of a book.
+fn find<R: Threads + Wait + Sync>(
+    rt: &R,
+    alloc: Global,
+    book: &[u8],
+    places: &[u16],
+    cost: i64,
+) -> Result<bool, Fail> {
     let mut reader = Watched::new(book);
     let problem = read_book(alloc, &mut reader, Command::Solve)?.problem;
-    let walked = solve(alloc, &problem)?;
-    let plain = solve_plainly(alloc, &problem)?;
-    Ok(is(&walked, places, cost) && is(&plain, places, cost))
+    all_find(rt, alloc, &problem, places, cost)
 }
 
 #[test]
-fn both_searches_find_the_same_roster(rt: HostRuntime) -> Result<(), Fail> {
-    assert!(rt; find(rt.alloc(), AT_ONE_TIME, &[0, 1, 2], 10)?);
-    assert!(rt; find(rt.alloc(), PAID, &[1, 1], -7)?);
-    assert!(rt; find(rt.alloc(), TWO_BASES, &[0, 2, 1], 50)?);
-    assert!(rt; find(rt.alloc(), NOBODY, &[0], 100)?);
+fn all_searches_find_the_same_roster(rt: HostRuntime) -> Result<(), Fail> {
+    assert!(rt; find(&rt, rt.alloc(), AT_ONE_TIME, &[0, 1, 2], 10)?);
+    assert!(rt; find(&rt, rt.alloc(), PAID, &[1, 1], -7)?);
+    assert!(rt; find(&rt, rt.alloc(), TWO_BASES, &[0, 2, 1], 50)?);
+    assert!(rt; find(&rt, rt.alloc(), NOBODY, &[0], 100)?);
     Ok(())
 }
 
-/// Whether both searches leave as many pairings as may be open where nobody is there.
-fn leave_all_open(alloc: Global) -> Result<bool, Fail> {
+/// Whether the searches leave as many pairings as may be open where nobody is there.
+fn leave_all_open<R: Threads + Wait + Sync>(rt: &R, alloc: Global) -> Result<bool, Fail> {
     let book = book_of(alloc, b"", &[4; MOST_PAIRINGS])?;
-    find(alloc, &book, &[0; MOST_PAIRINGS], MOST_PAIRINGS as i64)
+    find(rt, alloc, &book, &[0; MOST_PAIRINGS], MOST_PAIRINGS as i64)
 }
 
 /// Whether the first of as many pairings as may be, all at one time, is flown.
-fn flies_the_first(alloc: Global) -> Result<bool, Fail> {
+fn flies_the_first<R: Threads + Wait + Sync>(rt: &R, alloc: Global) -> Result<bool, Fail> {
     let problem = problem_of(alloc, &[4; MOST_PAIRINGS])?;
     let mut places = [1; MOST_PAIRINGS];
     places[0] = 0;
-    Ok(is(&solve(alloc, &problem)?, &places, MOST_PAIRINGS as i64 - 1))
+    Ok(is_solved(rt, alloc, &problem, &places, MOST_PAIRINGS as i64 - 1)?)
 }
 
 #[test]
 fn searches_of_as_many_pairings_as_may_be(rt: HostRuntime) -> Result<(), Fail> {
-    assert!(rt; leave_all_open(rt.alloc())?);
-    assert!(rt; flies_the_first(rt.alloc())?);
+    assert!(rt; leave_all_open(&rt, rt.alloc())?);
+    assert!(rt; flies_the_first(&rt, rt.alloc())?);
+    Ok(())
+}
+
+/// The problem of a random book.
+fn random_problem(alloc: Global, seed: u64) -> Result<Problem, Fail> {
+    let book = random_book(alloc, seed)?;
+    let mut reader = Watched::new(book.as_bytes());
+    Ok(read_book(alloc, &mut reader, Command::Solve)?.problem)
+}
+
+/// Whether all searches find the same roster.
+fn all_agree<R: Threads + Wait + Sync>(
+    rt: &R,
+    alloc: Global,
+    problem: &Problem,
+) -> Result<bool, Fail> {
+    let plain = solve_plainly(alloc, problem)?;
+    let places = plain.places.as_slice();
+    if !is_solved(rt, alloc, problem, places, plain.cost)? {
+        return Ok(false);
+    }
+    is_walked(alloc, problem, places, plain.cost)
+}
+
+/// The same of the random book with this seed.
+fn agree<R: Threads + Wait + Sync>(rt: &R, alloc: Global, seed: u64) -> Result<bool, Fail> {
+    let problem = random_problem(alloc, seed)?;
+    all_agree(rt, alloc, &problem)
+}
+
+#[test]
+fn all_searches_agree_on_random_books(rt: HostRuntime) -> Result<(), Fail> {
+    for seed in 0..400 {
+        assert!(rt; agree(&rt, rt.alloc(), seed)?);
+    }
+    Ok(())
+}
+
+/// Whether the best roster flies a pairing and leaves one open.
+fn mixes<R: Threads + Wait + Sync>(
+    rt: &R,
+    alloc: Global,
+    problem: &Problem,
+) -> Result<bool, SolveFault> {
+    let nobody = open_number(problem);
+    let solved = solve(rt, alloc, problem, 1, &Open)?;
+    let places = solved.roster.places.as_slice();
+    Ok(places.iter().any(|place| *place < nobody) && places.contains(&nobody))
+}
+
+/// The same of the random book with this seed.
+fn is_mixed<R: Threads + Wait + Sync>(rt: &R, alloc: Global, seed: u64) -> Result<bool, Fail> {
+    let problem = random_problem(alloc, seed)?;
+    Ok(mixes(rt, alloc, &problem)?)
+}
+
+#[test]
+fn random_books_fly_some_pairings_and_leave_some_open(rt: HostRuntime) -> Result<(), Fail> {
+    let mut mixed: u32 = 0;
+    for seed in 0..400 {
+        mixed = mixed.wrapping_add(u32::from(is_mixed(&rt, rt.alloc(), seed)?));
+    }
+    assert!(rt; mixed >= 100);
     Ok(())
 }

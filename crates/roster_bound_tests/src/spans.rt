@@ -1,0 +1,199 @@
+//! Searches of spans under sights that show wrong rosters.
+
+ghost use Rattle.std.specs.Prelude.{◌≡◌, IfOk};
+ghost use Rattle.std.specs.Arc.{arc_value};
+ghost use Rattle.roster_lines.specs.Person.{IsTableOf};
+ghost use Rattle.roster_model.specs.Settled.{IsHeld};
+ghost use Rattle.roster_bounds.specs.Chosen.{priced_table};
+
+use crate::books::{ONE_OF_TWO, problem_of};
+use roster_bounds::{Tables, choose_tables};
+use roster_branchtree::{Done, Path, Piece, Sight, Span, all_left, check, search};
+use roster_lines::{Table, table_of};
+use roster_problem::{Places, Problem, Roster};
+use std::alloc::{AllocError, Global};
+use std::sync::Arc;
+use std::test::Fail;
+
+/// Shows the same roster of two pairings each time.
+#[derive(Drop)]
+struct Shows {
+    alloc: Global,
+    places: [u16; 2],
+    cost: i64,
+}
+
+impl Sight for Shows {
+    fn look(&mut self) -> Option<Arc<Roster>> {
+        let shown = roster(self.alloc, self.places, self.cost).ok()?;
+        Arc::new(self.alloc, shown).ok()
+    }
+}
+
+/// A roster of two pairings, right or wrong.
+pub(crate) fn roster(alloc: Global, places: [u16; 2], cost: i64) -> Result<Roster, AllocError> {
+    Ok(Roster {
+        places: Places::new(places.to_vec(alloc)?),
+        cost,
+    })
+}
+
+/// The roster that leaves all open, which `check` takes.
+fn all_open(alloc: Global, problem: &Problem, table: &Table) -> Result<Arc<Roster>, Fail>
+    requires { IsTableOf problem.now table.now }
+    ensures { IfOk result (λ known. IsHeld problem.now (arc_value known)) }
+{
+    let known = Arc::new(alloc, all_left(alloc, problem)?)?;
+    if check(problem, table, &known)? {
+        return Ok(known);
+    }
+    Err("leaving all open is legal")?
+}
+
+/// What the search of this span answers.
+fn searched(
+    alloc: Global,
+    problem: &Problem,
+    table: &Table,
+    tables: &Tables<'_>,
+    span: Span,
+    sight: &mut Shows,
+    every: usize,
+    known: &Arc<Roster>,
+) -> Result<Arc<Roster>, AllocError>
+    requires table { IsTableOf problem.now table.now }
+    requires tables { tables.now ≡ priced_table problem.now table.now tables.now.prices }
+    requires known { IsHeld problem.now (arc_value known.now) }
+{
+    let piece = Piece::of(span);
+    match search(alloc, problem, table, tables, piece, sight, every, known) {
+        Ok(Done { piece, best }) => {
+            piece.forgo();
+            Ok(best)
+        }
+        Err((piece, refused)) => {
+            piece.forgo();
+            Err(refused)
+        }
+    }
+}
+
+/// The search over this table.
+fn over(
+    alloc: Global,
+    problem: &Problem,
+    table: &Table,
+    span: Span,
+    sight: &mut Shows,
+    every: usize,
+) -> Result<Arc<Roster>, Fail>
+    requires { IsTableOf problem.now table.now }
+{
+    let tables = choose_tables(alloc, problem, table)?;
+    let known = all_open(alloc, problem, table)?;
+    Ok(searched(alloc, problem, table, &tables, span, sight, every, &known)?)
+}
+
+/// What the search of this span answers with so many nodes from look to look, where a roster is shown
+/// with these places and this cost. It knows the roster that leaves all open.
+fn found(
+    alloc: Global,
+    path: &[usize],
+    lo: usize,
+    hi: usize,
+    every: usize,
+    places: [u16; 2],
+    cost: i64,
+) -> Result<Arc<Roster>, Fail> {
+    let span = Span {
+        path: Path::new(path.to_vec(alloc)?),
+        lo,
+        hi,
+    };
+    let mut sight = Shows {
+        alloc,
+        places,
+        cost,
+    };
+    let problem = problem_of(alloc, ONE_OF_TWO)?;
+    let table = table_of(alloc, &problem)?;
+    over(alloc, &problem, &table, span, &mut sight, every)
+}
+
+/// Whether the roster has these places and this cost.
+pub(crate) fn is(roster: &Arc<Roster>, places: &[u16], cost: i64) -> bool {
+    roster.places.as_slice() == places && roster.cost == cost
+}
+
+#[test]
+fn an_illegal_roster_is_shown(rt: HostRuntime) -> Result<(), Fail> {
+    assert!(rt; is(&found(rt.alloc(), &[], 0, 3, 1, [0, 0], 0)?, &[0, 1], 100));
+    Ok(())
+}
+
+#[test]
+fn a_roster_of_a_wrong_cost_is_shown(rt: HostRuntime) -> Result<(), Fail> {
+    assert!(rt; is(&found(rt.alloc(), &[], 0, 3, 1, [1, 0], 0)?, &[0, 1], 100));
+    Ok(())
+}
+
+#[test]
+fn a_good_roster_is_shown(rt: HostRuntime) -> Result<(), Fail> {
+    assert!(rt; is(&found(rt.alloc(), &[], 0, 1, 1, [0, 1], 100)?, &[0, 1], 100));
+    assert!(rt; is(&found(rt.alloc(), &[], 0, 1, 0, [0, 1], 100)?, &[1, 1], 200));
+    Ok(())
+}
+
+#[test]
+fn spans_without_rosters(rt: HostRuntime) -> Result<(), Fail> {
+    assert!(rt;
+        is(
+            &found(rt.alloc(), &[99], 5, 2, 0, [0, 1], 100)?,
+            &[1, 1],
+            200
+        )
+    );
+    assert!(rt; is(&found(rt.alloc(), &[], 5, 2, 0, [0, 1], 100)?, &[1, 1], 200));
+    Ok(())
+}
+
+/// Whether `check` takes this roster.
+fn is_taken(alloc: Global, roster: &Roster) -> Result<bool, Fail> {
+    let problem = problem_of(alloc, ONE_OF_TWO)?;
+    let table = table_of(alloc, &problem)?;
+    Ok(check(&problem, &table, roster)?)
+}
+
+/// Whether `check` takes these places at this cost.
+fn are_taken(alloc: Global, places: [u16; 2], cost: i64) -> Result<bool, Fail> {
+    is_taken(alloc, &roster(alloc, places, cost)?)
+}
+
+#[test]
+fn rosters_checked(rt: HostRuntime) -> Result<(), Fail> {
+    assert!(rt; !are_taken(rt.alloc(), [0, 0], 0)?);
+    assert!(rt; !are_taken(rt.alloc(), [1, 0], 0)?);
+    assert!(rt; are_taken(rt.alloc(), [1, 0], 100)?);
+    assert!(rt; !are_taken(rt.alloc(), [2, 0], 100)?);
+    let short = Roster {
+        places: Places::new(Vec::new(rt.alloc())),
+        cost: i64::MIN,
+    };
+    assert!(rt; !is_taken(rt.alloc(), &short)?);
+    Ok(())
+}
+
+#[test]
+fn a_piece_has_its_span(rt: HostRuntime) -> Result<(), Fail> {
+    let piece = Piece::of(Span {
+        path: Path::new([7, 8].to_vec(rt.alloc())?),
+        lo: 3,
+        hi: 2,
+    });
+    let kept = piece.span().path.as_slice() == [7, 8].as_slice() && piece.span().lo == 3;
+    piece.forgo();
+    assert!(rt; kept);
+    let path = Path::new([7].to_vec(rt.alloc())?).into_vec();
+    assert!(rt; path.as_slice() == [7].as_slice());
+    Ok(())
+}

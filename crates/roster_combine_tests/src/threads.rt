@@ -1,0 +1,48 @@
+//! Searches by several threads.
+
+ghost use Rattle.std.specs.Prelude.{◌<◌};
+
+use crate::books::{BEST, NOBODY, ONE_PERSON, TWO_DAYS, is, problem_of};
+use roster_combine::{Gate, Open, Solved, solve};
+use std::alloc::Global;
+use std::sync::Wait;
+use std::test::Fail;
+use std::thread::Threads;
+
+/// What so many workers find in a book.
+pub fn solved<R: Threads + Wait + Sync, G: Gate + Sync>(
+    rt: &R,
+    alloc: Global,
+    book: &[u8],
+    workers: usize,
+    gate: &G,
+) -> Result<Solved, Fail>
+    requires { 0 < workers }
+{
+    let problem = problem_of(alloc, book)?;
+    Ok(solve(rt, alloc, &problem, workers, gate)?)
+}
+
+#[test]
+fn any_number_of_workers_finds_the_best_roster(rt: HostRuntime) -> Result<(), Fail> {
+    for workers in [1, 2, 3, 8, 64] {
+        let solved = solved(&rt, rt.alloc(), TWO_DAYS, workers, &Open)?;
+        assert!(rt; is(&solved, BEST, 0), "{workers} workers");
+    }
+    Ok(())
+}
+
+#[test]
+fn more_workers_than_lines_find_it(rt: HostRuntime) -> Result<(), Fail> {
+    for workers in [1, 2, 5, 64] {
+        let solved = solved(&rt, rt.alloc(), ONE_PERSON, workers, &Open)?;
+        assert!(rt; is(&solved, &[0, 0], 0), "{workers} workers");
+    }
+    Ok(())
+}
+
+#[test]
+fn several_workers_for_nobody(rt: HostRuntime) -> Result<(), Fail> {
+    assert!(rt; is(&solved(&rt, rt.alloc(), NOBODY, 2, &Open)?, &[], 0));
+    Ok(())
+}

@@ -1,0 +1,116 @@
+//! Books that are put together at random, from a seed: few persons, few pairings, and many ties.
+
+ghost use Rattle.std.specs.Prelude.{◌<◌};
+
+use std::alloc::{AllocError, Global};
+
+/// Numbers that look random, by a linear congruential generator.
+#[derive(Drop)]
+struct Numbers {
+    state: u64,
+}
+
+impl Numbers {
+    /// The next number, below the limit.
+    fn below(&mut self, limit: u32) -> u32
+        requires { 0 < limit }
+        ensures { result < limit }
+    {
+        self.state = self
+            .state
+            .wrapping_mul(6_364_136_223_846_793_005)
+            .wrapping_add(1_442_695_040_888_963_407);
+        (self.state >> 33) as u32 % limit
+    }
+
+    /// One of four numbers.
+    fn one_of(&mut self, choices: [i32; 4]) -> i32 {
+        choices[self.below(4) as usize]
+    }
+
+    /// The name of one of the two bases, mostly the first.
+    fn base(&mut self) -> &'static str {
+        if self.below(3) == 0 { "GVA" } else { "BAS" }
+    }
+}
+
+/// A person, who may be locked by what was flown in the year, may have leave on 4 March, and may have a
+/// fixed duty on 6 March.
+fn push_person(
+    alloc: Global,
+    book: &mut String,
+    numbers: &mut Numbers,
+    k: u32,
+) -> Result<(), AllocError> {
+    let base = numbers.base();
+    let target = numbers.one_of([0, 240, 480, 600]);
+    let year = numbers.one_of([0, 53_000, 53_500, 54_001]);
+    book.push_str(&format!(in alloc; "crew,C{k},{base},{target},{year},0\n")?)?;
+    if numbers.below(4) == 0 {
+        book.push_str(&format!(in alloc; "leave,C{k},2024-03-04T00:00Z,2024-03-05T00:00Z\n")?)?;
+    }
+    if numbers.below(4) == 0 {
+        book.push_str(&format!(in alloc;
+            "duty,F{k},C,C{k},{base},2024-03-06T08:00Z,2024-03-06T16:00Z\n"
+        )?)?;
+    }
+    Ok(())
+}
+
+/// A duty of four or eight hours, which may have a sector as long.
+fn push_duty(
+    alloc: Global,
+    book: &mut String,
+    numbers: &mut Numbers,
+    p: u32,
+    station: &str,
+) -> Result<(), AllocError> {
+    let day = numbers.below(4) + 4;
+    let report = numbers.below(2) + 4 * numbers.below(2) + 6;
+    let release = report + 4 * numbers.below(2) + 4;
+    let from = format!(in alloc; "2024-03-0{day}T{report:02}:00Z")?;
+    let to = format!(in alloc; "2024-03-0{day}T{release:02}:00Z")?;
+    book.push_str(&format!(in alloc; "duty,D{p},P,P{p},{station},{from},{to}\n")?)?;
+    if numbers.below(2) == 0 {
+        book.push_str(&format!(in alloc; "sector,D{p},O,{from},{to}\n")?)?;
+    }
+    Ok(())
+}
+
+/// A pairing of one duty, and what it costs with some of the persons.
+fn push_pairing(
+    alloc: Global,
+    book: &mut String,
+    numbers: &mut Numbers,
+    p: u32,
+    persons: u32,
+) -> Result<(), AllocError> {
+    let base = numbers.base();
+    let penalty = numbers.one_of([0, 1, 1, 100]);
+    book.push_str(&format!(in alloc; "pairing,P{p},{base},{penalty}\n")?)?;
+    push_duty(alloc, book, numbers, p, base)?;
+    for k in 0..persons {
+        if numbers.below(3) == 0 {
+            let units = numbers.one_of([-7, 0, 1, 2]);
+            book.push_str(&format!(in alloc; "cost,C{k},P{p},{units}\n")?)?;
+        }
+    }
+    Ok(())
+}
+
+/// A book without a fault, of one to three persons and one to five pairings.
+pub fn random_book(alloc: Global, seed: u64) -> Result<String, AllocError> {
+    let mut numbers = Numbers { state: seed };
+    let mut book = String::from_str(alloc, "period,2024-03\nbase,BAS,UTC0\nbase,GVA,UTC0\n")?;
+    let weight = numbers.one_of([0, 0, 1, 3]);
+    book.push_str(&format!(in alloc; "weight,{weight}\n")?)?;
+    let persons = numbers.below(3) + 1;
+    let pairings = numbers.below(5) + 1;
+    for k in 0..persons {
+        push_person(alloc, &mut book, &mut numbers, k)?;
+    }
+    for p in 0..pairings {
+        push_pairing(alloc, &mut book, &mut numbers, p, persons)?;
+    }
+    Ok(book)
+}
