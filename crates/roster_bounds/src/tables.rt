@@ -1,7 +1,9 @@
 //! Prices over the lines of all persons.
 
-ghost use Rattle.std.specs.Prelude.{◌≡◌, ◌<◌, ◌≤ℤ◌, IfErr, IfOk, length, pos};
+ghost use Rattle.std.specs.Prelude.{◌≡◌, ◌<◌, ◌≤ℤ◌, IfErr, IfOk, IsTrue, length, pos};
+ghost use Rattle.std.specs.Arc.{arc_value};
 ghost use Rattle.roster_model.specs.Lines.{IsLine};
+ghost use Rattle.roster_model.specs.Settled.{Anywhere, IsNotAfter};
 ghost use Rattle.roster_lines.specs.Person.{lines_at, IsTableOf};
 ghost use Rattle.roster_cost.specs.Amounts.{IsWithin};
 ghost use Rattle.roster_bounds.specs.declared.prices.TheConstants.{MOST_PRICE};
@@ -10,13 +12,15 @@ ghost use Rattle.roster_bounds.specs.Chosen.{line_set, priced_table, reduced_at,
 
 use crate::prices::Prices;
 use crate::reduced::{least_reduced, reduced};
+use roster_cost::comes_before;
 use roster_lines::Table;
-use roster_problem::{Problem, Set};
+use roster_problem::{Problem, Roster, Set};
 use std::alloc::{AllocError, Global};
 use std::marker::Model;
+use std::sync::Arc;
 
 /// A problem, the table of its lines, and a price for each pairing, with what bounds need of each
-/// person.
+/// person. It may know the best roster, so that a search needn't look for one that comes before it.
 #[derive(Debug, Drop)]
 pub struct Tables<'a> {
     problem: &'a Problem,
@@ -24,17 +28,23 @@ pub struct Tables<'a> {
     prices: Prices,
     // Of each person a number that no reduced cost of a line is below.
     bounds: Vec<i128>,
+    // A roster that is after no legal one.
+    best: Option<Arc<Roster>>,
 }
 
 impl<'a> Model for Tables<'a> {
     ghost use Rattle.roster_bounds.specs.Chosen.{PricedTable, priced_table};
     ghost use Rattle.roster_bounds.specs.Chosen.{IsBuilt};
+    ghost use Rattle.std.specs.Prelude.{IfSome};
+    ghost use Rattle.std.specs.Arc.{arc_value};
+    ghost use Rattle.roster_model.specs.Settled.{Anywhere, IsNotAfter};
 
     ghost Value = { PricedTable };
 
     ghost view = { λ t. priced_table t.problem.now t.table.now t.prices };
 
-    ghost invariant = { λ t. IsBuilt t.problem.now t.table.now t.prices t.bounds.items };
+    ghost invariant = { λ t. IsBuilt t.problem.now t.table.now t.prices t.bounds.items
+        × IfSome t.best (λ best. IsNotAfter t.problem.now Anywhere (arc_value best)) };
 }
 
 impl<'a> Tables<'a> {
@@ -58,8 +68,30 @@ impl<'a> Tables<'a> {
                 table,
                 prices,
                 bounds,
+                best: None,
             }),
             Err(refused) => Err((prices, refused)),
+        }
+    }
+
+    /// The same tables, which know a roster that is after no legal one.
+    pub fn knowing(self, best: Arc<Roster>) -> Tables<'a>
+        requires { IsNotAfter self.problem Anywhere (arc_value best) }
+        ensures { result ≡ self.entry }
+    {
+        Tables {
+            best: Some(best),
+            ..self
+        }
+    }
+
+    /// Whether it is known that no legal roster comes before this one. It takes no memory.
+    pub fn none_before(&self, roster: &Roster) -> bool
+        ensures { IsTrue result → IsNotAfter self.now.problem Anywhere roster.now }
+    {
+        match &self.best {
+            Some(best) => !comes_before(best, roster),
+            None => false,
         }
     }
 

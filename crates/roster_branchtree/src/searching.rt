@@ -101,8 +101,8 @@ fn best_of<S: Sight>(
     Ok(best)
 }
 
-/// Whether the span's own node shows that no legal roster of the span comes before the given one; else the
-/// path is that of a node.
+/// Whether no legal roster of the span comes before the given one, as the tables know or the span's own node
+/// shows; else the path is that of a node.
 fn is_settled(
     alloc: Global,
     tables: &Tables<'_>,
@@ -116,6 +116,9 @@ fn is_settled(
         ((length span.now.path < length tables.now.problem.persons)
         × AreLineNumbers tables.now.table span.now.path)) }
 {
+    if tables.none_before(best) {
+        return Ok(true);
+    }
     let path = span.path.as_slice();
     if path.len() >= tables.problem().persons().len() {
         return Ok(true);

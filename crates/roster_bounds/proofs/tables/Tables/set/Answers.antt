@@ -13,4 +13,4 @@ returns-clause-line c =
     let line = subst (λ (t : PricedTable). c.args.i < length (lines_at t.table c.args.k)) (sym c.self.view_is) c.requires.line in
     subst (λ (t : PricedTable). IsLine t.problem c.args.k c.set.result) c.self.view_is
     (subst (IsLine problem c.args.k) (line_set-at table c.args.k c.args.i c.set.result c.set.ensures)
-    (line_is problem table c.args.k c.args.i c.self.invariant.priced.lines person line))
+    (line_is problem table c.args.k c.args.i c.self.invariant.0.priced.lines person line))
