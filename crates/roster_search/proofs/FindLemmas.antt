@@ -1,5 +1,5 @@
 -- What is found in parts of a region.
-use Rattle.std.proofs.Common.{◌≡◌, Bool, true, false, MatchBool, Result, Ok, Err, IfOk, OnOk, ℕ, ◌+◌, ◌<◌, List, Option, Some, None, ℤ, ◌≤ℤ◌, ◌<ℤ◌, ap, sym, ◌∙◌, ◌⊎◌, inl, inr, arith}
+use Rattle.std.proofs.Common.{◌≡◌, Bool, true, false, MatchBool, Result, Ok, Err, IfOk, OnOk, ℕ, ◌+◌, List, Option, Some, None, ℤ, ◌≤ℤ◌, ◌<ℤ◌, ap, sym, ◌∙◌, ◌⊎◌, inl, inr, arith}
 use borrow.Author.Differences.{up, down}
 use Rattle.std.proofs.lemmas.Bool.{cases_lt}
 use Rattle.std.proofs.lemmas.Bool.Decides.{eqb_tells}

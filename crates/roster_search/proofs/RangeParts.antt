@@ -9,13 +9,16 @@ use Rattle.roster_model.specs.Lines.{AreLines, IsLine}
 use Rattle.roster_model.specs.Places.{places_le, set_of}
 use Rattle.roster_model.specs.Problem.{Problem}
 use Rattle.roster_model.specs.Rosters.{IsLegalRoster, Key}
+use Rattle.roster_model.specs.Settled.{Anywhere, Settles}
+use Rattle.roster_model.proofs.SettledLemmas.{Settles-wider, Settles-within}
 use Rattle.roster_model.proofs.SetLemmas.{rising_from_Ascends}
 use Rattle.roster_lines.specs.Entries.{Entry, sets_of}
 use Rattle.roster_lines.specs.Person.{lines_at, IsTableOf}
 use Rattle.roster_regions.specs.Regions.{IsInRanges}
 use Rattle.roster_search.specs.Least.{IsLeastBelow}
-use Rattle.roster_search.specs.Parts.{base_of_person, AreOwnRanges, IsInPart, IsNumbered}
+use Rattle.roster_search.specs.Parts.{base_of_person, AreOwnRanges, AreWhole, IsInPart, IsNumbered}
 use Rattle.roster_search.proofs.Bases.{found_at}
+use Rattle.roster_search.proofs.Limits.{given_line}
 
 -- ---- the first line
 
@@ -105,3 +108,22 @@ least_in_other problem Region Other limit (Some key) there back least = (
   },
   least.1,
 )
+
+-- ---- all lines
+
+-- each legal roster has lines in the ranges of all lines
+pub in_whole : (problem : Problem) (table : List (List Entry)) (ranges : List (ℕ × ℕ)) (places : List ℕ) → IsTableOf problem table → AreWhole table (length table) ranges → IsLegalRoster problem places → IsInRanges table ranges places
+in_whole problem table ranges places is are legal k range at =
+    let inside : k < length table = omega (arith, slice_get_within ranges k range at, are.covers) in
+    let lines = lines_in_table problem table k is (omega (arith, inside, is.sets.covers, length-map table sets_of)) in
+    let found = lines.every (set_of k places) (given_line problem k places legal (omega (arith, inside, is.sets.covers, length-map table sets_of))) in
+    let whole : range ≡ (0, length (lines_at table k)) = same_Some _ _ (sym at ∙ are.each k inside) in
+    let below : found.0 < length (lines_at table k) = omega (arith, slice_get_within (sets_of (lines_at table k)) found.0 (set_of k places) found.1, length-map (lines_at table k) (λ entry. entry.set)) in
+    subst (λ (r : ℕ × ℕ). IsNumbered table k r (set_of k places)) (sym whole) (found.0, omega arith, below, found.1)
+
+-- so what settles those settles all
+pub settles_all : (problem : Problem) (table : List (List Entry)) (ranges : List (ℕ × ℕ)) (known : Option Key) (new : Key) → IsTableOf problem table → AreWhole table (length table) ranges → Settles problem (IsInRanges table ranges) (IsInRanges table ranges) known new → Settles problem Anywhere Anywhere known new
+settles_all problem table ranges known new is are settled =
+    Settles-wider problem Anywhere (IsInRanges table ranges) Anywhere known new
+    (Settles-within problem (IsInRanges table ranges) Anywhere (IsInRanges table ranges) known new settled (λ others legal _. in_whole problem table ranges others is are legal))
+    (λ places legal inside. tt)

@@ -1,11 +1,12 @@
 -- Parts of a problem: the persons and the pairings of some bases. No line has another base's pairing, so
 -- parts share neither persons nor pairings.
-use Rattle.std.specs.Prelude.{◌≡◌, ℕ, ◌+◌, ◌<◌, ◌≤◌, Bool, true, false, ◌==◌, if◌then◌else◌, List, [], ◌∷◌, Some, length, option_map, slice_get, unwrap_or}
+use Rattle.std.specs.Prelude.{◌≡◌, ℕ, ◌+◌, ◌-◌, ◌^◌, ◌<◌, ◌≤◌, All, Bool, true, false, ◌==◌, if◌then◌else◌, List, [], ◌∷◌, Option, Some, length, option_map, pos, slice_get, unwrap_or}
 use Rattle.roster_model.specs.Places.{set_of}
 use Rattle.roster_model.specs.Problem.{Problem}
-use Rattle.roster_model.specs.Rosters.{IsLegalRoster}
+use Rattle.roster_model.specs.Rosters.{IsLegalRoster, Key}
 use Rattle.roster_lines.specs.Entries.{Entry, sets_of}
 use Rattle.roster_lines.specs.Person.{lines_at}
+use Rattle.roster_search.specs.Least.{IsLeastBelow}
 
 -- the base of the person at place k, and that of the pairing at place p
 abbrev pub base_of_person : Problem → ℕ → ℕ
@@ -43,3 +44,16 @@ pub record AreOwnRanges (problem : Problem) (base : ℕ) (ranges own : List (ℕ
   pub covers : length own ≡ length ranges
   pub each : (k : ℕ) (range : ℕ × ℕ) → slice_get ranges k ≡ Some range
       → slice_get own k ≡ Some (if base_of_person problem k == base then range else (0, 1))
+
+-- a base, and the least roster in which only its persons fly, if there is one
+abbrev pub IsBasePart : Problem → List (List Entry) → List (ℕ × ℕ) → ℕ × Option Key → Type 0
+IsBasePart problem table ranges found =
+    IsLeastBelow problem (IsInPart problem table ranges (λ b. b == found.0)) (pos (2 ^ 63 - 1)) found.1
+
+abbrev pub AreBaseParts : Problem → List (List Entry) → List (ℕ × ℕ) → List (ℕ × Option Key) → Type 0
+AreBaseParts problem table ranges parts = All (IsBasePart problem table ranges) parts
+
+-- for each of so many persons the range of all lines
+pub record AreWhole (table : List (List Entry)) (count : ℕ) (ranges : List (ℕ × ℕ)) : Type 0 where
+  pub covers : length ranges ≡ count
+  pub each : (k : ℕ) → k < count → slice_get ranges k ≡ Some (0, length (lines_at table k))

@@ -1,11 +1,13 @@
 //! The least roster of a box of lines.
 //!
-//! `least_of_box` answers the least legal roster of a box if it is before a known one. It asks one thing
+//! `least_of_box` answers the least legal roster of a box if it is before a known one, and `least_of_all`
+//! that of all lines, by several threads. They ask one thing
 //! again and again: whether a region has a roster that costs at most so much (`find`). Least cost and
 //! ties are loops round that, so nothing that prunes knows of ties. Bases share neither persons nor
 //! pairings, so each is searched apart. In reading order:
 //!
 //! - `boxes`: the least roster of a box, merged from those of its bases
+//! - `shared`: bases that several threads search
 //! - `parts`: the rosters of one base
 //! - `least`: the least roster of a region
 //! - `root`: prices to begin with
@@ -25,6 +27,7 @@ mod nodes;
 mod parts;
 mod refining;
 mod root;
+mod shared;
 
-pub use boxes::least_of_box;
+pub use boxes::{least_of_all, least_of_box};
 pub use nodes::Nodes;

@@ -16,3 +16,19 @@ pub trait Nodes {
 
     ghost follows: { (old mid new : Self) → goes_on old mid → goes_on mid new → goes_on old new };
 }
+
+/// Nodes that nobody counts.
+#[derive(Drop)]
+pub(crate) struct Unseen;
+
+impl Nodes for Unseen {
+    ghost goes_on = { λ old new. Unit };
+
+    fn node(&mut self) -> Result<(), AllocError> {
+        Ok(())
+    }
+
+    ghost stays = { λ now. tt };
+
+    ghost follows = { λ old mid new first then. tt };
+}

@@ -6,7 +6,7 @@ use Rattle.roster_regions.specs.Regions.{IsInRanges}
 use Rattle.roster_search.specs.Least.{IsLeastBelow}
 use Rattle.roster_search.specs.Parts.{merge, IsInPart}
 use Rattle.roster_search.proofs.BoxLemmas.{least_of_all, least_of_next, least_of_none, settled_by_earlier, settled_by_none}
-use Rattle.roster_search.proofs.boxes.least_of_box.Goals as goal
+use Rattle.roster_search.proofs.boxes.least_with.Goals as goal
 
 pub loop-base-init : goal.loop-base-init
 loop-base-init g c =
@@ -42,7 +42,7 @@ loop-base-preserved g c =
     seen ∙ ap (merge problem (λ b. eqb b base) c.in-Some.part.places) c.deref.ensures.value in
     record {
       least = least_of_next c.shares_add_up.ensures problem table ranges base c.in-Some.part old new covers part.0 c.loop-base.invariant.least same;
-      goes_on = g.met.N.Nodes.follows _ _ _ c.loop-base.invariant.goes_on c.least_of_base.ensures.goes_on;
+      goes_on = g.met.N.Nodes.follows _ _ _ c.loop-base.invariant.goes_on c.least_at.ensures.goes_on;
     }
 
 pub returns-clause-settled : goal.returns-clause-settled

@@ -2,7 +2,7 @@ use Rattle.std.proofs.Common.{ltb}
 use Rattle.roster_model.specs.Rosters.{key_of}
 use Rattle.roster_search.specs.Least.{IsLeast}
 use Rattle.roster_search.specs.Parts.{IsInPart}
-use Rattle.roster_search.proofs.boxes.least_of_box.Given as goal
+use Rattle.roster_search.proofs.boxes.least_with.Given as goal
 
 -- the bases so far are merged
 abbrev pub invariant-loop-base : goal.invariant-loop-base

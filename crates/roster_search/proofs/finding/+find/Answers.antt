@@ -1,7 +1,7 @@
-use Rattle.std.proofs.Common.{◌≡◌, w64, ℤ, List, ℕ, Option, Some, None, IfOk, to_z, of_z, subst}
+use Rattle.std.proofs.Common.{w64, ℤ, Option, IfOk, to_z, of_z, subst}
 use Rattle.std.proofs.lemmas.Int.{to_z-of_z}
 use Rattle.roster_model.specs.Rosters.{Key}
-use Rattle.roster_model.specs.Settled.{CostsMore, IsFoundWithin, IsWithinCost}
+use Rattle.roster_model.specs.Settled.{IsFoundWithin, IsWithinCost}
 use Rattle.roster_regions.specs.Regions.{Has, IsIn, IsNarrowed}
 use Rattle.roster_search.proofs.FindLemmas.{found_in_part, found_in_rest, if_ok, within_part}
 use Rattle.roster_regions.specs.Bounds.{CostsAtMost}

@@ -1,4 +1,4 @@
-use Rattle.std.proofs.Common.{rules, ◌≡◌, w64, ℤ, ◌≤ℤ◌, FitsSigned, to_z, of_z, subst, ap, ◌∙◌}
+use Rattle.std.proofs.Common.{rules, ◌≡◌, w64, ◌≤ℤ◌, FitsSigned, to_z, of_z, subst, ap, ◌∙◌}
 use Rattle.std.proofs.lemmas.Int.{to_z-of_z}
 use Rattle.roster_model.specs.Rosters.{Key}
 use Rattle.roster_regions.specs.Bounds.{CostsAtMost}

@@ -1,5 +1,5 @@
-use Rattle.std.proofs.Common.{rules, ◌≡◌, ◌≤ℤ◌, w64, List, ℕ, FitsSigned, to_z, of_z, subst, ap, ◌∙◌, arith}
-use Rattle.std.proofs.lemmas.Int.{ints, to_z-of_z}
+use Rattle.std.proofs.Common.{rules, w64, FitsSigned, subst, ap, ◌∙◌}
+use Rattle.std.proofs.lemmas.Int.{to_z-of_z}
 use Rattle.roster_model.specs.Costs.{cost_of}
 use Rattle.roster_regions.specs.Regions.{IsIn}
 use Rattle.roster_search.proofs.refining.cheap.Goals as goal
