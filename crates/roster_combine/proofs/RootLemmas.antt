@@ -1,12 +1,12 @@
 -- The root holds all legal rosters, and where nobody is there only one is legal.
-use Rattle.std.proofs.Common.{◌≡◌, ℕ, zero, suc, ◌+◌, ◌<◌, ◌≤◌, List, [], ◌∷◌, length, map, replicate, get_or, Some, refl, sym, ap, ap₂, ◌∙◌, subst, arith}
-use Rattle.std.specs.Prelude.{All, true, slice_get}
+use Rattle.std.proofs.Common.{◌≡◌, ℕ, suc, ◌<◌, ◌≤◌, List, [], ◌∷◌, length, map, replicate, get_or, refl, sym, ap₂, ◌∙◌, subst, arith}
+use Rattle.std.specs.Prelude.{All, true}
 use Rattle.std.proofs.lemmas.List.{length-map}
 use Rattle.std.proofs.lemmas.Option.{none-some, slice_get_within, slice_get-get_or}
 use Rattle.roster_model.specs.Problem.{Problem}
 use Rattle.roster_model.specs.Places.{set_of}
 use Rattle.roster_model.specs.Rosters.{IsLegalRoster, key_of, key_le}
-use Rattle.roster_model.specs.Settled.{Anywhere, IsBest}
+use Rattle.roster_model.specs.Settled.{IsBest}
 use Rattle.roster_model.proofs.KeyLemmas.{key_le-refl}
 use Rattle.roster_model.proofs.RosterLemmas.{all_open_legal}
 use Rattle.roster_lines.specs.Entries.{Entry, sets_of}

@@ -16,12 +16,13 @@ use crate::working::work;
 use roster_bounds::{Tables, choose_tables};
 use roster_incumbent::Incumbent;
 use roster_lines::Table;
-use roster_problem::Problem;
+use roster_problem::{Problem, Roster};
+use roster_search::least_of_all;
 use roster_subtreepool::{Pool, PoolState, Settled, Share};
 use std::alloc::{AllocError, Global};
 use std::marker::Brand;
-use std::sync::Wait;
 use std::sync::ledger::{Blank, Ledger};
+use std::sync::{Arc, Wait};
 use std::thread::{Threads, map_vec};
 
 /// The best roster, found by so many workers.
@@ -44,20 +45,40 @@ pub(crate) fn solve_over<R: Threads + Wait + Sync, G: Gate + Sync>(
             fallbacks: 0,
         });
     }
-    let tables = choose_tables(alloc, problem, table)?;
+    let best = best_by_threads(rt, alloc, problem, table, workers)?;
+    let tables = choose_tables(alloc, problem, table)?.knowing(Arc::try_clone(&best)?);
     solve_from::<Brand, R, G>(
         rt,
         alloc,
         problem,
         table,
         &tables,
+        best,
         workers,
         gate,
         Blank::new(workers as u64),
     )
 }
 
-/// `solve_over`, over a new pool. The calling thread is worker 0. Where a thread can't be started its
+/// The best roster, for which so many threads search a base each.
+fn best_by_threads<R: Threads + Sync>(
+    rt: &R,
+    alloc: Global,
+    problem: &Problem,
+    table: &Table,
+    threads: usize,
+) -> Result<Arc<Roster>, AllocError>
+    requires { IsTableOf problem.now table.now }
+    ensures { IfOk result (λ best. IsBestKey problem.now (arc_value best)) }
+{
+    let known = first_known(alloc, problem)?;
+    match least_of_all(rt, alloc, problem, table, &known, threads)? {
+        Some(best) => Ok(Arc::new(alloc, best)?),
+        None => Ok(known),
+    }
+}
+
+/// `solve_over`, over a new pool; the incumbent begins with the given roster. The calling thread is worker 0. Where a thread can't be started its
 /// worker comes last, when nothing is left to do.
 fn solve_from<L: Ledger + Send + Sync, R: Threads + Wait + Sync, G: Gate + Sync>(
     rt: &R,
@@ -65,6 +86,7 @@ fn solve_from<L: Ledger + Send + Sync, R: Threads + Wait + Sync, G: Gate + Sync>
     problem: &Problem,
     table: &Table,
     tables: &Tables<'_>,
+    best: Arc<Roster>,
     workers: usize,
     gate: &G,
     blank: Blank,
@@ -79,13 +101,12 @@ fn solve_from<L: Ledger + Send + Sync, R: Threads + Wait + Sync, G: Gate + Sync>
     ensures { IfOk result (λ solved. IsBestKey problem.now (arc_value solved.roster)) }
 {
     let widths = widths_of(alloc, problem, table)?;
-    let known = first_known(alloc, problem)?;
     let (state, shares) = match PoolState::<L>::start(alloc, &widths, workers, blank) {
         Ok(started) => started,
         Err((_, refused)) => return Err(refused),
     };
     let pool = Pool::new(state);
-    let incumbent = Incumbent::new(known);
+    let incumbent = Incumbent::new(best);
     let jobs = jobs_of(alloc, shares)?;
     let parts = work_all(
         rt, alloc, problem, table, tables, &pool, &incumbent, jobs, gate,

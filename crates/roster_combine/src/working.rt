@@ -23,7 +23,7 @@ use std::sync::{Arc, Wait};
 /// Takes spans from the pool and searches them, until the pool is at rest or was stopped. What it answers
 /// are the spans that it finished, with the roster by which each is settled, in order.
 ///
-/// Before its first search it splits its span while nothing is pending for other workers. It looks at the
+/// Before each search it splits its span while nothing is pending for other workers. It looks at the
 /// incumbent at each node of its searches, and raises it to each roster that it finds. A pool
 /// that refuses its calls is stopped, and the list so far is the answer. Where memory runs out the pool is
 /// stopped too, and its hand stays full. It may wait for a span and for the locks.
@@ -98,11 +98,9 @@ impl<'a, R: Wait, L: Ledger, G: Gate> Worker<'a, R, L, G> {
     {
         let mut known = first_known(self.alloc, self.problem)?;
         let mut list: Vec<Settled> = Vec::new(self.alloc);
-        let mut is_first = true;
         for _ in self.rt.forever() {
-            match self.turn(is_first, &known, share)? {
+            match self.turn(&known, share)? {
                 Some(settled) => {
-                    is_first = false;
                     known = Arc::try_clone(&settled.best)?;
                     list.push(settled)?;
                 }
@@ -113,18 +111,13 @@ impl<'a, R: Wait, L: Ledger, G: Gate> Worker<'a, R, L, G> {
     }
 
     /// Takes a span, searches what it keeps of it and finishes that. None where the pool has none for it.
-    fn turn(
-        &self,
-        is_first: bool,
-        known: &Arc<Roster>,
-        share: &mut Share<L>,
-    ) -> Result<Option<Settled>, AllocError>
+    fn turn(&self, known: &Arc<Roster>, share: &mut Share<L>) -> Result<Option<Settled>, AllocError>
         requires { IsHeld self.now.problem (arc_value known.now) }
         ensures settled { IfOk result (λ got. IfSome got (IsSettled self.now.problem self.now.table)) }
         ensures counted { IfOk result (λ got. MatchOption got (share.new ≡ share.old)
             (λ _. share.new ≡ share.old + 1)) }
     {
-        let Some(piece) = self.next(is_first)? else {
+        let Some(piece) = self.next()? else {
             return Ok(None);
         };
         self.gate.pass(self.number, Point::Ready);
@@ -132,15 +125,10 @@ impl<'a, R: Wait, L: Ledger, G: Gate> Worker<'a, R, L, G> {
         self.finished(done, share)
     }
 
-    /// A span from the pool, the first one less what was split off for others.
-    fn next(&self, is_first: bool) -> Result<Option<Piece>, AllocError> {
+    /// What the worker keeps of a span from the pool.
+    fn next(&self) -> Result<Option<Piece>, AllocError> {
         match self.pool.wait_take(self.rt, self.number) {
-            Ok(Some(piece)) => {
-                if is_first {
-                    return self.shared(piece);
-                }
-                Ok(Some(piece))
-            }
+            Ok(Some(piece)) => self.shared(piece),
             Ok(None) => Ok(None),
             Err(fault) => {
                 self.refused(fault)?;
@@ -149,12 +137,8 @@ impl<'a, R: Wait, L: Ledger, G: Gate> Worker<'a, R, L, G> {
         }
     }
 
-    /// What the worker keeps of the piece, once something is pending for others or it can't be split. A lone
-    /// worker splits nothing: each part is searched for itself, which takes longer than one search of all.
+    /// What the worker keeps of the piece, once something is pending for others or it can't be split.
     fn shared(&self, piece: Piece) -> Result<Option<Piece>, AllocError> {
-        if self.pool.workers(self.rt) == 1 {
-            return Ok(Some(piece));
-        }
         let mut piece = piece;
         for _ in self.rt.forever() {
             if !self.pool.short(self.rt) {

@@ -155,11 +155,6 @@ impl<L: Ledger> Pool<L> {
         settled
     }
 
-    /// How many workers there are.
-    pub fn workers<R: Wait>(&self, rt: &R) -> usize {
-        self.guarded.lock(rt).state.workers()
-    }
-
     /// Whether nothing is pending.
     pub fn short<R: Wait>(&self, rt: &R) -> bool {
         self.guarded.lock(rt).state.pending() == 0

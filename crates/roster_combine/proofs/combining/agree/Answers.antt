@@ -1,9 +1,9 @@
-use Rattle.std.proofs.Common.{◌≡◌, ◌<◌, ℕ, List, Vec, Global, true, length, map, sym, ap, ◌∙◌, subst, arith}
-use Rattle.std.specs.Prelude.{All, slice_index_or}
+use Rattle.std.proofs.Common.{◌<◌, ℕ, List, Vec, Global, length, map, sym, ap, ◌∙◌, subst, arith}
+use Rattle.std.specs.Prelude.{All}
 use Rattle.std.proofs.lemmas.List.{length-map}
 use Rattle.roster_branchtree.specs.Spans.{Span}
 use Rattle.roster_subtreepool.specs.States.{Part}
-use Rattle.roster_combine.specs.Parts.{Agree, span_of, spans_by}
+use Rattle.roster_combine.specs.Parts.{spans_by}
 use Rattle.roster_combine.proofs.combining.agree.Goals as goal
 
 -- all of the finished spans are among those of so many workers

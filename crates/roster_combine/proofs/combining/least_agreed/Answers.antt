@@ -1,4 +1,4 @@
-use Rattle.std.proofs.Common.{List, Vec, Global, ℕ, length, map, sym, subst}
+use Rattle.std.proofs.Common.{List, Vec, Global, ℕ, map, sym, subst}
 use Rattle.std.specs.Arc.{arc_value}
 use Rattle.std.proofs.lemmas.List.{length-map}
 use Rattle.roster_subtreepool.specs.States.{Part}

@@ -1,4 +1,4 @@
-use Rattle.std.proofs.Common.{◌≡◌, length, refl, sym, subst, inl, inr}
+use Rattle.std.proofs.Common.{length, refl, sym, subst, inl, inr}
 use Rattle.std.specs.Arc.{arc_value}
 use Rattle.std.proofs.lemmas.Option.{slice_get_read}
 use Rattle.roster_model.specs.Rosters.{Key}
