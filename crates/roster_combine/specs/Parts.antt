@@ -1,5 +1,5 @@
 -- What workers hand in, and what it has to agree with.
-use Rattle.std.specs.Prelude.{◌≡◌, ℕ, ◌<◌, ◌==◌, Bool, true, false, if◌then◌else◌, List, [], ◌∷◌, Some, All, length, map, slice_get, slice_index_or}
+use Rattle.std.specs.Prelude.{◌≡◌, ℕ, ◌<◌, ◌==◌, Bool, true, false, List, [], ◌∷◌, Some, All, length, map, slice_get, slice_index_or}
 use Rattle.roster_model.specs.Problem.{Problem}
 use Rattle.roster_model.specs.Costs.{cost_of}
 use Rattle.roster_model.specs.Rosters.{Key, key_le}

@@ -1,6 +1,5 @@
 -- A replay of a search: what it searches, where each span is, what was handed in, and the best roster so far.
-use Rattle.std.specs.Prelude.{◌≡◌, ℕ, List, [], None, All, length, map}
-use Rattle.roster_model.specs.Problem.{Problem}
+use Rattle.std.specs.Prelude.{◌≡◌, ℕ, List, None, All, length, map}
 use Rattle.roster_model.specs.Rosters.{Key}
 use Rattle.roster_model.specs.Settled.{IsHeld}
 use Rattle.roster_subtreepool.specs.States.{Ended, Part, State, held}
