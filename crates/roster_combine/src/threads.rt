@@ -68,7 +68,8 @@ fn best_by_threads<R: Threads + Sync>(
     table: &Table,
     threads: usize,
 ) -> Result<Arc<Roster>, AllocError>
-    requires { IsTableOf problem.now table.now }
+    requires table { IsTableOf problem.now table.now }
+    requires threads { 0 < threads }
     ensures { IfOk result (λ best. IsBestKey problem.now (arc_value best)) }
 {
     let known = first_known(alloc, problem)?;

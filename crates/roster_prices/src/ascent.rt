@@ -11,6 +11,7 @@ use crate::reading::number_at;
 use roster_problem::Problem;
 use roster_regions::Region;
 use std::alloc::{AllocError, Global};
+use std::thread::{Threads, for_each_mut};
 
 /// Covers are near a whole if none is further from it than this.
 const NEAR: u64 = 2_000;
@@ -23,6 +24,9 @@ const FAIR_RISE: i64 = 64;
 /// Fixing is worth its time once the bound has risen by a part in so many of what was missing.
 const FIXING_RISE: i64 = 4;
 
+/// Fewer lines than this are looked at sooner than threads are started.
+const FEW_LINES: usize = 20_000;
+
 /// Prices that move towards those at which each pairing is held once, and the best so far: those with the
 /// greatest bound, which is the least that a roster may cost. What it says of the bound is an estimate.
 #[derive(Debug, Drop)]
@@ -32,8 +36,9 @@ pub struct Ascent {
     bound: i64,
     fixed: i64,
     stalled: u32,
-    undecided: usize,
     look: Look,
+    // Those of single threads.
+    looks: Vec<Look>,
     amounts: Vec<i64>,
 }
 
@@ -46,8 +51,8 @@ impl Ascent {
             bound: i64::MIN,
             fixed: i64::MIN,
             stalled: 0,
-            undecided: 1,
             look: Look::new(alloc)?,
+            looks: Vec::new(alloc),
             amounts: Vec::new(alloc),
         })
     }
@@ -80,7 +85,7 @@ impl Ascent {
 
     /// Whether each person had one line at the last look.
     pub fn is_decided(&self) -> bool {
-        self.undecided == 0
+        self.bound != i64::MIN && self.look.undecided() == 0
     }
 
     /// Looks at all lines of the region at the prices, and says whether it is worth to fix by them: since
@@ -94,29 +99,52 @@ impl Ascent {
     ) -> Result<bool, AllocError>
         requires { IsRegion problem.now region.now }
     {
-        self.look.clear();
-        self.undecided = 0;
-        let mut bound: i64 = 0;
-        for k in 0..problem.persons().len() {
-            bound = bound.wrapping_add(self.look_at(region, k)?);
+        self.look.at_every(problem, region, &self.now, 0, 1);
+        self.look.whole()?;
+        Ok(self.noted(problem, region, room))
+    }
+
+    /// `look` by so many threads, if there are lines enough for them. It comes to the same.
+    pub fn look_by_threads<R: Threads + Sync>(
+        &mut self,
+        rt: &R,
+        alloc: Global,
+        threads: usize,
+        problem: &Problem,
+        region: &Region,
+        room: i64,
+    ) -> Result<bool, AllocError>
+        requires region { IsRegion problem.now region.now }
+        requires threads { 0 < threads }
+    {
+        if threads == 1 || lines(problem, region) < FEW_LINES {
+            return self.look(problem, region, room);
         }
+        for _ in self.looks.len()..threads {
+            self.looks.push(Look::new(alloc)?)?;
+        }
+        let prices = &self.now;
+        let look = |turn: usize, look: &mut Look|
+            requires { IsRegion problem.now region.now × (0 < threads) }
+        { look.at_every(problem, region, prices, turn, threads) };
+        for_each_mut(rt, &mut self.looks, threads, &look);
+        self.look.clear();
+        for look in &self.looks {
+            self.look.join(look);
+        }
+        self.look.whole()?;
+        Ok(self.noted(problem, region, room))
+    }
+
+    // Takes note of what was looked at, and says whether it is worth to fix.
+    fn noted(&mut self, problem: &Problem, region: &Region, room: i64) -> bool
+        requires { IsRegion problem.now region.now }
+    {
+        let mut bound = self.look.bound();
         for p in 0..problem.pairings().len() {
             bound = bound.wrapping_add(self.term(problem, region, p));
         }
-        Ok(self.is_worth_fixing(bound, room))
-    }
-
-    // Looks at the lines of person `k`, and gives the least value.
-    fn look_at(&mut self, region: &Region, k: usize) -> Result<i64, AllocError>
-        requires { k < length region.now.choices }
-    {
-        let choices = region.choices(k);
-        if region.width(k) == 1 {
-            return self.look.settle(choices, self.now.prices());
-        }
-        self.undecided = self.undecided.wrapping_add(1);
-        let softness = self.now.softness();
-        self.look.add(choices, self.now.prices(), softness)
+        self.is_worth_fixing(bound, room)
     }
 
     // What the pairing at place `p` adds to the bound.
@@ -216,6 +244,17 @@ impl Ascent {
             .wrapping_mul(strength)
             / 2048
     }
+}
+
+/// How many lines are to be looked at, those on the way to others included.
+fn lines(problem: &Problem, region: &Region) -> usize
+    requires { IsRegion problem.now region.now }
+{
+    let mut lines: usize = 0;
+    for k in 0..problem.persons().len() {
+        lines = lines.wrapping_add(region.choices(k).len());
+    }
+    lines
 }
 
 /// How large a part it is to leave a pairing open, if it has this price and this penalty.

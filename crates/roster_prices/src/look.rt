@@ -1,9 +1,14 @@
 //! A look at the lines of persons at some prices: the least value, and which pairings the best lines hold.
 
+ghost use Rattle.std.specs.Prelude.{◌<◌, length};
+ghost use Rattle.roster_regions.specs.Regions.{IsRegion};
+
+use crate::dual_prices::DualPrices;
 use crate::powers::halved;
 use crate::reading::number_at;
 use roster_model::limits::MOST_PAIRINGS;
-use roster_regions::Choice;
+use roster_problem::Problem;
+use roster_regions::{Choice, Region};
 use std::alloc::{AllocError, Global};
 
 /// One whole, of which covers are parts.
@@ -24,6 +29,9 @@ pub(crate) struct Look {
     weights: Vec<u64>,
     // By pairing: the weights of a person's lines that hold it.
     masses: Vec<u64>,
+    bound: i64,
+    undecided: usize,
+    failed: bool,
 }
 
 impl Look {
@@ -35,12 +43,86 @@ impl Look {
             sums: vec![in alloc; 0; MOST_PAIRINGS + 2]?,
             weights: vec![in alloc; 0; MOST_PAIRINGS + 2]?,
             masses: vec![in alloc; 0; MOST_PAIRINGS]?,
+            bound: 0,
+            undecided: 0,
+            failed: false,
         })
     }
 
     /// Begins anew.
     pub(crate) fn clear(&mut self) {
         self.covers.fill(0);
+        self.bound = 0;
+        self.undecided = 0;
+        self.failed = false;
+    }
+
+    /// Looks anew, at the lines of every so many-th person, from a turn on. It takes note if memory runs out.
+    pub(crate) fn at_every(
+        &mut self,
+        problem: &Problem,
+        region: &Region,
+        prices: &DualPrices,
+        turn: usize,
+        turns: usize,
+    )
+        requires region { IsRegion problem.now region.now }
+        requires turns { 0 < turns }
+    {
+        self.clear();
+        for k in 0..problem.persons().len() {
+            if k % turns == turn && self.at_person(region, prices, k).is_err() {
+                self.failed = true;
+            }
+        }
+    }
+
+    // Looks at the lines of person `k`.
+    fn at_person(
+        &mut self,
+        region: &Region,
+        prices: &DualPrices,
+        k: usize,
+    ) -> Result<(), AllocError>
+        requires { k < length region.now.choices }
+    {
+        let choices = region.choices(k);
+        let least = if region.width(k) == 1 {
+            self.settle(choices, prices.prices())?
+        } else {
+            self.undecided = self.undecided.wrapping_add(1);
+            self.add(choices, prices.prices(), prices.softness())?
+        };
+        self.bound = self.bound.wrapping_add(least);
+        Ok(())
+    }
+
+    /// Adds what another look found.
+    pub(crate) fn join(&mut self, other: &Look) {
+        for p in 0..self.covers.len() {
+            self.covers[p] = self.covers[p].saturating_add(other.cover(p));
+        }
+        self.bound = self.bound.wrapping_add(other.bound);
+        self.undecided = self.undecided.wrapping_add(other.undecided);
+        self.failed = self.failed || other.failed;
+    }
+
+    /// The least values of all persons that it looked at, in all.
+    pub(crate) fn bound(&self) -> i64 {
+        self.bound
+    }
+
+    /// How many of them had more than one line.
+    pub(crate) fn undecided(&self) -> usize {
+        self.undecided
+    }
+
+    /// Tells whether memory ran out.
+    pub(crate) fn whole(&self) -> Result<(), AllocError> {
+        if self.failed {
+            return Err(AllocError);
+        }
+        Ok(())
     }
 
     /// How often the pairing at place `p` is held, in parts of a whole.
@@ -52,9 +134,9 @@ impl Look {
         }
     }
 
-    /// Adds the pairings of a person's one line, which nobody else can have, and gives its value at the
-    /// prices.
-    pub(crate) fn settle(&mut self, choices: &[Choice], prices: &[i64]) -> Result<i64, AllocError> {
+    // Adds the pairings of a person's one line, which nobody else can have, and gives its value at the
+    // prices.
+    fn settle(&mut self, choices: &[Choice], prices: &[i64]) -> Result<i64, AllocError> {
         for choice in choices {
             let p = usize::from(choice.last);
             if choice.depth > 0 && p < self.covers.len() {
@@ -131,6 +213,10 @@ impl Look {
             return;
         }
         let weights = weight.wrapping_add(self.weights[depth + 1]);
+        // So it is with most lines, once prices are good.
+        if weights == 0 {
+            return;
+        }
         self.weights[depth + 1] = 0;
         self.weights[depth] = self.weights[depth].wrapping_add(weights);
         self.masses[last] = self.masses[last].wrapping_add(weights);
@@ -140,7 +226,7 @@ impl Look {
     fn share(&mut self, total: u64) {
         let part = total / WHOLE + 1;
         for p in 0..self.masses.len() {
-            if p < self.covers.len() {
+            if p < self.covers.len() && self.masses[p] > 0 {
                 self.covers[p] = self.covers[p].saturating_add(self.masses[p] / part);
             }
         }

@@ -40,6 +40,7 @@ const POWERS: [u64; 32] = [
 const LEAST: u64 = 64;
 
 /// What is left of 2^30 after a halving for each 2^(`softness` + 5) that `excess` has.
+#[inline]
 pub(crate) fn halved(excess: u64, softness: u32) -> u64 {
     let steps = excess >> (softness % 64);
     let halvings = steps / 32;

@@ -28,6 +28,10 @@ pub if_ok : {X E : Type 0} (r : Result X E) (P Q : X → Type 0) → IfOk r P �
 if_ok (Ok x) P Q is f = f x is
 if_ok (Err e) P Q is f = tt
 
+pub both_if_ok : {X E : Type 0} (r : Result X E) (P Q R : X → Type 0) → IfOk r P → IfOk r Q → ((x : X) → P x → Q x → R x) → IfOk r R
+both_if_ok (Ok x) P Q R p q f = f x p q
+both_if_ok (Err e) P Q R p q f = tt
+
 pub both_on_ok : {X E : Type 0} (r : Result X E) (P Q R : Type 0) → OnOk r P → OnOk r Q → (P → Q → R) → OnOk r R
 both_on_ok (Ok x) P Q R p q f = f p q
 both_on_ok (Err e) P Q R p q f = tt

@@ -6,6 +6,7 @@ use Rattle.roster_model.specs.Problem.{Problem}
 use Rattle.roster_model.specs.Rosters.{IsLegalRoster, Key}
 use Rattle.roster_lines.specs.Entries.{Entry, sets_of}
 use Rattle.roster_lines.specs.Person.{lines_at}
+use Rattle.roster_regions.specs.Regions.{IsIn, IsRegion, Region}
 use Rattle.roster_search.specs.Least.{IsLeastBelow}
 
 -- the base of the person at place k, and that of the pairing at place p
@@ -44,6 +45,12 @@ pub record AreOwnRanges (problem : Problem) (base : ℕ) (ranges own : List (ℕ
   pub covers : length own ≡ length ranges
   pub each : (k : ℕ) (range : ℕ × ℕ) → slice_get ranges k ≡ Some range
       → slice_get own k ≡ Some (if base_of_person problem k == base then range else (0, 1))
+
+-- a region with just those rosters of one base
+pub record IsRegionOfPart (problem : Problem) (table : List (List Entry)) (ranges : List (ℕ × ℕ)) (base : ℕ) (region : Region) : Type 0 where
+  pub is_region : IsRegion problem region
+  pub inside : (places : List ℕ) → IsIn problem region places → IsInPart problem table ranges (λ b. b == base) places
+  pub all : (places : List ℕ) → IsInPart problem table ranges (λ b. b == base) places → IsIn problem region places
 
 -- a base, and the least roster in which only its persons fly, if there is one
 abbrev pub IsBasePart : Problem → List (List Entry) → List (ℕ × ℕ) → ℕ × Option Key → Type 0

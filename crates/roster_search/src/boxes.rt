@@ -1,6 +1,6 @@
 //! The least roster of a box.
 
-ghost use Rattle.std.specs.Prelude.{◌≡◌, false, true, IfOk, MatchOption, Some, length, not, unwrap_or};
+ghost use Rattle.std.specs.Prelude.{◌≡◌, ◌<◌, false, true, IfOk, MatchOption, Some, length, not, unwrap_or};
 ghost use Rattle.roster_lines.specs.Person.{IsTableOf};
 ghost use Rattle.roster_model.specs.Rosters.{key_le, key_of};
 ghost use Rattle.roster_model.specs.Settled.{Anywhere, IsHeld, Settles};
@@ -55,6 +55,7 @@ pub fn least_of_all<R: Threads + Sync>(
 ) -> Result<Option<Roster>, AllocError>
     requires table { IsTableOf problem.now table.now }
     requires known { IsHeld problem.now known.now }
+    requires threads { 0 < threads }
     ensures { IfOk result (λ found. Settles problem.now Anywhere Anywhere
         (Some known.now) (unwrap_or found known.now)) }
 {

@@ -9,7 +9,7 @@ ghost use Rattle.roster_search.specs.Least.{IsCheapest, IsLeast, IsLeastBelow};
 use crate::cheapest::cheapest;
 use crate::first::first;
 use crate::nodes::Nodes;
-use crate::root::root_prices;
+use crate::root::RootPrices;
 use roster_cost::{cost_without_pairings, lines_are_near, shares_add_up};
 use roster_prices::DualPrices;
 use roster_problem::{Problem, Roster};
@@ -17,11 +17,12 @@ use roster_regions::Region;
 use std::alloc::{AllocError, Global};
 
 /// The least roster of the region, with its cost, if it costs less than the limit; or none, and then each
-/// of them costs at least that.
+/// of them costs at least that. Any prices will do for it; good ones make it short.
 pub(crate) fn least<N: Nodes>(
     alloc: Global,
     problem: &Problem,
     region: Region,
+    root: RootPrices,
     limit: i64,
     nodes: &mut N,
 ) -> Result<Option<Roster>, AllocError>
@@ -31,7 +32,6 @@ pub(crate) fn least<N: Nodes>(
 {
     costs_fit(problem);
     let mut region = region;
-    let root = root_prices(alloc, problem, &region)?;
     let prices = root.prices;
     match cheapest(
         alloc,

@@ -1,16 +1,18 @@
 //! The parts of a box: the persons of one base each.
 
-ghost use Rattle.std.specs.Prelude.{◌≡◌, ◌<ℤ◌, ◌^◌, ◌-◌, ◌==◌, IfOk, length, pos};
+ghost use Rattle.std.specs.Prelude.{◌≡◌, ◌<◌, ◌<ℤ◌, ◌^◌, ◌-◌, ◌==◌, IfOk, length, pos};
 ghost use Rattle.roster_lines.specs.Person.{IsTableOf};
 ghost use Rattle.roster_search.specs.Least.{IsLeastBelow};
-ghost use Rattle.roster_search.specs.Parts.{merge, AreOwnRanges, IsInPart};
+ghost use Rattle.roster_search.specs.Parts.{merge, AreOwnRanges, IsInPart, IsRegionOfPart};
 
 use crate::least::least;
-use crate::nodes::Nodes;
+use crate::nodes::{Nodes, Unseen};
+use crate::root::{RootPrices, root_prices, root_prices_by_threads};
 use roster_lines::Table;
 use roster_problem::{Problem, Roster};
 use roster_regions::Region;
 use std::alloc::{AllocError, Global};
+use std::thread::Threads;
 
 /// The least roster in which the persons of one base have lines in their ranges and all others no pairing,
 /// if there is one.
@@ -28,9 +30,74 @@ pub(crate) fn least_of_base<N: Nodes>(
         (IsInPart problem.now table.now ranges.now (λ b. b == base)) (pos (2 ^ 63 - 1))) }
     ensures goes_on { N.goes_on nodes.old nodes.new }
 {
+    let region = region_of_base(alloc, problem, table, ranges, base)?;
+    let root = root_prices(alloc, problem, &region)?;
+    least_in(alloc, problem, table, ranges, base, region, root, nodes)
+}
+
+/// `least_of_base`, for which so many threads look at the lines.
+pub(crate) fn least_of_base_by_threads<R: Threads + Sync>(
+    rt: &R,
+    alloc: Global,
+    threads: usize,
+    problem: &Problem,
+    table: &Table,
+    ranges: &[(usize, usize)],
+    base: usize,
+) -> Result<Option<Roster>, AllocError>
+    requires table { IsTableOf problem.now table.now }
+    requires ranges { length ranges.now ≡ length table.now }
+    requires threads { 0 < threads }
+    ensures { IfOk result (IsLeastBelow problem.now
+        (IsInPart problem.now table.now ranges.now (λ b. b == base)) (pos (2 ^ 63 - 1))) }
+{
+    let region = region_of_base(alloc, problem, table, ranges, base)?;
+    let root = root_prices_by_threads(rt, alloc, threads, problem, &region)?;
+    least_in(
+        alloc,
+        problem,
+        table,
+        ranges,
+        base,
+        region,
+        root,
+        &mut Unseen,
+    )
+}
+
+/// The region of the base.
+fn region_of_base(
+    alloc: Global,
+    problem: &Problem,
+    table: &Table,
+    ranges: &[(usize, usize)],
+    base: usize,
+) -> Result<Region, AllocError>
+    requires table { IsTableOf problem.now table.now }
+    requires ranges { length ranges.now ≡ length table.now }
+    ensures { IfOk result (IsRegionOfPart problem.now table.now ranges.now base) }
+{
     let own = own_ranges(alloc, problem, ranges, base)?;
-    let region = Region::of_ranges(alloc, problem, table, &own)?;
-    least(alloc, problem, region, i64::MAX, nodes)
+    Region::of_ranges(alloc, problem, table, &own)
+}
+
+/// The least roster of the base, in its region.
+fn least_in<N: Nodes>(
+    alloc: Global,
+    problem: &Problem,
+    table: &Table,
+    ranges: &[(usize, usize)],
+    base: usize,
+    region: Region,
+    root: RootPrices,
+    nodes: &mut N,
+) -> Result<Option<Roster>, AllocError>
+    requires { IsRegionOfPart problem.now table.now ranges.now base region }
+    ensures least { IfOk result (IsLeastBelow problem.now
+        (IsInPart problem.now table.now ranges.now (λ b. b == base)) (pos (2 ^ 63 - 1))) }
+    ensures goes_on { N.goes_on nodes.old nodes.new }
+{
+    least(alloc, problem, region, root, i64::MAX, nodes)
 }
 
 /// The ranges of the persons of the base; everybody else has the empty line only.

@@ -61,7 +61,7 @@ pub(crate) fn refine(
 
 /// Leaves out of the region what costs more than it may by the prices, if that is worth its time. False
 /// where each roster costs more.
-pub(crate) fn fix(
+fn fix(
     alloc: Global,
     problem: &Problem,
     region: &mut Region,

@@ -1,13 +1,14 @@
 //! Prices to begin with.
 
+ghost use Rattle.std.specs.Prelude.{◌≡◌, ◌<◌, IfOk, IsTrue};
 ghost use Rattle.roster_regions.specs.Regions.{IsRegion};
 
-use crate::refining::fix;
 use roster_cost::roster_cost;
 use roster_prices::{Ascent, DualPrices, rounded};
 use roster_problem::Problem;
 use roster_regions::Region;
 use std::alloc::{AllocError, Global};
+use std::thread::Threads;
 
 /// How often prices move before a search, at most.
 const MOST_STEPS: usize = 150;
@@ -31,26 +32,126 @@ pub(crate) fn root_prices(
 ) -> Result<RootPrices, AllocError>
     requires { IsRegion problem.now region.now }
 {
-    let penalties = DualPrices::of_penalties(alloc, problem, region)?;
-    let mut ascent = Ascent::new(alloc, &penalties)?;
-    let mut part = region.copy(alloc)?;
-    let mut most = i64::MAX;
+    let mut rise = Rise::from_penalties(alloc, problem, region)?;
     for step in 0..MOST_STEPS {
-        let room_at = room(region, most);
-        if !fix(alloc, problem, &mut part, &mut ascent, most, room_at)? {
+        let room = rise.room(region);
+        let is_worth = rise.ascent.look(problem, &rise.part, room)?;
+        if !rise.goes_on(alloc, problem, region, is_worth, step)? {
             break;
+        }
+    }
+    Ok(rise.prices(region))
+}
+
+/// `root_prices`, for which so many threads look at the lines. It comes to the same.
+pub(crate) fn root_prices_by_threads<R: Threads + Sync>(
+    rt: &R,
+    alloc: Global,
+    threads: usize,
+    problem: &Problem,
+    region: &Region,
+) -> Result<RootPrices, AllocError>
+    requires region { IsRegion problem.now region.now }
+    requires threads { 0 < threads }
+{
+    let mut rise = Rise::from_penalties(alloc, problem, region)?;
+    for step in 0..MOST_STEPS {
+        let room = rise.room(region);
+        let is_worth = rise
+            .ascent
+            .look_by_threads(rt, alloc, threads, problem, &rise.part, room)?;
+        if !rise.goes_on(alloc, problem, region, is_worth, step)? {
+            break;
+        }
+    }
+    Ok(rise.prices(region))
+}
+
+/// Prices on their rise at a root.
+#[derive(Drop)]
+struct Rise {
+    ascent: Ascent,
+    // What is left of the region by the prices.
+    part: Region,
+    // What a roster costs that was rounded.
+    most: i64,
+}
+
+impl Rise {
+    /// Begins with the penalties.
+    fn from_penalties(alloc: Global, problem: &Problem, region: &Region) -> Result<Rise, AllocError>
+        requires { IsRegion problem.now region.now }
+        ensures { IfOk result (λ rise. IsRegion problem.now rise.part) }
+    {
+        let penalties = DualPrices::of_penalties(alloc, problem, region)?;
+        Ok(Rise {
+            ascent: Ascent::new(alloc, &penalties)?,
+            part: region.copy(alloc)?,
+            most: i64::MAX,
+        })
+    }
+
+    /// What may be paid.
+    fn room(&self, region: &Region) -> i64 {
+        room(region, self.most)
+    }
+
+    /// After a look, fixes if it is worth its time, rounds a roster now and then, and moves the prices. False
+    /// where that is no longer worth it.
+    fn goes_on(
+        &mut self,
+        alloc: Global,
+        problem: &Problem,
+        region: &Region,
+        is_worth: bool,
+        step: usize,
+    ) -> Result<bool, AllocError>
+        requires region { IsRegion problem.now region.now }
+        requires part { IsRegion problem.now self.old.part }
+        ensures { IfOk result (λ on. IsTrue on → IsRegion problem.now self.new.part) }
+    {
+        if !self.fix(alloc, problem, is_worth)? {
+            return Ok(false);
         }
         if step % STEPS_A_ROUNDING == 0 {
-            most = cheaper(alloc, problem, &part, &ascent, most, step)?;
+            self.round(alloc, problem, step)?;
         }
-        if ascent.is_decided() || ascent.bound() > room(region, most.saturating_sub(1)) {
-            break;
+        if self.ascent.is_decided()
+            || self.ascent.bound() > room(region, self.most.saturating_sub(1))
+        {
+            return Ok(false);
         }
-        ascent.step(problem, &part)?;
+        self.ascent.step(problem, &self.part)?;
+        Ok(true)
     }
-    let likely = likely(region, ascent.bound());
-    let prices = ascent.into_best();
-    Ok(RootPrices { prices, likely })
+
+    /// Leaves out of the part what costs more than may be paid, if that is worth its time. False where all does.
+    fn fix(&mut self, alloc: Global, problem: &Problem, is_worth: bool) -> Result<bool, AllocError>
+        requires { IsRegion problem.now self.old.part }
+        ensures { IfOk result (λ left. IsTrue left → IsRegion problem.now self.new.part) }
+    {
+        if !is_worth || self.ascent.is_decided() {
+            return Ok(true);
+        }
+        self.part
+            .tighten(alloc, problem, self.ascent.prices(), self.most)
+    }
+
+    /// Rounds a roster, which says how much may be paid if it costs less.
+    fn round(&mut self, alloc: Global, problem: &Problem, step: usize) -> Result<(), AllocError>
+        requires { IsRegion problem.now self.old.part }
+        ensures { self.new.part ≡ self.old.part }
+    {
+        self.most = cheaper(alloc, problem, &self.part, &self.ascent, self.most, step)?;
+        Ok(())
+    }
+
+    /// The prices of the greatest bound.
+    fn prices(self, region: &Region) -> RootPrices {
+        let likely = likely(region, self.ascent.bound());
+        let prices = self.ascent.into_best();
+        RootPrices { prices, likely }
+    }
 }
 
 /// What a roster may cost that costs at most so much, in parts of a cost unit and without what empty

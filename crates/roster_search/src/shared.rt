@@ -1,14 +1,15 @@
 //! The least rosters of single bases, which several threads find.
 
-ghost use Rattle.std.specs.Prelude.{◌≡◌, ◌^◌, ◌-◌, ◌==◌, ℕ, All, IfOk, List, length, pos};
+ghost use Rattle.std.specs.Prelude.{◌≡◌, ◌<◌, ◌^◌, ◌-◌, ◌==◌, ℕ, All, IfOk, List, length, pos};
+ghost use Rattle.std.specs.Thread.{IsSync};
 ghost use Rattle.roster_model.specs.Problem.{Problem as PlainProblem};
 ghost use Rattle.roster_lines.specs.Entries.{Entry};
 ghost use Rattle.roster_lines.specs.Person.{IsTableOf};
 ghost use Rattle.roster_search.specs.Least.{IsLeastBelow};
 ghost use Rattle.roster_search.specs.Parts.{AreBaseParts, IsInPart, IsBasePart};
 
-use crate::nodes::{Nodes, Unseen};
-use crate::parts::least_of_base;
+use crate::nodes::Nodes;
+use crate::parts::{least_of_base, least_of_base_by_threads};
 use roster_lines::Table;
 use roster_model::limits::MOST_BASES;
 use roster_problem::{Places, Problem, Roster};
@@ -30,6 +31,7 @@ pub(crate) fn parts_of<R: Threads + Sync>(
 ) -> Result<Vec<Part>, AllocError>
     requires table { IsTableOf problem.now table.now }
     requires ranges { length ranges.now ≡ length table.now }
+    requires threads { 0 < threads }
     ensures { IfOk result (λ parts. AreBaseParts problem.now table.now ranges.now parts.items) }
 {
     let lists = parts_by_threads(rt, alloc, problem, table, ranges, threads)?;
@@ -47,22 +49,26 @@ fn parts_by_threads<R: Threads + Sync>(
 ) -> Result<Vec<Result<Vec<Part>, AllocError>>, AllocError>
     requires table { IsTableOf problem.now table.now }
     requires ranges { length ranges.now ≡ length table.now }
+    requires threads { 0 < threads }
     ensures { IfOk result (λ lists. All (λ list. IfOk list (λ parts.
         AreBaseParts problem.now table.now ranges.now parts.items)) lists.items) }
 {
     let next = AtomicUsize::new(0);
     let turns = |_: usize| -> Result<Vec<Part>, AllocError>
-        requires { IsTableOf problem.now table.now × (length ranges.now ≡ length table.now) }
+        requires { IsSync R.row × IsTableOf problem.now table.now
+            × (length ranges.now ≡ length table.now) × (0 < threads) }
         ensures { IfOk result (λ parts.
             AreBaseParts problem.entry.now table.entry.now ranges.entry.now parts.items) }
-    { parts_in_turn(alloc, problem, table, ranges, &next) };
+    { parts_in_turn(rt, alloc, threads, problem, table, ranges, &next) };
     let lists = map_indices(rt, alloc, threads, &turns)?;
     Ok(lists)
 }
 
 /// The parts of the bases that nobody else has taken, one after another.
-fn parts_in_turn(
+fn parts_in_turn<R: Threads + Sync>(
+    rt: &R,
     alloc: Global,
+    threads: usize,
     problem: &Problem,
     table: &Table,
     ranges: &[(usize, usize)],
@@ -70,6 +76,7 @@ fn parts_in_turn(
 ) -> Result<Vec<Part>, AllocError>
     requires table { IsTableOf problem.now table.now }
     requires ranges { length ranges.now ≡ length table.now }
+    requires threads { 0 < threads }
     ensures { IfOk result (λ parts. AreBaseParts problem.now table.now ranges.now parts.items) }
 {
     let mut parts = Vec::new(alloc);
@@ -78,7 +85,7 @@ fn parts_in_turn(
         if base >= MOST_BASES {
             break;
         }
-        let least = least_of_base(alloc, problem, table, ranges, base, &mut Unseen)?;
+        let least = least_of_base_by_threads(rt, alloc, threads, problem, table, ranges, base)?;
         parts.push((base, least))?;
     }
     Ok(parts)

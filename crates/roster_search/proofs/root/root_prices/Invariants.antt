@@ -3,4 +3,4 @@ use Rattle.roster_search.proofs.root.root_prices.Given as goal
 
 -- the part is a region
 abbrev pub invariant-loop-step : goal.invariant-loop-step
-invariant-loop-step l = IsRegion l.fn.problem l.part
+invariant-loop-step l = IsRegion l.problem l.rise.part
