@@ -1,7 +1,8 @@
 //! The best roster of a problem.
 //!
-//! `solve` makes the lines of each person, and finds the legal roster of least key. Workers take parts of that
-//! search from a pool, and what they find is put together in the end. In reading order:
+//! `solve` makes the lines of each person, and finds the legal roster of least key. Threads search its
+//! bases; then workers take spans from a pool, and what they find is put together in the end. In reading
+//! order:
 //!
 //! - `search`: `solve`, and why it finds none
 //! - `root`: one search of all rosters

@@ -51,9 +51,10 @@ impl From<TableFault> for SolveFault {
 }
 
 /// The legal roster of least cost, and among those the first in roster order; or the first person who
-/// has more lines than there may be. So many workers make the lines and search, each in a thread of its own, the first of them in
-/// the calling thread; a thread that can't be started is one worker fewer. Each passes the gate. Neither their
-/// number nor the gate changes the roster. It may wait for threads and locks.
+/// has more lines than there may be. So many workers make the lines and search, each in a thread of its
+/// own, the first of them in the calling thread; a thread that can't be started is one worker fewer. Each
+/// passes the gate. Neither their number nor the gate changes the roster. It may wait for threads and
+/// locks.
 pub fn solve<R: Threads + Wait + Sync, G: Gate + Sync>(
     rt: &R,
     alloc: Global,

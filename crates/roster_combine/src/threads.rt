@@ -60,7 +60,7 @@ pub(crate) fn solve_over<R: Threads + Wait + Sync, G: Gate + Sync>(
     )
 }
 
-/// The best roster, for which so many threads search a base each.
+/// The best roster, for which so many threads search the bases.
 fn best_by_threads<R: Threads + Sync>(
     rt: &R,
     alloc: Global,
@@ -79,8 +79,8 @@ fn best_by_threads<R: Threads + Sync>(
     }
 }
 
-/// `solve_over`, over a new pool; the incumbent begins with the given roster. The calling thread is worker 0. Where a thread can't be started its
-/// worker comes last, when nothing is left to do.
+/// `solve_over`, over a new pool; the incumbent begins with the given roster. The calling thread is worker
+/// 0. Where a thread can't be started its worker comes last, when nothing is left to do.
 fn solve_from<L: Ledger + Send + Sync, R: Threads + Wait + Sync, G: Gate + Sync>(
     rt: &R,
     alloc: Global,

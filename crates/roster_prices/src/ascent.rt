@@ -83,7 +83,7 @@ impl Ascent {
         self.bound
     }
 
-    /// Whether each person had one line at the last look.
+    /// Whether each person had one line at the last look. Before the first look it isn't known.
     pub fn is_decided(&self) -> bool {
         self.bound != i64::MIN && self.look.undecided() == 0
     }

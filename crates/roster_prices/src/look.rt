@@ -29,8 +29,10 @@ pub(crate) struct Look {
     weights: Vec<u64>,
     // By pairing: the weights of a person's lines that hold it.
     masses: Vec<u64>,
+    // Of the persons that were looked at: their least values in all, and how many have several lines.
     bound: i64,
     undecided: usize,
+    // Whether memory ran out.
     failed: bool,
 }
 
@@ -57,7 +59,8 @@ impl Look {
         self.failed = false;
     }
 
-    /// Looks anew, at the lines of every so many-th person, from a turn on. It takes note if memory runs out.
+    /// Looks anew, at every so many-th of the persons with several lines, from a turn on. Turn 0 has all
+    /// others. It takes note if memory runs out.
     pub(crate) fn at_every(
         &mut self,
         problem: &Problem,
@@ -70,8 +73,14 @@ impl Look {
         requires turns { 0 < turns }
     {
         self.clear();
+        let mut several: usize = 0;
         for k in 0..problem.persons().len() {
-            if k % turns == turn && self.at_person(region, prices, k).is_err() {
+            let mut whose = 0;
+            if region.width(k) > 1 {
+                whose = several % turns;
+                several = several.wrapping_add(1);
+            }
+            if whose == turn && self.at_person(region, prices, k).is_err() {
                 self.failed = true;
             }
         }

@@ -54,14 +54,31 @@ fn parts_by_threads<R: Threads + Sync>(
         AreBaseParts problem.now table.now ranges.now parts.items)) lists.items) }
 {
     let next = AtomicUsize::new(0);
+    let each = threads_a_base(problem, threads);
     let turns = |_: usize| -> Result<Vec<Part>, AllocError>
         requires { IsSync R.row × IsTableOf problem.now table.now
-            × (length ranges.now ≡ length table.now) × (0 < threads) }
+            × (length ranges.now ≡ length table.now) × (0 < each) }
         ensures { IfOk result (λ parts.
             AreBaseParts problem.entry.now table.entry.now ranges.entry.now parts.items) }
-    { parts_in_turn(rt, alloc, threads, problem, table, ranges, &next) };
+    { parts_in_turn(rt, alloc, each, problem, table, ranges, &next) };
     let lists = map_indices(rt, alloc, threads, &turns)?;
     Ok(lists)
+}
+
+/// How many threads look at the lines of one base, if so many share all bases.
+fn threads_a_base(problem: &Problem, threads: usize) -> usize
+    ensures { 0 < result }
+{
+    let mut bases: usize = 0;
+    for base in 0..MOST_BASES {
+        if problem.persons().iter().any(|person| person.base == base) {
+            bases = bases.wrapping_add(1);
+        }
+    }
+    if bases == 0 || threads <= bases {
+        return 1;
+    }
+    (threads / bases).max(1)
 }
 
 /// The parts of the bases that nobody else has taken, one after another.
