@@ -25,7 +25,7 @@ const FAIR_RISE: i64 = 64;
 const FIXING_RISE: i64 = 4;
 
 /// Fewer lines than this are looked at sooner than threads are started.
-const FEW_LINES: usize = 20_000;
+const FEW_LINES: usize = 200_000;
 
 /// Prices that move towards those at which each pairing is held once, and the best so far: those with the
 /// greatest bound, which is the least that a roster may cost. What it says of the bound is an estimate.
