@@ -1,16 +1,11 @@
 -- Which rules come before one.
-use Rattle.std.proofs.Common.{◌≡◌, ℕ, suc, ◌+◌, ◌<◌, List, [], ◌∷◌, Some, map, length, get_or, refl, sym, ap, ◌∙◌, subst, inl, inr, arith}
+use Rattle.std.proofs.Common.{◌≡◌, ℕ, suc, ◌+◌, ◌<◌, List, Some, length, get_or, refl, sym, ap, ◌∙◌, subst, inl, inr, arith}
 use Rattle.std.specs.Prelude.{slice_get}
 use Rattle.std.proofs.lemmas.Bool.{cases_eq}
 use Rattle.std.proofs.lemmas.List.{get_or-map, length-map}
 use Rattle.std.proofs.lemmas.List.FromFn.{get_or-range_with_len}
 use Rattle.std.proofs.lemmas.Option.{same_Some, slice_get_within}
-use Rattle.roster_model.specs.Rules.{Rule, BaseRule, OverlapRule, LeaveRule, RestRule, RecoveryRule, Duty7Rule, Duty14Rule, Duty28Rule, Flight28Rule, FlightYearRule, Flight12Rule, rank_of, IsFirstFailing}
-
-abbrev pub by_rank : List Rule
-by_rank =
-    BaseRule ∷ OverlapRule ∷ LeaveRule ∷ RestRule ∷ RecoveryRule ∷ Duty7Rule ∷ Duty14Rule ∷ Duty28Rule
-    ∷ Flight28Rule ∷ FlightYearRule ∷ Flight12Rule ∷ []
+use Rattle.roster_model.specs.Rules.{Rule, BaseRule, OverlapRule, LeaveRule, RestRule, RecoveryRule, Duty7Rule, Duty14Rule, Duty28Rule, Flight28Rule, FlightYearRule, Flight12Rule, rank_of, by_rank, AreByRank, IsFirstFailing}
 
 at_rank : (rule : Rule) → slice_get by_rank (rank_of rule) ≡ Some rule
 at_rank BaseRule = refl
@@ -43,10 +38,6 @@ pub below-all : (Says : Rule → Type 0) → HoldBelow Says (length by_rank) →
 below-all Says below rule = below rule (slice_get_within by_rank (rank_of rule) rule (at_rank rule))
 
 -- ---- the rules in their order, by other names
-
--- The names of all rules, in the order in which they are judged.
-abbrev pub AreByRank : {X : Type 0} → (X → Rule) → List X → Type 0
-AreByRank rule_of names = map rule_of names ≡ by_rank
 
 rank_at : {X : Type 0} (rule_of : X → Rule) (names : List X) (i : ℕ) (d : X) → AreByRank rule_of names → i < length names → rank_of (rule_of (get_or names i d)) ≡ i
 rank_at rule_of names i d all inside =

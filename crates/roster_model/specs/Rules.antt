@@ -6,7 +6,7 @@ pub mod Leave
 pub mod Rest
 pub mod Recovery
 pub mod Limits
-use Rattle.std.specs.Prelude.{◌≡◌, ◌<◌, ◌⊎◌, ℕ, Bool, ◌==◌, List, [], ◌∷◌, length, Option, Some, None, slice_get, codes}
+use Rattle.std.specs.Prelude.{◌≡◌, ◌<◌, ◌⊎◌, ℕ, Bool, ◌==◌, List, [], ◌∷◌, length, map, Option, Some, None, slice_get, codes}
 use Rattle.std.specs.List.{filter, list_any}
 use Rattle.roster_model.specs.records.Duty.{Duty, Holder, OfPairing, OfPerson}
 use Rattle.roster_model.specs.Calendar.{Days}
@@ -59,6 +59,16 @@ rank_of Duty28Rule = 7
 rank_of Flight28Rule = 8
 rank_of FlightYearRule = 9
 rank_of Flight12Rule = 10
+
+-- all rules, in the order in which they are judged
+abbrev pub by_rank : List Rule
+by_rank =
+    BaseRule ∷ OverlapRule ∷ LeaveRule ∷ RestRule ∷ RecoveryRule ∷ Duty7Rule ∷ Duty14Rule ∷ Duty28Rule
+    ∷ Flight28Rule ∷ FlightYearRule ∷ Flight12Rule ∷ []
+
+-- The names of all rules, in the order in which they are judged.
+abbrev pub AreByRank : {X : Type 0} → (X → Rule) → List X → Type 0
+AreByRank rule_of names = map rule_of names ≡ by_rank
 
 -- the word that tells it
 abbrev pub word_of_rule : Rule → List ℕ

@@ -1,7 +1,9 @@
 //! The rules by name.
 
 ghost use Rattle.std.specs.Prelude.{◌≡◌};
-ghost use Rattle.roster_model.specs.Rules.{word_of_rule};
+ghost use Rattle.roster_model.specs.Rules.{AreByRank, word_of_rule};
+ghost use Rattle.roster_problem.specs.View.{rule_of};
+ghost use Rattle.roster_problem.specs.declared.rule.TheConstants.Rule.{ALL};
 
 /// A rule that a person's set of pairings has to keep.
 #[derive(Clone, Copy, Debug, PartialEq, Eq)]
@@ -31,8 +33,6 @@ pub enum Rule {
 }
 
 impl Rule {
-    ghost use Rattle.roster_problem.specs.View.{rule_of};
-
     /// All rules, in the order in which they are judged.
     pub const ALL: [Rule; 11] = [
         Rule::Base,
@@ -67,3 +67,8 @@ impl Rule {
         }
     }
 }
+
+/// `Rule::ALL` has each rule of the definitions once, in the order in which they are judged.
+pub fn rules_in_order()
+    ensures { AreByRank rule_of ALL }
+{}

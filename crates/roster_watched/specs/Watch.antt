@@ -10,6 +10,6 @@ inner_of w = w.inner
 abbrev pub has_failed : {D : Type 0} → Watched D → Bool
 has_failed w = w.failed
 
--- whether no write was asked of it since it was made or flushed
+-- whether it was flushed, and no write was asked of it since
 abbrev pub is_flushed : {D : Type 0} → Watched D → Bool
 is_flushed w = w.flushed

@@ -9,9 +9,9 @@ use std::io::{Read, Write};
 
 /// A reader or writer that remembers whether it has failed, and whether it is flushed.
 ///
-/// It has failed where the one inside answered an error, or took none of some bytes. It then stays so.
-/// It is flushed where no write was asked of it since it was made, or since the last flush without an
-/// error.
+/// It has failed if the one inside answered an error, or took none of some bytes. It then stays so.
+/// It is flushed if a flush of it ended without an error, and no write was asked of it since: of what was
+/// written to the one inside before, nothing is known.
 #[derive(Debug, Drop)]
 pub struct Watched<D> {
     inner: D,
@@ -22,16 +22,16 @@ pub struct Watched<D> {
 impl<D> Watched<D> {
     ghost use Rattle.roster_watched.specs.Watch.{inner_of, has_failed, is_flushed};
 
-    /// A reader or writer that hasn't failed yet.
+    /// A reader or writer that hasn't failed yet, and wasn't flushed yet.
     pub fn new(inner: D) -> Watched<D>
         ensures inner { inner_of result ≡ inner }
         ensures open { has_failed result ≡ false }
-        ensures flushed { is_flushed result ≡ true }
+        ensures unflushed { is_flushed result ≡ false }
     {
         Watched {
             inner,
             failed: false,
-            flushed: true,
+            flushed: false,
         }
     }
 
