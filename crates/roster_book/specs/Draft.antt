@@ -71,7 +71,7 @@ abbrev pub JudgesStep : Option model.Code → replayed.Step → Result Step Code
 JudgesStep told entry (Ok x) = (told ≡ None) × (step_of x ≡ entry)
 JudgesStep told entry (Err code) = told ≡ Some (view.code_of code)
 
--- the same where memory may run out in a record without a fault
+-- the same if memory may run out in a record without a fault
 abbrev pub Reads : {X : Type 0} → Option model.Code → X → Result X Refusal → Type 0
 Reads told entry (Ok x) = (told ≡ None) × (x ≡ entry)
 Reads told entry (Err e) = Refuses e told

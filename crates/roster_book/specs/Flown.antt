@@ -13,7 +13,7 @@ sector_count duties = sum_by (λ duty. length duty.sectors) duties
 abbrev pub with_sector : Duty → Sector → Duty
 with_sector duty sector = record duty { sectors = duty.sectors ++ sector ∷ [] }
 
--- the duties where the one at a place has one more sector, if there is one
+-- the duties, of which the one at a place, if there is one, has one more sector
 abbrev pub with_sector_at : List Duty → Option ℕ → Sector → List Duty
 with_sector_at duties None sector = duties
 with_sector_at [] (Some place) sector = []

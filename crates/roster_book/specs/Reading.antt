@@ -25,7 +25,7 @@ pub record IsBookOf (command : Command) (records : List Record) (book : Book) : 
   pub covers : length book.assigned ≡ length book.problem.pairings
   pub numbers : All (λ x. x ≤ length book.problem.persons) book.assigned
 
--- where the fault is a record's, it is the first fault of the records
+-- if the fault is a record's, it is the first fault of the records
 abbrev pub TellsFirst : Command → List Record → BookFault → Type 0
 TellsFirst command records (At row code) = first_fault command records ≡ Some (record { row = row; code = code })
 TellsFirst command records Device = ⊤
@@ -33,12 +33,12 @@ TellsFirst command records Memory = ⊤
 
 -- ---- the records of a reader
 
--- It holds of these records, or, where they aren't known, of some.
+-- It holds of these records, or, if they aren't known, of some.
 abbrev pub OfKnown : (List Record → Type 0) → Option (List Record) → Type 0
 OfKnown Says (Some records) = Says records
 OfKnown Says None = (records : List Record) × Says records
 
--- It holds of the records of the bytes that a reader told, or, where they aren't known, of some.
+-- It holds of the records of the bytes that a reader told, or, if they aren't known, of some.
 abbrev pub OfTold : (List Record → Type 0) → Option (List ℕ) → Type 0
 OfTold Says told = OfKnown Says (option_map records_of told)
 
@@ -55,11 +55,11 @@ abbrev pub records_between : State → Option (List ℕ) → Option (List Record
 records_between s bytes =
     if ends_at_end s then None else option_map (λ known. records_from default_config (length known + 1) s known) bytes
 
--- the records that a reader between two records has still to give, where its bytes are known
+-- the records that a reader between two records has still to give, if its bytes are known
 abbrev pub records_left : {R : Type 0} → (R → Option (List ℕ)) → Reader R → Option (List Record)
 records_left remaining rows = records_between (reader_state rows) (source_of remaining rows)
 
--- all records are those seen and then those left, where they are known
+-- all records are those seen and then those left, if they are known
 abbrev pub AreSeen : Option (List Record) → List Record → Option (List Record) → Type 0
 AreSeen None seen left = ⊤
 AreSeen (Some all) seen None = ⊥

@@ -52,7 +52,7 @@ move_of moves.Back = replayed.ToGiveBack
 move_of moves.Search = replayed.ToSearch
 
 -- A record whose code is this, or that has none, is refused: for that code, or for want of memory
--- where it has none.
+-- if it has none.
 abbrev pub Refuses : Refusal → Option model.Code → Type 0
 Refuses (refusals.Fault code) told = told ≡ Some (code_of code)
 Refuses refusals.Memory told = told ≡ None

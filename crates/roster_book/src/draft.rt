@@ -138,7 +138,7 @@ impl Draft {
             → IsDraftOf command row records (contents_of self)
             → MatchResult result (λ book. IsBookOf command records book)
             (λ fault. TellsFirst command records fault) }
-        // Memory runs out where no pairing lacks a duty alone.
+        // Memory runs out only if no pairing lacks a duty.
         ensures memory { (command : records.Command) (row : ℕ) (records : List Record)
             → IsDraftOf command row records (contents_of self)
             → IsErrOf result BookFault.Memory → first_fault command records ≡ None }

@@ -14,7 +14,7 @@ use csv::ByteRecord;
 use roster_model::limits::{MOST_DIGITS, MOST_UNITS, MOST_ZONE_BYTES};
 use std::str;
 
-/// The field at a place from 0, or no bytes where there is none.
+/// The field at a place from 0, or no bytes if there is none.
 #[tactic(auto, using(crate::proofs::Fields::field_at_is))]
 pub(crate) fn field(fields: &ByteRecord, i: usize) -> &[u8]
     ensures { result.now ≡ model.field (fields_of fields.now) i }

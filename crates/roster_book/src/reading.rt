@@ -20,7 +20,7 @@ use std::io::Read;
 
 /// Reads a book to its end, or to its first fault.
 ///
-/// `Device` is answered where the reader has failed, whatever was read until then.
+/// `Device` is answered if the reader has failed, whatever was read until then.
 pub fn read_book<R: Read>(
     alloc: Global,
     reader: &mut Watched<R>,

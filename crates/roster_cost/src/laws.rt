@@ -1,4 +1,4 @@
-//! What follows from the definitions alone.
+//! What follows from nothing but the definitions.
 
 ghost use Rattle.std.specs.Prelude.{◌≡◌, ◌<◌, ◌≤◌, ◌+◌, ◌+ℤ◌, ◌-ℤ◌, ◌∷◌, ◌++◌, ◌↔◌, ◌⊎◌, [], ℕ, false, true, not, pos, All, List, length, ℤ};
 ghost use Rattle.std.specs.List.{range_with_len};

@@ -14,7 +14,7 @@ use roster_cumulative::one_list_of_each_duty;
 use roster_model::limits::{MOST_PAIRINGS, MOST_PENALTY};
 use roster_problem::{Pairing, Problem, Set, open_number};
 
-/// What a pairing adds where it has the number: its penalty if that is the one for open.
+/// What a pairing adds if it has the number: its penalty if that is the one for open.
 fn penalty_if_open(nobody: u16, pairing: &Pairing, place: u16) -> u64
     ensures value { result ≡ (if place == nobody then pairing.now.penalty else 0) }
     ensures bound { result ≤ pairing.now.penalty }
@@ -42,7 +42,7 @@ fn open_penalties(problem: &Problem, places: &[u16]) -> u64
     penalties
 }
 
-/// What the pairing at place `p` adds where it has the number: its cost units if that is a person's.
+/// What the pairing at place `p` adds if it has the number: its cost units if that is a person's.
 fn units_if_placed(problem: &Problem, place: u16, p: usize) -> i64
     ensures value { result ≡ (if nat_lt place (model.open_number problem.now)
         then units_of problem.now place p else pos 0) }

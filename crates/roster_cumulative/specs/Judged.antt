@@ -29,7 +29,7 @@ sum_of days list (Duty28 last) = in_run (duty_on days list) LONG_RUN last
 sum_of days list (Flight28 last) = in_run (flight_on days list) LONG_RUN last
 sum_of days list MonthFlight = month_flight days list
 
--- The most that there may be of it, where so much was flown before the month, in its calendar year and
+-- The most that there may be of it, if so much was flown before the month, in its calendar year and
 -- in the eleven months before it, and neither is too much by itself.
 abbrev pub most_of : ℕ → ℕ → Sum → ℕ
 most_of year eleven (Duty7 last) = MOST_DUTY_IN_7_DAYS

@@ -1,4 +1,4 @@
-//! What follows from the definitions alone.
+//! What follows from nothing but the definitions.
 
 ghost use Rattle.std.specs.Prelude.{◌≡◌, ◌≤◌, ◌↔◌, ◌+◌, ◌*◌, ◌∷◌, ◌++◌, [], ℕ, false, if◌then◌else◌, List, filter, length};
 ghost use Rattle.std.specs.List.{range_with_len, sum_by};
@@ -16,7 +16,7 @@ use roster_model::limits::MOST_MONTH_MINUTES;
 use roster_model::profile::{MOST_FLIGHT_IN_12_MONTHS, MOST_FLIGHT_IN_A_YEAR};
 
 /// The month's flight of a list is that of its duties, and so that of the duties of a problem that a
-/// person is listed for with a set. Where the sectors of a duty don't overlap, none has more than a
+/// person is listed for with a set. If the sectors of a duty don't overlap, none has more than a
 /// month.
 pub fn flight_of_duties()
     ensures listed { (days : Days) (list : List Duty)
@@ -55,8 +55,8 @@ pub fn one_list_of_each_duty()
         ≤ length problem.duties }
 {}
 
-/// A list keeps the limits just where no judged sum is more than there may be of it. Of what was flown
-/// before the month that is so where neither is too much by itself.
+/// A list keeps the limits exactly if no judged sum is more than there may be of it. Of what was flown
+/// before the month that is so if neither is too much by itself.
 pub fn limits_are_sums()
     ensures { (days : Days) (list : List Duty) (year eleven : ℕ)
         → ((rule : Rule) → HoldsLimit days list year eleven rule)

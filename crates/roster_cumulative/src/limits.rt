@@ -32,7 +32,7 @@ fn keeps_limit(days: &BaseDays, table: &[u64; MOST_DAYS], n: usize, most: u64) -
 }
 
 /// Whether each judged run of `n` days has at most so many minutes of the measure. Those of each day are
-/// summed into the place for them, where that isn't done.
+/// summed into the place for them, if that isn't done.
 fn keeps_summed(
     place: &mut Option<[u64; MOST_DAYS]>,
     days: &BaseDays,
@@ -54,7 +54,7 @@ fn keeps_summed(
 }
 
 /// A duty list as the limits see it, with what the person has flown before the month. The minutes of
-/// its days are summed where a limit first asks for them, those of duty and of flight apart.
+/// its days are summed when a limit first asks for them, those of duty and of flight apart.
 #[derive(Drop)]
 pub struct ListLimits<'a> {
     days: &'a BaseDays,

@@ -50,7 +50,7 @@ pub fn flight_on(days: &BaseDays, list: &DutyList, i: usize) -> i64
 }
 
 /// The greatest duty, in minutes, of a judged run of `n` days; `n` is at most the days before the month.
-/// A run is judged where its last day is of the month or after it.
+/// A run is judged if its last day is of the month or after it.
 pub fn greatest_duty(days: &BaseDays, list: &DutyList, n: usize) -> i64
     requires { n ≤ DAYS_BEFORE }
     ensures value { result ≡ pos (sums.greatest_duty days.now list.now n) }

@@ -29,7 +29,7 @@ pub(crate) fn shared(from: Minute, to: Minute, start: Minute, end: Minute) -> u6
 }
 
 /// Adds to each day the minutes that it shares with the time from one instant to another. It goes
-/// over these days alone.
+/// over these days only.
 fn add_time(table: &mut [u64; MOST_DAYS], days: &BaseDays, from: Minute, to: Minute)
     requires order { from ≤ to }
     requires light { IsLight MOST_DUTIES table.old }

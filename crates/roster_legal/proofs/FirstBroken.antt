@@ -1,4 +1,4 @@
--- The rule that is broken first is one alone, that there is none or one can't be refuted, and what the
+-- The rule that is broken first is only one, that there is none or one can't be refuted, and what the
 -- limits say of a person with a set.
 use Rattle.std.proofs.Common.{◌≡◌, ℕ, zero, suc, ◌<◌, ◌⊎◌, List, Option, Some, None, length, refl, sym, ap, subst, inl, inr, arith}
 use Rattle.std.specs.Prelude.{◌↔◌, IsTrue, Bool, option_map, unwrap_or}

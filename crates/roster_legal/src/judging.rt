@@ -43,7 +43,7 @@ impl<'a> Judge<'a> {
         }
     }
 
-    /// The first rule that person `k` breaks with the set, if there is one. It takes memory only where
+    /// The first rule that person `k` breaks with the set, if there is one. It takes memory only if
     /// the duty list is longer than those before it, or memory ran out since.
     pub fn first_broken(&mut self, k: usize, set: &Set) -> Result<Option<Rule>, AllocError>
         requires person { k < length self.old.persons }

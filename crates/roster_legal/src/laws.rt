@@ -1,4 +1,4 @@
-//! What follows from the definitions alone.
+//! What follows from nothing but the definitions.
 
 ghost use Rattle.std.specs.Prelude.{◌≡◌, ◌<◌, ◌∷◌, [], ℕ, true, List, Option};
 ghost use Rattle.roster_model.specs.Problem.{Problem};
@@ -36,7 +36,7 @@ pub fn has_verdicts()
         → ¬ ¬ ((verdicts : List (Option Rule)) × AreVerdicts problem places verdicts) }
 {}
 
-/// What is part of a legal set is legal, where the duties are in their order in time.
+/// What is part of a legal set is legal, if the duties are in their order in time.
 pub fn part_of_legal_is_legal()
     ensures { (problem : Problem) (k : ℕ) (set part : List ℕ)
         → IsInOrder problem.duties → AreTimed problem.duties

@@ -1,8 +1,8 @@
 //! Which sets of pairings are legal for a person.
 //!
 //! `first_broken` tells the first rule that a person breaks with a set, `locked` the one that is broken
-//! without any pairing, and `is_legal` whether the set is empty or none is broken. They look at the
-//! fixed duties of the person and at the duties of the set alone. A `Judge` answers so for many sets,
+//! without any pairing, and `is_legal` whether the set is empty or none is broken. They look
+//! only at the fixed duties of the person and at the duties of the set. A `Judge` answers so for many sets,
 //! in the memory of one list. In reading order:
 //!
 //! - `listing`: the duty list of a person with a set

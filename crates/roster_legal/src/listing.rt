@@ -25,7 +25,7 @@ pub fn merge<'a>(
     merge_in(Vec::new(alloc), problem, k, set)
 }
 
-/// The same in memory that is there already, which grows where it is too small.
+/// The same in memory that is there already, which grows if it is too small.
 pub(crate) fn merge_in<'a>(
     memory: Vec<u16>,
     problem: &'a Problem,

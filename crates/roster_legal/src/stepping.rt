@@ -44,7 +44,7 @@ impl Spare {
         }
     }
 
-    /// Keeps the memory of a list, where there is room to note that.
+    /// Keeps the memory of a list, if there is room to note that.
     fn give(&mut self, list: Vec<u16>) {
         let _ = self.lists.push(list);
     }

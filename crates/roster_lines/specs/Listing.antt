@@ -74,7 +74,7 @@ pub record IsStem (problem : Problem) (k : ℕ) (stem : Stem) : Type 0 where
 abbrev pub judged_as : Problem → ℕ → List ℕ → List ℕ → Stepped
 judged_as problem k alone set = record { loads = record { problem = problem; person = k; alone = alone }; set = set }
 
--- what is found of the stem with p behind: nothing where that is no line
+-- what is found of the stem with p behind: nothing if that is no line
 abbrev pub LineWith : Problem → ℕ → List ℕ → Stem → ℕ → Option Stepped → Type 0
 LineWith problem k alone stem p found =
     MatchOption found (¬ IsLine problem k (stem.set ++ p ∷ []))

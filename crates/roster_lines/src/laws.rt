@@ -14,13 +14,13 @@ pub fn one_list_of_lines()
         → AreLines problem k a → AreLines problem k b → a ≡ b }
 {}
 
-/// Where the lines of a person are no more than there may be, so are any of them.
+/// If the lines of a person are no more than there may be, so are any of them.
 pub fn few_are_not_crowded()
     ensures { (problem : Problem) (k : ℕ) (sets : List (List ℕ))
         → AreLines problem k sets → length sets ≤ MOST_LINES → ¬ IsCrowded problem k }
 {}
 
-/// Where there is a table, no person has more lines than there may be.
+/// If there is a table, no person has more lines than there may be.
 pub fn nobody_is_crowded()
     ensures { (problem : Problem) (table : List (List Entry)) (k : ℕ)
         → IsTableOf problem table → k < length problem.persons → ¬ IsCrowded problem k }

@@ -43,7 +43,7 @@ impl Model for Lines {
 }
 
 impl Lines {
-    /// The empty line alone, with its cost.
+    /// Only the empty line, with its cost.
     pub(crate) fn empty(alloc: Global, cost: i64) -> Result<Lines, AllocError>
         ensures { IfOk result (λ lines. lines ≡ entry_of [] cost ∷ []) }
     {
@@ -113,7 +113,7 @@ impl Lines {
     }
 
     /// Where the lines stand whose least pairing is `p`: from the first number up to the second, which
-    /// isn't one of them. The two are equal where there is no such line.
+    /// isn't one of them. The two are equal if there is no such line.
     pub fn run_of(&self, p: usize) -> (usize, usize)
         requires { p < MOST_PAIRINGS }
         ensures bounds { (result.0 ≤ result.1) × (result.1 ≤ length self.now) }

@@ -1,4 +1,4 @@
--- Sets as ascending lists of places: what they have, and that this alone makes two of them equal.
+-- Sets as ascending lists of places: what they have, and that only this makes two of them equal.
 use Rattle.std.proofs.Common.{◌≡◌, ℕ, zero, suc, ◌+◌, ◌<◌, ◌≤◌, Bool, true, false, ◌&&◌, ◌||◌, cond, eqb, eq-eqb, List, [], ◌∷◌, ◌++◌, length, get_or, refl, sym, ap, ◌∙◌, subst, inl, inr, arith}
 use Rattle.std.specs.Prelude.{All, Contains, filter}
 use Rattle.std.specs.List.Sorted.{IsStrictlyIncreasing}

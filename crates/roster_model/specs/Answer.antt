@@ -32,7 +32,7 @@ IsProblemFault Solve problem fault = IsCrowdedFault problem fault
 IsProblemFault Check problem fault = ⊥
 IsProblemFault Replay problem fault = IsCrowdedFault problem fault
 
--- a fault of the problem, where no record has one
+-- a fault of the problem, if no record has one
 pub record IsLaterFault (command : Command) (book : List Record) (fault : Fault) : Type 0 where
   pub faultless : first_fault command book ≡ None
   pub later : IsProblemFault command (problem_of book) fault

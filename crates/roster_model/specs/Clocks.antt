@@ -1,10 +1,10 @@
--- What the clocks of a base show, where the text of its zone is the rule. The text is a POSIX rule
+-- What the clocks of a base show, if the text of its zone is the rule. The text is a POSIX rule
 -- (RFC 9636): `jiff` says what it spells, and on which day of a year each of its changes falls. An
 -- hour that the clocks skip or show twice stands for one instant, as RFC 5545 (3.3.5) and `jiff`'s
 -- compatible conversion have it.
 --
 -- Moments are seconds since 1970-01-01T00:00 as the clocks themselves count, offsets are seconds
--- ahead of UTC. A rule has standard time and, where it has summer time too, the moments of a year at
+-- ahead of UTC. A rule has standard time and, if it has summer time too, the moments of a year at
 -- which the clocks are changed to it and back. These are judged year by year, on the clocks.
 use Rattle.std.specs.Prelude.{ℕ, ◌+◌, ◌*◌, ◌/◌, ◌%◌, ℤ, pos, ◌+ℤ◌, ◌-ℤ◌, ◌*ℤ◌, int_lt, unsigned_abs, Bool, ◌==◌, ◌&&◌, not, if◌then◌else◌}
 use Rattle.jiff_core.specs.Calendar.{days_in_year}
@@ -21,13 +21,13 @@ abbrev pub year_ends : ℤ → ℤ
 year_ends year = (first_day year +ℤ pos (days_in_year year)) *ℤ pos 86_400
 
 -- The moment of a change in a year: so many seconds after a day's midnight, but never out of the
--- year. Where the year lacks the day, it is the year's end.
+-- year. If the year lacks the day, it is the year's end.
 unfoldable pub change_in : ℤ → Day × ℤ → ℤ
 change_in year change = match_some (rule_day year change.0) (year_ends year) (λ day.
     clamp_to (year_begins year) (year_ends year) (day *ℤ pos 86_400 +ℤ change.1))
 
--- Summer time runs from the first moment of a season to the second; where the second comes first,
--- it runs across the new year. Where it is ahead of standard time, the clocks skip a gap after its
+-- Summer time runs from the first moment of a season to the second; if the second comes first,
+-- it runs across the new year. If it is ahead of standard time, the clocks skip a gap after its
 -- start. There the offset is the one before the gap, which is standard time's. They show a fold
 -- before its end twice. There the earlier one counts, which is in summer time.
 abbrev pub offset_ahead : ℤ → ℤ → ℤ × ℤ → ℤ → ℤ
@@ -35,7 +35,7 @@ offset_ahead standard summer season at =
     if in_window season at && not (in_span season.0 (season.0 +ℤ (summer -ℤ standard)) at)
     then summer else standard
 
--- Where it is behind standard time, as a winter time may be written, the clocks show a fold before
+-- If it is behind standard time, as a winter time may be written, the clocks show a fold before
 -- its start twice. There the earlier one counts, which is in standard time. They skip a gap after
 -- its end. There the offset is the one before the gap, which is summer time's.
 abbrev pub offset_behind : ℤ → ℤ → ℤ × ℤ → ℤ → ℤ

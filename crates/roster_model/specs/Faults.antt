@@ -82,7 +82,7 @@ first_fault_after command before (fields ∷ rest) =
     fault_or (code_of command before fields) (next_row before)
     (first_fault_after command (before ++ fields ∷ []) rest)
 
--- the first fault of a book; where there is no record at all, the first is no period
+-- the first fault of a book; if there is no record at all, the first is no period
 unfoldable pub first_fault : Command → List Record → Option Fault
 first_fault command [] = Some (fault_at 1 NoPeriod)
 first_fault command (fields ∷ rest) = first_fault_after command [] (fields ∷ rest)

@@ -1,5 +1,5 @@
 -- Lists of places: one number for each pairing in book order, the place of the person who flies it, or
--- the number of persons where it is left open.
+-- the number of persons if it is left open.
 use Rattle.std.specs.Prelude.{ℕ, ◌+◌, Bool, true, false, ◌&&◌, ◌||◌, ◌==◌, nat_lt, if◌then◌else◌, List, [], ◌∷◌, length}
 use Rattle.roster_model.specs.Problem.{Problem}
 

@@ -70,12 +70,12 @@ home_of problem k = home_at problem.bases problem.persons k
 abbrev pub leaves_of : Problem → ℕ → List Leave
 leaves_of problem k = filter (is_leave_of k) problem.leaves
 
--- what it costs that a person's flight in the month misses the target by a minute; nothing where it isn't
+-- what it costs that a person's flight in the month misses the target by a minute; nothing if it isn't
 -- given
 abbrev pub weight_of : Problem → ℕ
 weight_of problem = unwrap_or problem.weight 0
 
--- the cost units of the pairing at place p with the person at place k; none where they aren't given
+-- the cost units of the pairing at place p with the person at place k; none if they aren't given
 abbrev pub units_of : Problem → ℕ → ℕ → ℤ
 units_of problem k p = unwrap_or (units_given problem.costs k p) (pos 0)
 

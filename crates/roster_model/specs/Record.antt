@@ -9,7 +9,7 @@ use Rattle.roster_model.specs.Calendar.{instant_of}
 abbrev pub Record : Type 0
 Record = List (List ℕ)
 
--- the field at a place from 0, and no bytes where there is none
+-- the field at a place from 0, and no bytes if there is none
 abbrev pub field : Record → ℕ → List ℕ
 field fields i = unwrap_or (slice_get fields i) []
 

@@ -1,5 +1,5 @@
 -- Rosters: one number for each pairing in book order, the place of the person who flies it, or the
--- number of persons where it is left open. Each person so has one line, and each pairing is covered
+-- number of persons if it is left open. Each person so has one line, and each pairing is covered
 -- once or open: the set partitioning model of Kohl and Karisch, "Airline Crew Rostering: Problem
 -- Types, Modeling, and Optimization", Annals of Operations Research 127, 2004. That a pairing may be
 -- left open at a penalty is this project's own, as are the costs and the order of rosters.

@@ -84,7 +84,7 @@ word_of_rule Flight28Rule = codes "FLIGHT28"
 word_of_rule FlightYearRule = codes "FLIGHTYEAR"
 word_of_rule Flight12Rule = codes "FLIGHT12"
 
--- What a limit says of a duty list, where so much was flown before the month, in its calendar year and
+-- What a limit says of a duty list, if so much was flown before the month, in its calendar year and
 -- in the eleven months before it. A rule that is no limit says nothing of that.
 abbrev pub HoldsLimit : Days → List Duty → ℕ → ℕ → Rule → Type 0
 HoldsLimit days list year eleven Duty7Rule = KeepsDuty7 days list
@@ -105,7 +105,7 @@ Holds problem k set RecoveryRule = KeepsRecovery (home_of problem k).days (duty_
 Holds problem k set limit =
     HoldsLimit (home_of problem k).days (duty_list problem k set) (year_of problem k) (eleven_of problem k) limit
 
--- A set is legal for a person where it is empty or no rule is broken.
+-- A set is legal for a person if it is empty or no rule is broken.
 abbrev pub IsLegal : Problem → ℕ → List ℕ → Type 0
 IsLegal problem k set = (set ≡ []) ⊎ ((rule : Rule) → Holds problem k set rule)
 
@@ -120,7 +120,7 @@ IsFirstFailing Says (Some broken) =
 abbrev pub IsFirstBroken : Problem → ℕ → List ℕ → Option Rule → Type 0
 IsFirstBroken problem k set broken = IsFirstFailing (Holds problem k set) broken
 
--- What is said of person k with the set: nothing where the set is legal, and else the first rule that is
+-- What is said of person k with the set: nothing if the set is legal, and else the first rule that is
 -- broken.
 abbrev pub IsVerdict : Problem → ℕ → List ℕ → Option Rule → Type 0
 IsVerdict problem k [] verdict = verdict ≡ None

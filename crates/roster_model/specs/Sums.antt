@@ -10,7 +10,7 @@ use Rattle.roster_model.specs.records.Duty.{Duty, Sector}
 abbrev pub duty_between : Duty → ℕ → ℕ → ℕ
 duty_between duty from to = common duty.report duty.release from to
 
--- the flight of a sector: its own time where the person operates it, and none where it positions them
+-- the flight of a sector: its own time if the person operates it, and none if it positions them
 -- (Flight time, operating crew member, positioning: ORO.FTL.105.)
 abbrev pub flown_between : Sector → ℕ → ℕ → ℕ
 flown_between sector from to = if sector.operates then common sector.off sector.on from to else 0

@@ -48,7 +48,7 @@ lock_line person (Some rule) = line_of (codes "LOCKED" ∷ person.id ∷ word_of
 abbrev pub rule_at : List (Option Rule) → ℕ → Option Rule
 rule_at rules k = unwrap_or (slice_get rules k) None
 
--- a line for each person, and where one is locked the line of that behind it
+-- a line for each person, and behind that of a locked one a line that says so
 abbrev pub person_lines : (ℕ → Person → List ℕ) → Problem → List (Option Rule) → List ℕ
 person_lines line problem locks =
     flat_map (λ (entry : ℕ × Person). line entry.0 entry.1 ++ lock_line entry.1 (rule_at locks entry.0))
@@ -67,7 +67,7 @@ unfoldable pub crew_lines : Problem → List (Option Rule) → List ℕ → List
 crew_lines problem locks places =
     person_lines (λ k person. crew_line problem (set_of k places) k person) problem locks
 
--- the report of a roster, where this locks each person
+-- the report of a roster, with what locks each person
 unfoldable pub report_text : Problem → List (Option Rule) → List ℕ → List ℕ
 report_text problem locks places =
     heading (codes "ROSTER") problem places
@@ -96,7 +96,7 @@ unfoldable pub verdict_lines : Problem → List (Option Rule) → List (Option R
 verdict_lines problem locks verdicts =
     person_lines (λ k person. verdict_line person (rule_at verdicts k)) problem locks
 
--- what is said of a roster, where this locks each person, and that is what they break
+-- what is said of a roster, with what locks each person and what their sets break
 unfoldable pub check_text : Problem → List (Option Rule) → List (Option Rule) → List ℕ → List ℕ
 check_text problem locks verdicts places =
     heading (codes "CHECK") problem places ++ verdict_lines problem locks verdicts

@@ -9,7 +9,7 @@
 //! - `profile`: the numbers of the rules
 //! - `Form`: what the bytes of a field must look like
 //! - `Calendar`: instants, periods, and the days round a month
-//! - `Clocks`: what the clocks show where a zone text is the rule
+//! - `Clocks`: what the clocks show by a zone text
 //! - `Zone`: the local days that a base's zone text stands for
 //! - `Window`: what lies in the window of a base
 //! - `Record`: records, their kinds, and the tables that are gathered from them

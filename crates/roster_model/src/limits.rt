@@ -1,4 +1,4 @@
-//! The limits of a book. Each number stands here alone: definitions and code cite it.
+//! The limits of a book. Each number stands only here: definitions and code cite it.
 
 /// The bytes of an identifier, at most.
 pub const MOST_NAME_BYTES: usize = 16;

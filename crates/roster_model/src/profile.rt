@@ -1,4 +1,4 @@
-//! The numbers of the rules: this project's profile of ORO.FTL. Each number stands here alone, and
+//! The numbers of the rules: this project's profile of ORO.FTL. Each number stands only here, and
 //! definitions and code cite it, but for the night's hours: 22:00 and 08:00 are those of the tables of
 //! days (`specs/Zone.antt`).
 

@@ -158,7 +158,7 @@ words_of-places_in words set =
 pub fields_back : (s : Inside) → IsSet s.words → record { words = words_of (places_in s.words) } ≡ s
 fields_back s set = let made : List ℕ → Inside = λ words. record { words = words } in ap made (words_of-places_in s.words set)
 
--- two sets are equal where their words are
+-- two sets are equal if their words are
 pub same_words : (words others : List ℕ) → IsSet words → IsSet others → bytes_eq words others ≡ bytes_eq (places_in words) (places_in others)
 same_words words others set other =
     let by_words = bytes_eq-Decides words others in

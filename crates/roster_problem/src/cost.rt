@@ -9,7 +9,7 @@ pub struct Cost {
     pub person: usize,
     /// The place of the pairing.
     pub pairing: usize,
-    /// The cost units, from -`MOST_UNITS` to `MOST_UNITS`: less than 0 where it saves.
+    /// The cost units, from -`MOST_UNITS` to `MOST_UNITS`: less than 0 if it saves.
     pub units: i32,
 }
 

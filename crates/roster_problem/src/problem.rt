@@ -87,7 +87,7 @@ impl Problem {
         self.tables.period
     }
 
-    /// The cost of a minute by which a person's flight in the month misses the target; 0 where the book
+    /// The cost of a minute by which a person's flight in the month misses the target; 0 if the book
     /// gives none.
     pub fn weight(&self) -> u32
         ensures value { result ≡ weight_of self.now }
@@ -96,7 +96,7 @@ impl Problem {
         self.tables.weight.unwrap_or(0)
     }
 
-    /// The cost units of the person at place `k` with the pairing at place `p`; 0 where the book gives
+    /// The cost units of the person at place `k` with the pairing at place `p`; 0 if the book gives
     /// none. It looks at no other cost.
     pub fn units(&self, k: usize, p: usize) -> i64
         ensures value { result ≡ units_of self.now k p }

@@ -5,7 +5,7 @@ ghost use Rattle.std.specs.Prelude.{◌≡◌, length};
 use std::marker::Model;
 
 /// For each pairing in book order the place of the person who flies it, or the number of persons
-/// where it is left open.
+/// if it is left open.
 #[derive(Debug, Drop)]
 pub struct Places {
     places: Vec<u16>,

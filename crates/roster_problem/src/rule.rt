@@ -8,7 +8,7 @@ ghost use Rattle.roster_problem.specs.declared.rule.TheConstants.Rule.{ALL};
 /// A rule that a person's set of pairings has to keep.
 #[derive(Clone, Copy, Debug, PartialEq, Eq)]
 pub enum Rule {
-    /// A person flies pairings of the home base alone.
+    /// A person flies only pairings of the home base.
     Base,
     /// No two duties share a minute.
     Overlap,

@@ -36,7 +36,7 @@ pub enum Step {
     Search {
         /// The worker.
         worker: usize,
-        /// It looks at the incumbent at each node whose number this divides, and never where it is 0.
+        /// It looks at the incumbent at each node whose number this divides, and never if it is 0.
         every: usize,
     },
 }

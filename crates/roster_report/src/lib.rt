@@ -1,8 +1,8 @@
 //! The three texts that the program writes: the report of a roster, what a check says of one, and the
 //! line of a fault.
 //!
-//! Each is whole in memory before its first byte is written. So where memory runs out, nothing is
-//! written, and where the writer fails, a prefix of the text. In reading order:
+//! Each is whole in memory before its first byte is written. So if memory runs out, nothing is
+//! written, and if the writer fails, a prefix of the text. In reading order:
 //!
 //! - `report`: the report of a roster, written whole
 //! - `check`: what a check says of a roster, written whole

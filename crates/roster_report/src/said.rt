@@ -27,7 +27,7 @@ pub(crate) fn locks_of(alloc: Global, problem: &Problem) -> Result<Vec<Option<Ru
     Ok(locks)
 }
 
-/// What person `k` breaks with their set: nothing where the set is legal, which the empty set is.
+/// What person `k` breaks with their set: nothing if the set is legal, which the empty set is.
 fn verdict_of(
     alloc: Global,
     problem: &Problem,

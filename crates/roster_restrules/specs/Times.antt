@@ -16,7 +16,7 @@ held_by days from i = max from (slice_index days.ten i) + NIGHT_REST
 abbrev pub can_hold : Days → ℕ → ℕ → Bool
 can_hold days from i = nat_le (held_by days from i) (slice_index days.eight (i + 1))
 
--- The time from one instant to another is a recurrent rest just where it reaches the instant `rested`.
+-- The time from one instant to another is a recurrent rest exactly if it reaches the instant `rested`.
 abbrev pub IsRestedBy : Days → ℕ → ℕ → Type 0
 IsRestedBy days from rested = (to : ℕ) → to ≤ LAST_INSTANT → (IsRecurrent days from to ↔ (rested ≤ to))
 

@@ -75,7 +75,7 @@ fn first_of_block(days: &BaseDays, list: &DutyList, first: usize, i: usize) -> u
     }
 }
 
-/// Whether the last duty of a block so far ends soon enough after its first begins, where it ends after
+/// Whether the last duty of a block so far ends soon enough after its first begins, if it ends after
 /// the month begins.
 fn ends_in_time(month_start: Minute, first: &Duty, last: &Duty) -> bool
     ensures { IsTrue result ↔ (month_start < last.now.release

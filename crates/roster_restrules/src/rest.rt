@@ -20,7 +20,7 @@ fn least_rest(home: &Base, next: &Duty) -> i64
 }
 
 /// The rest in minutes that a person with this home needs between two duties: as long as the one
-/// before it, and at least 12 hours where the next reports at home, 10 hours elsewhere.
+/// before it, and at least 12 hours if the next reports at home, 10 hours elsewhere.
 pub fn rest_needed(prev: &Duty, next: &Duty, home: &Base) -> i64
     ensures value { result
         ≡ pos (max (prev.now.release - prev.now.report) (model.least_rest home.now next.now)) }

@@ -17,7 +17,7 @@ use std::alloc::{AllocError, Global};
 use std::marker::Model;
 
 /// When a duty begins and ends, and the first instant up to which the time from its end is a recurrent
-/// rest; it is later than all others where there is none.
+/// rest; it is later than all others if there is none.
 #[derive(Clone, Copy, Debug)]
 pub(crate) struct DutyTimes {
     pub(crate) report: Minute,
@@ -162,7 +162,7 @@ impl<'a> Times<'a> {
     }
 }
 
-/// Whether a block of duties that begins at one instant ends soon enough at another, where it ends after
+/// Whether a block of duties that begins at one instant ends soon enough at another, if it ends after
 /// the month begins.
 fn ends_in_time(month_start: Minute, begun: Minute, ended: Minute) -> bool
     ensures { IsTrue result

@@ -157,7 +157,7 @@ impl Draft {
         push(&mut self.assigns, assign)
     }
 
-    /// The roster of the assignments so far: who flies each pairing, which is open where none names it.
+    /// The roster of the assignments so far: who flies each pairing, which is open if none names it.
     pub(crate) fn assigned(&self, alloc: Global) -> Result<Places, AllocError>
         requires { length self.now.persons.items ≤ MOST_PERSONS }
         ensures { IfOk result (λ places. places ≡ assigned_by (length self.now.persons.items)

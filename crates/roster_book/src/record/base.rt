@@ -53,7 +53,7 @@ impl Draft {
         }
         let days = match days_of(alloc, zone, self.period) {
             Err(Refusal::Fault(code)) => return Err(Refusal::Fault(code)),
-            // Memory ran out, which counts where the record has no fault.
+            // Memory ran out, which counts if the record has no fault.
             found => found,
         };
         if self.bases.len() >= MOST_BASES {

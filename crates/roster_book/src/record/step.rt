@@ -80,7 +80,7 @@ fn columns(fields: &ByteRecord) -> usize
     if has_number(fields) { 4 } else { 3 }
 }
 
-// Whether the fourth field is of its form, where the record has to have it.
+// Whether the fourth field is of its form, if the record has to have it.
 fn is_number_formed(fields: &ByteRecord) -> bool
     ensures { result ≡ (not (model.has_number (fields_of fields.now))
         || form.is_number (model.number_in (fields_of fields.now))) }
@@ -88,7 +88,7 @@ fn is_number_formed(fields: &ByteRecord) -> bool
     !has_number(fields) || is_number(field(fields, 3))
 }
 
-// The number besides the worker's, if it is within its limits; 0 where there is none.
+// The number besides the worker's, if it is within its limits; 0 if there is none.
 fn number_besides(fields: &ByteRecord) -> Option<u32>
     ensures { result ≡ (if model.has_number (fields_of fields.now)
         then (if form.is_number (model.number_in (fields_of fields.now))

@@ -1,4 +1,4 @@
--- Base (this project's own): a person flies pairings of the home base alone.
+-- Base (this project's own): a person flies only pairings of the home base.
 use Rattle.std.specs.Prelude.{◌≡◌, ℕ, List, Some, slice_get, Contains}
 use Rattle.roster_model.specs.Problem.{Problem}
 use Rattle.roster_model.specs.records.Crew.{Person}

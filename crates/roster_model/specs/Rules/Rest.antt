@@ -5,7 +5,7 @@ use Rattle.roster_model.specs.declared.profile.TheConstants.{REST_AT_HOME, REST_
 use Rattle.roster_model.specs.records.Base.{Base}
 use Rattle.roster_model.specs.records.Duty.{Duty, Holder, OfPairing, OfPerson}
 
--- The least rest before a duty, in minutes: the longer one where it reports at home, and the shorter
+-- The least rest before a duty, in minutes: the longer one if it reports at home, and the shorter
 -- one away from base. (ORO.FTL.235(a)(1) and (b).)
 abbrev pub least_rest : Base → Duty → ℕ
 least_rest home next = if bytes_eq next.station home.id then REST_AT_HOME else REST_AWAY

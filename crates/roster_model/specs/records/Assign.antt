@@ -40,7 +40,7 @@ abbrev pub assigns_in : List Record → List Assign
 assigns_in records = entries_of AssignRecord assign_of records
 
 -- the number of the pairing at place p in the roster: the place of the person who flies it, or the
--- number of persons where nobody does
+-- number of persons if nobody does
 abbrev pub assigned_number : ℕ → List Assign → ℕ → ℕ
 assigned_number persons assigns p =
     unwrap_or (option_and_then (λ assign. assign.person) (find (is_assign_of p) assigns)) persons

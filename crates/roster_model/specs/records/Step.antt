@@ -14,12 +14,12 @@ pub data Step : Type 0 where
   Take : ℕ → ℕ → Step
   -- gives half of its part to the list
   Halve : ℕ → Step
-  -- goes on to the next person, where its part has one line
+  -- goes on to the next person, if its part has one line
   Descend : ℕ → Step
   -- gives its part back to the list
   Back : ℕ → Step
   -- searches its part, and looks at the incumbent at each node whose number the last number divides; never
-  -- where that is 0
+  -- if that is 0
   Search : ℕ → ℕ → Step
 
 -- the same without its numbers
@@ -72,7 +72,7 @@ number_in fields = field fields 3
 abbrev pub has_number : Record → Bool
 has_number fields = option_map_or is_numbered (move_in fields) false
 
--- the number besides the worker's, 0 where there is none
+-- the number besides the worker's, 0 if there is none
 abbrev pub number_besides : Record → ℕ
 number_besides fields = if has_number fields then amount_of (number_in fields) else 0
 
