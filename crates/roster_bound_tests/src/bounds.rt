@@ -42,7 +42,7 @@ fn bound_over(alloc: Global, problem: &Problem, table: &Table, prices: Prices) -
     Ok(Node::root(alloc, &tables).bound())
 }
 
-/// The bound at the root where both pairings have this price.
+/// The bound at the root if both pairings have this price.
 fn bound_at(alloc: Global, price: i64) -> Result<i64, Fail> {
     let prices = Prices::new([price, price].to_vec(alloc)?)
         .ok()

@@ -94,7 +94,7 @@ fn over(
     Ok(searched(alloc, problem, table, &tables, span, sight, every, &known)?)
 }
 
-/// What the search of this span answers with so many nodes from look to look, where a roster is shown
+/// What the search of this span answers with so many nodes from look to look, if a roster is shown
 /// with these places and this cost. It knows the roster that leaves all open.
 fn found(
     alloc: Global,

@@ -68,7 +68,7 @@ pub record ChosenLines : Type 0 where
   pub tables : PricedTable
   pub lines : List ℕ
 
--- the person whose line has pairing p, and the next person where no line has it; the first line is that
+-- the person whose line has pairing p, and the next person if no line has it; the first line is that
 -- of person k
 abbrev pub placing_person : List (List Entry) → ℕ → List ℕ → ℕ → ℕ
 placing_person table k [] p = k
@@ -127,7 +127,7 @@ reduced_at tables k set = reduced_cost tables.problem (price_at tables.prices) k
 abbrev pub penalty_at : Problem → ℕ → ℕ
 penalty_at problem p = unwrap_or (option_map (λ pairing. pairing.penalty) (slice_get problem.pairings p)) 0
 
--- that penalty where the pairing is open, and its price elsewhere
+-- that penalty if the pairing is open, else its price
 abbrev pub penalty_or_price : PricedTable → ℕ → ℕ → ℤ
 penalty_or_price tables p x =
     if x == length tables.problem.persons then pos (penalty_at tables.problem p) else price_at tables.prices p

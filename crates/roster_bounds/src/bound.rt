@@ -33,7 +33,7 @@ impl<'a> Node<'a> {
         word_at_most(self.persons_bound() + i128::from(self.pairings_bound()))
     }
 
-    /// Whether no roster of the node has an earlier key: yes only where that is so. It takes no memory.
+    /// Whether no roster of the node has an earlier key: yes only if that is so. It takes no memory.
     pub fn may_skip(&self, key: &Key<'_>) -> bool
         requires { length key.now.places ≡ length self.now.tables.problem.pairings }
         ensures { IsTrue result → (places : List ℕ) → IsOfNode self.now places
@@ -46,7 +46,7 @@ impl<'a> Node<'a> {
         bound > key.cost
     }
 
-    /// Whether no roster of the node stands before the places: yes only where that is so.
+    /// Whether no roster of the node stands before the places: yes only if that is so.
     fn is_behind(&self, places: &[u16]) -> bool
         requires { length places.now ≡ length self.now.tables.problem.pairings }
         ensures { IsTrue result → (others : List ℕ) → IsOfNode self.now others
@@ -108,7 +108,7 @@ impl<'a> Node<'a> {
         least
     }
 
-    /// The reduced cost of line `i` of the next person, or no less than any where the line shares a
+    /// The reduced cost of line `i` of the next person, or no less than any if the line shares a
     /// pairing with the lines.
     fn reduced_if_apart(&self, i: usize) -> i128
         requires person { length self.now.lines < length self.now.tables.problem.persons }
@@ -159,7 +159,7 @@ impl<'a> Node<'a> {
     }
 }
 
-/// The number, or the greatest of a word of 64 bits where it is above that.
+/// The number, or the greatest of a word of 64 bits if it is above that.
 fn word_at_most(number: i128) -> i64
     requires { neg_ℤ (pos (2 ^ 63)) ≤ℤ number }
     ensures { result ≤ℤ number }

@@ -1,4 +1,4 @@
-//! Which prices to take where none are known.
+//! Which prices to take if none are known.
 
 ghost use Rattle.std.specs.Prelude.{◌≡◌, ◌≤◌, ◌⊎◌, IfOk};
 ghost use Rattle.roster_lines.specs.Person.{IsTableOf};
@@ -45,7 +45,7 @@ fn tables_at<'a>(
     }
 }
 
-/// Those of two tables whose bound at the root is greater; the first where they are equal.
+/// Those of two tables whose bound at the root is greater; the first if they are equal.
 fn of_greater_bound<'a>(alloc: Global, first: Tables<'a>, second: Tables<'a>) -> Tables<'a>
     ensures { (result ≡ first.entry) ⊎ (result ≡ second.entry) }
 {

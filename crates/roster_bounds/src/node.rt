@@ -49,7 +49,7 @@ impl<'a> Node<'a> {
         }
     }
 
-    /// The node with line `i` of the next person as well; none exactly where that line shares a pairing
+    /// The node with line `i` of the next person as well; none exactly if that line shares a pairing
     /// with one of the lines.
     pub fn then(&self, i: usize) -> Result<Option<Node<'a>>, AllocError>
         requires person { length self.now.lines < length self.now.tables.problem.persons }
@@ -95,7 +95,7 @@ impl<'a> Node<'a> {
         })
     }
 
-    /// The person whose line has the pairing at place `p`, and the next person where no line has it. No
+    /// The person whose line has the pairing at place `p`, and the next person if no line has it. No
     /// roster of the node has an earlier person there.
     pub fn least_place(&self, p: usize) -> u16
         requires { p < length self.now.tables.problem.pairings }
@@ -108,7 +108,7 @@ impl<'a> Node<'a> {
     }
 }
 
-/// The first person whose line has the pairing at place `p`, and the next person where no line has it.
+/// The first person whose line has the pairing at place `p`, and the next person if no line has it.
 fn placing(table: &Table, lines: &[usize], p: usize) -> usize
     requires persons { length lines.now ≤ length table.now }
     requires numbers { (k i : ℕ) → slice_get lines.now k ≡ Some i

@@ -35,7 +35,7 @@ impl Model for Prices {
 }
 
 impl Prices {
-    /// The prices in the vector; the vector again where one of them is too far from 0.
+    /// The prices in the vector; the vector again if one of them is too far from 0.
     pub fn new(prices: Vec<i64>) -> Result<Prices, Vec<i64>>
         ensures ok { IsOk result ↔ All (IsWithin MOST_PRICE) prices.items }
         ensures value { IfOk result (λ made. made ≡ prices.items) }

@@ -28,7 +28,7 @@ pub(crate) fn reduced(problem: &Problem, table: &Table, prices: &Prices, k: usiz
     reduced_by(problem, table, prices, k, i, prices.sum(&table.set(k, i)))
 }
 
-/// The same, where the sum of the prices of its pairings is known.
+/// The same, if the sum of the prices of its pairings is known.
 fn reduced_by(
     problem: &Problem,
     table: &Table,

@@ -49,7 +49,7 @@ impl<'a> Model for Tables<'a> {
 
 impl<'a> Tables<'a> {
     /// The tables of a problem, the table of its lines, and a price for each pairing. The prices are
-    /// handed back where memory runs out.
+    /// handed back if memory runs out.
     pub fn build(
         alloc: Global,
         problem: &'a Problem,

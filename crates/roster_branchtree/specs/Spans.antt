@@ -20,7 +20,7 @@ pub record LiesIn (span : Span) (numbers : List ℕ) : Type 0 where
 abbrev pub IsInSpan : List (List Entry) → Span → List ℕ → Type 0
 IsInSpan table span places = (numbers : List ℕ) × AreNumbersOf (map sets_of table) places numbers × LiesIn span numbers
 
--- the range of one line number, where there is one
+-- the range of one line number, if there is one
 abbrev pub range_or : Option ℕ → ℕ × ℕ → ℕ × ℕ
 range_or (Some i) other = (i, i + 1)
 range_or None other = other

@@ -12,7 +12,7 @@ use roster_lines::Table;
 use roster_problem::Problem;
 use std::alloc::{AllocError, Global};
 
-/// The node of the path: of the legal rosters that give the first persons these lines. There is none where
+/// The node of the path: of the legal rosters that give the first persons these lines. There is none if
 /// a number is that of no line, or two lines share a pairing, and then there is no such roster.
 pub(crate) fn node_of<'a>(
     alloc: Global,

@@ -32,11 +32,11 @@ pub struct Done {
 /// Searches the span of the piece. The roster that it answers is legal, with its cost; its key is after
 /// that of no legal roster in the span, and not after that of the known one.
 ///
-/// It looks at the sight at its nodes `every`, twice `every` and so on, and never where that is 0; its
+/// It looks at the sight at its nodes `every`, twice `every` and so on, and never if that is 0; its
 /// first node is the span's own, and it is met before anything may end the search. What it is shown may be
 /// anything, and so may the span: a path that is too long, numbers that name no line, or a range with
-/// nothing in it. Where `every` is 0 the answer is the known roster or one of the span. The piece is
-/// handed back where memory runs out.
+/// nothing in it. If `every` is 0, the answer is the known roster or one of the span. The piece is
+/// handed back if memory runs out.
 pub fn search<S: Sight>(
     alloc: Global,
     problem: &Problem,

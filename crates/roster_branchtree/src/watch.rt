@@ -18,14 +18,14 @@ use std::marker::Model;
 use std::sync::Arc;
 
 /// Counts the nodes of a search, and looks at a sight at each node whose number `every` divides; never
-/// where that is 0. It has the earliest legal roster of those that it began with and has seen.
+/// if that is 0. It has the earliest legal roster of those that it began with and has seen.
 #[derive(Drop)]
 pub(crate) struct Watch<'a, S> {
     problem: &'a Problem,
     table: &'a Table,
     sight: &'a mut S,
     every: usize,
-    // The nodes until the next look; 0 where there is none.
+    // The nodes until the next look; 0 if there is none.
     left: usize,
     best: Arc<Roster>,
 }
@@ -119,7 +119,7 @@ impl<'a, S: Sight> Nodes for Watch<'a, S> {
     ghost follows = { keeps_then };
 }
 
-/// The earlier of a roster, if there is one, and another; the other one where the keys are equal.
+/// The earlier of a roster, if there is one, and another; the other one if the keys are equal.
 pub(crate) fn earlier_if(
     alloc: Global,
     roster: Option<Roster>,
@@ -134,7 +134,7 @@ pub(crate) fn earlier_if(
     }
 }
 
-/// The earlier of two rosters; the second where the keys are equal.
+/// The earlier of two rosters; the second if the keys are equal.
 fn earlier_of(alloc: Global, roster: Roster, other: Arc<Roster>) -> Result<Arc<Roster>, AllocError>
     ensures { IfOk result (λ best. IsEarlierOf roster (arc_value other) (arc_value best)) }
 {

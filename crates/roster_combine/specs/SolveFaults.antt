@@ -10,7 +10,7 @@ abbrev pub IsSolveFaultOf : Problem → SolveFault → Type 0
 IsSolveFaultOf problem (TooMany k) = IsFirstCrowded problem k
 IsSolveFaultOf problem Memory = Unit {0}
 
--- where there is no table of lines, there is no roster for the same reason
+-- if there is no table of lines, there is no roster for the same reason
 abbrev pub fault_of_table : TableFault → SolveFault
 fault_of_table (tables.TooMany k) = TooMany k
 fault_of_table tables.Memory = Memory

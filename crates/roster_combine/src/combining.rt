@@ -117,7 +117,7 @@ fn least_in(list: &[Settled], known: Arc<Roster>) -> Result<Arc<Roster>, AllocEr
     Ok(best)
 }
 
-/// The earlier of a part's roster and the known one; the known one where the keys are equal.
+/// The earlier of a part's roster and the known one; the known one if the keys are equal.
 fn earlier_of(settled: &Settled, known: Arc<Roster>) -> Result<Arc<Roster>, AllocError>
     ensures { IfOk result (λ best. IsEarlierOf settled.now.best (arc_value known) (arc_value best)) }
 {

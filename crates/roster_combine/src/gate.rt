@@ -16,7 +16,7 @@ pub enum Point {
     Finished,
 }
 
-/// Is told how far each worker is. It may keep a worker waiting: no lock is held where it is passed.
+/// Is told how far each worker is. It may keep a worker waiting: no lock is held when it is passed.
 pub trait Gate {
     /// The worker with this number, from 0, has come to the point.
     fn pass(&self, worker: usize, point: Point);

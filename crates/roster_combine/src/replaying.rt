@@ -27,7 +27,7 @@ use std::sync::Arc;
 use std::sync::ledger::{Blank, Ledger};
 
 /// The best roster, found under a schedule. In one thread it does for `MOST_WORKERS` workers what the steps
-/// say, one after another, on a pool of all rosters; a step that the pool refuses, or that needs a span where
+/// say, one after another, on a pool of all rosters; a step that the pool refuses, or that needs a span while
 /// the worker has none, changes nothing. After the last step the workers give back what they have, and
 /// worker 0 searches what is left. Whatever the steps are, the roster is that of `solve`, and nothing is
 /// searched again.

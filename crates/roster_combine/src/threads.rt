@@ -80,7 +80,7 @@ fn best_by_threads<R: Threads + Sync>(
 }
 
 /// `solve_over`, over a new pool; the incumbent begins with the given roster. The calling thread is worker
-/// 0. Where a thread can't be started its worker comes last, when nothing is left to do.
+/// 0. If a thread can't be started, its worker comes last, when nothing is left to do.
 fn solve_from<L: Ledger + Send + Sync, R: Threads + Wait + Sync, G: Gate + Sync>(
     rt: &R,
     alloc: Global,

@@ -25,7 +25,7 @@ use std::sync::{Arc, Wait};
 ///
 /// Before each search it splits its span while nothing is pending for other workers. It looks at the
 /// incumbent at each node of its searches, and raises it to each roster that it finds. A pool
-/// that refuses its calls is stopped, and the list so far is the answer. Where memory runs out the pool is
+/// that refuses its calls is stopped, and the list so far is the answer. If memory runs out, the pool is
 /// stopped too, and its hand stays full. It may wait for a span and for the locks.
 pub fn work<R: Wait, L: Ledger, G: Gate>(
     rt: &R,
@@ -110,7 +110,7 @@ impl<'a, R: Wait, L: Ledger, G: Gate> Worker<'a, R, L, G> {
         Ok(list)
     }
 
-    /// Takes a span, searches what it keeps of it and finishes that. None where the pool has none for it.
+    /// Takes a span, searches what it keeps of it and finishes that. None if the pool has none for it.
     fn turn(&self, known: &Arc<Roster>, share: &mut Share<L>) -> Result<Option<Settled>, AllocError>
         requires { IsHeld self.now.problem (arc_value known.now) }
         ensures settled { IfOk result (λ got. IfSome got (IsSettled self.now.problem self.now.table)) }
@@ -195,7 +195,7 @@ impl<'a, R: Wait, L: Ledger, G: Gate> Worker<'a, R, L, G> {
         }
     }
 
-    /// Raises the incumbent to what was found, and finishes the span. None where the pool refuses that.
+    /// Raises the incumbent to what was found, and finishes the span. None if the pool refuses that.
     fn finished(&self, done: Done, share: &mut Share<L>) -> Result<Option<Settled>, AllocError>
         requires { IsSettled self.now.problem self.now.table
             (record { span = done.piece; best = arc_value done.best }) }

@@ -23,7 +23,7 @@ use std::test::Fail;
 /// How many lines each person of `TWO_DAYS` has.
 const WIDTHS: [usize; 6] = [36, 36, 36, 36, 36, 36];
 
-/// What a lone worker hands in, and what the pool leaves. None where the pool isn't at rest.
+/// What a lone worker hands in, and what the pool leaves. None if the pool isn't at rest.
 fn worked<L: Ledger, R: Wait>(
     rt: &R,
     alloc: Global,
@@ -153,7 +153,7 @@ fn put_together(
     combine(alloc, problem, table, lists, closed)
 }
 
-/// What the list of a lone worker comes to. None where its pool isn't at rest.
+/// What the list of a lone worker comes to. None if its pool isn't at rest.
 fn combined<L: Ledger, R: Wait>(
     rt: &R,
     alloc: Global,

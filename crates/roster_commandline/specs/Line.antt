@@ -13,7 +13,7 @@ use Rattle.roster_commandline.specs.declared.line.LineFault.TheVariants as fault
 use Rattle.roster_problem.specs.declared.command.Command.{Command}
 use Rattle.roster_problem.specs.declared.command.Command.TheVariants as commands
 
--- `--workers N`, from 1 to the workers that search together at most, and 1 where it isn't given
+-- `--workers N`, from 1 to the workers that search together at most, and 1 if it isn't given
 abbrev pub workers_rule : Rule
 workers_rule = record (new_rule (codes "workers")) {
   long = Some (codes "workers");

@@ -51,7 +51,7 @@ fn solve<'a>(alloc: Global) -> Result<clap::Command<'a>, AllocError>
         .arg(workers)
 }
 
-/// The program's command line with `solve` alone.
+/// The program's command line with `solve` as its only command.
 fn solver<'a>(alloc: Global) -> Result<clap::Command<'a>, AllocError>
     ensures app { IfOk result (λ c. app_of c ≡ with_subcommand demanding_app solve_app.top) }
     ensures local { IfOk result (λ c. (views.out-Command c).has_globals ≡ false) }
@@ -107,7 +107,7 @@ pub fn read_line<'a, S: AsStr>(alloc: Global, words: &'a [S]) -> Result<(Command
     // What clap refuses, it refuses for one of its own reasons.
     ensures kind { fault_of roster_app (map S.text words.entry.now) ≢ []
         → IfErr result (TellsKind (fault_of roster_app (map S.text words.entry.now))) }
-    // Where clap takes the words and they name a command, only want of memory can come.
+    // If clap takes the words and they name a command, only want of memory can come.
     ensures taken { (command : asked.Command) → takes roster_app (map S.text words.entry.now) ≡ true
         → command_name (map S.text words.entry.now) ≡ Some (spelling command)
         → IfErr result (λ e. e ≡ LineFault.Memory) }

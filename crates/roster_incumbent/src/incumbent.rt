@@ -10,7 +10,7 @@ use roster_problem::Roster;
 use std::alloc::AllocError;
 use std::sync::{Arc, Mutex, Wait};
 
-/// The roster of least key among those that it was made from and raised to: the first of them where the
+/// The roster of least key among those that it was made from and raised to: the first of them if the
 /// keys are equal. Who holds it holds a lock, for one look or one raise at a time. The rosters are trusted
 /// in nothing: they needn't be legal, of their cost, or of one problem.
 #[derive(Drop)]
@@ -26,7 +26,7 @@ impl Incumbent {
         }
     }
 
-    /// The roster at this moment. There is none only where it can't be shared once more. It may wait for the
+    /// The roster at this moment. There is none only if it can't be shared once more. It may wait for the
     /// lock.
     pub fn look(&self, rt: &impl Wait) -> Option<Arc<Roster>> {
         Arc::try_clone(&*self.best.lock(rt)).ok()
@@ -39,7 +39,7 @@ impl Incumbent {
     }
 }
 
-/// Keeps the earlier of two rosters by their keys: the old one where the keys are equal. It takes no memory.
+/// Keeps the earlier of two rosters by their keys: the old one if the keys are equal. It takes no memory.
 pub fn keep_less(best: &mut Arc<Roster>, roster: Arc<Roster>)
     ensures { arc_value best.new ≡ less_of (arc_value best.old) (arc_value roster) }
 {

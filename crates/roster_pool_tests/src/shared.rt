@@ -139,8 +139,8 @@ fn stops<L: Ledger, R: Wait + Abort>(rt: &R, alloc: Global, blank: Blank) -> Res
     Ok(())
 }
 
-/// A worker that takes what is pending, splits it where nothing else is, and finishes what it has left;
-/// until nothing is pending and nobody has a span. False where the pool refused something; then it is stopped,
+/// A worker that takes what is pending, splits it if nothing else is, and finishes what it has left;
+/// until nothing is pending and nobody has a span. False if the pool refused something; then it is stopped,
 /// so that no other worker waits for a span that never comes back.
 fn work<L: Ledger, R: Wait>(
     rt: &R,

@@ -28,7 +28,7 @@ struct Candidate {
 }
 
 /// The person and the pairing that it is best to settle next: some of the person's lines have the pairing,
-/// and some haven't. It gives (0, 0) where there are none.
+/// and some haven't. It gives (0, 0) if there are none.
 pub fn branch(
     alloc: Global,
     problem: &Problem,

@@ -13,7 +13,7 @@ use std::marker::Model;
 
 /// What each pairing earns the line that holds it, in parts of a cost unit: one price for each, within
 /// `MOST_PRICE`. They move step by step, and keep their direction as a falling stone does. Contracts see
-/// the prices alone.
+/// only the prices.
 #[derive(Debug, Drop)]
 pub struct DualPrices {
     prices: Vec<i64>,
@@ -144,7 +144,7 @@ impl DualPrices {
         self.pace = 0;
     }
 
-    /// Counts lines closer to the least alone.
+    /// Counts only lines closer to the least.
     pub(crate) fn sharpen(&mut self)
         ensures { self.new ≡ self.old }
     {

@@ -27,7 +27,7 @@ struct Draft {
 
 /// A roster that is near the best at these prices and seems to cost no more than the room: persons choose
 /// one after the other, from the one at place `turn` on, and then again as long as one of them saves
-/// something by it. None where no line is left for a person, or where it costs more. Nothing is promised
+/// something by it. None if no line is left for a person, or if it costs more. Nothing is promised
 /// of the places but how many they are. The room is as in `Ascent::look`.
 pub fn rounded(
     alloc: Global,
@@ -106,7 +106,7 @@ impl Draft {
         cost
     }
 
-    // Each person takes a line of what is left, those with one line first. False where there is none.
+    // Each person takes a line of what is left, those with one line first. False if there is none.
     fn choose_all(
         &mut self,
         problem: &Problem,
@@ -132,7 +132,7 @@ impl Draft {
         true
     }
 
-    // Person `k` takes the line of least value of what is left. False where there is none.
+    // Person `k` takes the line of least value of what is left. False if there is none.
     fn choose(&mut self, region: &Region, prices: &[i64], k: usize, places: &mut [u16]) -> bool
         requires { k < length region.now.choices }
     {

@@ -61,7 +61,7 @@ CostsAtMost problem most places = cost_of problem places ≤ℤ most
 abbrev pub IsAllAbove : Problem → Region → ℤ → Type 0
 IsAllAbove problem region most = (places : List ℕ) → IsIn problem region places → most <ℤ cost_of problem places
 
--- where a roster of the region costs at most so much, person k's line adds no more than the cut
+-- if a roster of the region costs at most so much, person k's line adds no more than the cut
 abbrev pub IsValueWithin : Problem → Region → List ℤ → ℕ → ℤ → ℤ → Type 0
 IsValueWithin problem region prices k most cut =
     (places : List ℕ) → IsIn problem region places → CostsAtMost problem most places → value_in problem region prices places k ≤ℤ cut
@@ -71,7 +71,7 @@ abbrev pub IsShareWithin : Problem → Region → List ℤ → ℕ → ℤ → �
 IsShareWithin problem region prices p most cut =
     (places : List ℕ) → IsIn problem region places → CostsAtMost problem most places → share_of problem region prices places p ≤ℤ cut
 
--- Where a roster of the region costs at most so much, what each line and each pairing adds is no further
+-- If a roster of the region costs at most so much, what each line and each pairing adds is no further
 -- than the slack above what it adds at least.
 pub record IsSlack (problem : Problem) (region : Region) (prices values terms : List ℤ) (most slack : ℤ) : Type 0 where
   pub lines : (k : ℕ) → k < length problem.persons

@@ -1,4 +1,4 @@
--- What is left to decide in a region, and the roster where nothing is.
+-- What is left to decide in a region, and the roster if nothing is.
 use Rattle.std.specs.Prelude.{◌≡◌, ℕ, List, slice_index, All}
 use Rattle.roster_model.specs.Problem.{Problem}
 use Rattle.roster_model.specs.Rules.{is_among}

@@ -26,7 +26,7 @@ pub(crate) const MOST_TERM: u64 = 1 << 44;
 /// the choice before as its depth says, less one, and then comes its last.
 #[derive(Clone, Copy, Debug)]
 pub struct Choice {
-    /// What the line costs more than the empty one, in parts of a cost unit. It says nothing where the
+    /// What the line costs more than the empty one, in parts of a cost unit. It says nothing if the
     /// choice isn't live.
     pub extra: i64,
     /// How many pairings the line has.

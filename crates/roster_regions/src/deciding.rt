@@ -1,4 +1,4 @@
-//! What is left to decide in a region, and the roster where nothing is.
+//! What is left to decide in a region, and the roster if nothing is.
 
 ghost use Rattle.std.specs.Prelude.{◌≡◌, ◌<◌, ◌↔◌, ℕ, List, IfOk, IfSome, IsTrue, MatchOption, length};
 ghost use Rattle.roster_regions.specs.Propagation.{IsEmpty};
@@ -36,7 +36,7 @@ impl Region {
         None
     }
 
-    /// A person and a pairing that some of the person's lines have, and some haven't; none where all
+    /// A person and a pairing that some of the person's lines have, and some haven't; none if all
     /// lines of each person are the same.
     pub fn pick(&self, problem: &Problem) -> Option<(usize, usize)>
         requires { IsRegion problem.now self.now }

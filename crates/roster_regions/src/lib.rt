@@ -12,7 +12,7 @@
 //! - `propagate`: what follows for the other persons from the lines of each
 //! - `tighten`: without what costs too much
 //! - `inside`: whether a roster is in a region
-//! - `deciding`: what is left to decide in a region, and the roster where nothing is
+//! - `deciding`: what is left to decide in a region, and the roster if nothing is
 #![tactic(auto)]
 
 mod bound;

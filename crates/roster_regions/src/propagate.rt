@@ -89,7 +89,7 @@ impl Region {
         Ok(())
     }
 
-    /// Draws what follows for the pairing at place `p` from who may have it. No roster is lost; where
+    /// Draws what follows for the pairing at place `p` from who may have it. No roster is lost; if
     /// it answers no, there is none.
     fn settle(&mut self, alloc: Global, problem: &Problem, p: usize) -> Result<bool, AllocError>
         requires region { IsRegion problem.now self.old }
@@ -125,7 +125,7 @@ impl Region {
         }
     }
 
-    /// Draws what follows from who may have each pairing. No roster is lost; where it answers no, there
+    /// Draws what follows from who may have each pairing. No roster is lost; if it answers no, there
     /// is none. It asks nothing of pairings of which nothing followed as it began.
     pub(crate) fn propagate(&mut self, alloc: Global, problem: &Problem) -> Result<bool, AllocError>
         requires { IsRegion problem.now self.old }

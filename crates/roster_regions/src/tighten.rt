@@ -50,7 +50,7 @@ impl Bounds {
 impl Region {
     ghost use Rattle.roster_regions.specs.Tightening.{IsUse};
 
-    /// A cost in parts of a cost unit above what it costs that nobody has a pairing; none where that is
+    /// A cost in parts of a cost unit above what it costs that nobody has a pairing; none if that is
     /// further from 0 than any roster's.
     fn limit(&self, most: i64) -> Option<i64>
         ensures value { IfSome result
@@ -135,7 +135,7 @@ impl Region {
         }
     }
 
-    /// Decides for each pairing whether it is open, where the slack leaves only one answer.
+    /// Decides for each pairing whether it is open, if the slack leaves only one answer.
     fn fix_pairings(&mut self, problem: &Problem, prices: &[i64], bounds: &Bounds, most: i64)
         requires region { IsRegion problem.now self.old }
         requires prices { ArePrices prices.now }
@@ -180,7 +180,7 @@ impl Region {
     }
 
     /// Takes away what no roster that costs at most so much has: lines, and open or flown pairings. It
-    /// answers no where there is no such roster in the region.
+    /// answers no if there is no such roster in the region.
     pub fn tighten(
         &mut self,
         alloc: Global,
@@ -206,7 +206,7 @@ impl Region {
         Ok(true)
     }
 
-    /// What the parts add at least, and what a cost leaves over; none where every roster costs more.
+    /// What the parts add at least, and what a cost leaves over; none if every roster costs more.
     fn bounds(
         &self,
         alloc: Global,
@@ -239,7 +239,7 @@ impl Region {
         }))
     }
 
-    /// How much is left to decide: it falls where something is taken away.
+    /// How much is left to decide: it falls if something is taken away.
     fn weight(&self, problem: &Problem) -> usize {
         let mut weight: usize = 0;
         for lines in &self.persons {

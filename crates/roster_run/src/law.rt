@@ -1,4 +1,4 @@
-//! What follows from the definitions alone.
+//! What follows from only the definitions.
 
 ghost use Rattle.std.specs.Prelude.{◌≡◌, ℕ, List};
 ghost use Rattle.roster_model.specs.Answer.{IsAnswer};

@@ -23,7 +23,7 @@ use std::sync::Wait;
 use std::thread::Threads;
 
 /// Reads a book to its end or to its first fault, does what the command asks, and writes the one
-/// answer. The status tells where that could not be done.
+/// answer. The status tells if that could not be done.
 ///
 /// So many workers search for the best roster, each in a thread of its own, and pass the gate. What is written
 /// is said without them: whatever their number, whichever parts of the search each takes, and whenever it sees
@@ -41,7 +41,7 @@ pub fn run<T: Threads + Wait + Sync, R: Read, W: Write, G: Gate + Sync>(
     requires reader_open { has_failed reader.old ≡ false }
     requires writer_open { has_failed writer.old ≡ false }
 
-    // What the command reports of the book in the bytes that the reader told, or, where its bytes
+    // What the command reports of the book in the bytes that the reader told, or, if its bytes
     // aren't known, of some book.
     ensures answered { result ≡ Status.Answered → OfTold (λ records.
         Writes (IsReport (command_of command) records)
@@ -62,7 +62,7 @@ pub fn run<T: Threads + Wait + Sync, R: Read, W: Write, G: Gate + Sync>(
     ensures flushed { (result ≡ Status.Answered → is_flushed writer.new ≡ true)
         × (result ≡ Status.Refused → is_flushed writer.new ≡ true) }
 
-    // A device's failure is told where it happened and only there.
+    // A device's failure is told if it happened, and only then.
     ensures read_failed { (result ≡ Status.ReadFailed) ↔ (has_failed reader.new ≡ true) }
     ensures write_failed { (result ≡ Status.WriteFailed) ↔ (has_failed writer.new ≡ true) }
 

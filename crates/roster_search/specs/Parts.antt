@@ -16,7 +16,7 @@ base_of_person problem k = unwrap_or (option_map (λ person. person.base) (slice
 abbrev pub base_of_pairing : Problem → ℕ → ℕ
 base_of_pairing problem p = unwrap_or (option_map (λ pairing. pairing.base) (slice_get problem.pairings p)) 0
 
--- Where the test says yes of a place the number that the first list has there, and elsewhere the one that
+-- If the test says yes of a place, the number that the first list has there, and elsewhere the one that
 -- the second has. The first number is that of place p.
 abbrev pub pick : (ℕ → Bool) → ℕ → List ℕ → List ℕ → List ℕ
 pick test p [] ys = []

@@ -76,7 +76,7 @@ fn whole(alloc: Global, problem: &Problem, table: &Table) -> Result<Vec<(usize, 
     Ok(ranges)
 }
 
-/// `least_of_box`, where the least rosters of some bases are known.
+/// `least_of_box`, if the least rosters of some bases are known.
 pub(crate) fn least_with<N: Nodes>(
     alloc: Global,
     problem: &Problem,

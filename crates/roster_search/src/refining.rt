@@ -60,7 +60,7 @@ pub(crate) fn refine(
 }
 
 /// Leaves out of the region what costs more than it may by the prices, if that is worth its time. False
-/// where each roster costs more.
+/// if each roster costs more.
 fn fix(
     alloc: Global,
     problem: &Problem,

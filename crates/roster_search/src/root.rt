@@ -97,7 +97,7 @@ impl Rise {
     }
 
     /// After a look, fixes if it is worth its time, rounds a roster now and then, and moves the prices. False
-    /// where that is no longer worth it.
+    /// if that is no longer worth it.
     fn goes_on(
         &mut self,
         alloc: Global,
@@ -125,7 +125,7 @@ impl Rise {
         Ok(true)
     }
 
-    /// Leaves out of the part what costs more than may be paid, if that is worth its time. False where all does.
+    /// Leaves out of the part what costs more than may be paid, if that is worth its time. False if all does.
     fn fix(&mut self, alloc: Global, problem: &Problem, is_worth: bool) -> Result<bool, AllocError>
         requires { IsRegion problem.now self.old.part }
         ensures { IfOk result (λ left. IsTrue left → IsRegion problem.now self.new.part) }

@@ -97,7 +97,7 @@ fn all_searches_find_the_same_roster(rt: HostRuntime) -> Result<(), Fail> {
     Ok(())
 }
 
-/// Whether the searches leave as many pairings as may be open where nobody is there.
+/// Whether the searches leave as many pairings as may be open if nobody is there.
 fn leave_all_open<R: Threads + Wait + Sync>(rt: &R, alloc: Global) -> Result<bool, Fail> {
     let book = book_of(alloc, b"", &[4; MOST_PAIRINGS])?;
     find(rt, alloc, &book, &[0; MOST_PAIRINGS], MOST_PAIRINGS as i64)

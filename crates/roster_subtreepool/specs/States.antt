@@ -53,7 +53,7 @@ descended widths span = record { path = span.path ++ span.lo ∷ []; lo = 0; hi 
 
 -- ---- events
 
--- a pending span goes into a hand, where the hand is there and empty, and so is the span
+-- a pending span goes into a hand, if the hand is there and empty, and so is the span
 abbrev pub take_in : State → ℕ → ℕ → Option (Option Span) → Option Span → Option State
 take_in state worker place (Some None) (Some span) =
     Some (record state { pending = remove state.pending place; hands = slice_set state.hands worker (Some span) })
@@ -89,7 +89,7 @@ finish_in state worker None = None
 finish_in state worker (Some span) =
     Some (record state { hands = slice_set state.hands worker None; finished = state.finished ++ (worker, span) ∷ [] })
 
--- the state after an event, where it is allowed
+-- the state after an event, if it is allowed
 abbrev pub step : State → Event → Option State
 step state (Take worker place) = take_in state worker place (slice_get state.hands worker) (slice_get state.pending place)
 step state (Halve worker) = halve_in state worker (held state worker)
@@ -97,7 +97,7 @@ step state (Descend worker) = descend_in state worker (held state worker)
 step state (Back worker) = back_in state worker (held state worker)
 step state (Finish worker) = finish_in state worker (held state worker)
 
--- the state after some events, one after another, where each is allowed
+-- the state after some events, one after another, if each is allowed
 abbrev pub play : Option State → List Event → Option State
 play state [] = state
 play state (event ∷ events) = play (option_and_then (λ s. step s event) state) events

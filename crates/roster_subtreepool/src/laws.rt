@@ -1,4 +1,4 @@
-//! What follows from the definitions alone.
+//! What follows from only the definitions.
 
 ghost use Rattle.std.specs.Prelude.{◌≡◌, ◌<◌, ◌↔◌, ℕ, List, Some, length};
 ghost use Rattle.roster_branchtree.specs.Spans.{LiesIn, Span};
@@ -14,7 +14,7 @@ pub fn each_list_in_one_span()
         → IsInWidths widths numbers → times numbers state ≡ 1 }
 {}
 
-/// A list is counted for a span just where it lies in it.
+/// A list is counted for a span just if it lies in it.
 pub fn counts_what_lies_in()
     ensures { (span : Span) (numbers : List ℕ) → (times_in numbers span ≡ 1) ↔ LiesIn span numbers }
 {}

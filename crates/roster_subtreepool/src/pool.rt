@@ -49,7 +49,7 @@ impl<L: Ledger> Guarded<L> {
         !self.state.at_rest()
     }
 
-    /// The first pending span for the worker. None where the pool was stopped, or is at rest.
+    /// The first pending span for the worker. None if the pool was stopped, or is at rest.
     fn next(&mut self, worker: usize) -> Result<Option<Piece>, PoolFault>
         ensures taken { IfOk result (λ got. IfSome got (λ piece. Adds (Event.Take worker 0) self.old.state self.new.state
             × (held self.new.state.state worker ≡ Some piece))) }
@@ -83,7 +83,7 @@ impl<L: Ledger> Pool<L> {
     }
 
     /// The first pending span goes into the worker's hand. It waits while nothing is pending and some
-    /// worker has a span. None where the pool is at rest, or was stopped. A worker that isn't there, or has
+    /// worker has a span. None if the pool is at rest, or was stopped. A worker that isn't there, or has
     /// a span, is refused at once.
     pub fn wait_take<R: Wait>(&self, rt: &R, worker: usize) -> Result<Option<Piece>, PoolFault> {
         let guard = self.guarded.lock(rt);

@@ -58,7 +58,7 @@ impl<L: Ledger> Model for PoolState<L> {
 impl<L: Ledger> PoolState<L> {
     /// A pool with so many workers, in which the root is pending and nobody has a span; and a share for
     /// each worker. `widths` says how many lines each person has. The blank has one part for each worker;
-    /// it is handed back where memory runs out.
+    /// it is handed back if memory runs out.
     pub fn start(
         alloc: Global,
         widths: &[usize],
@@ -134,7 +134,7 @@ impl<L: Ledger> PoolState<L> {
         self.board.workers()
     }
 
-    /// The worker's piece, made anew; none where the worker has no span, or isn't there. Only one piece with
+    /// The worker's piece, made anew; none if the worker has no span, or isn't there. Only one piece with
     /// a worker's span is ever spent on it: to the others the pool answers `NotYours`.
     pub fn in_hand(&self, worker: usize) -> Result<Option<Piece>, AllocError>
         ensures { IfOk result (λ piece. piece ≡ held self.now.state worker) }
@@ -200,7 +200,7 @@ impl<L: Ledger> PoolState<L> {
     }
 
     /// The worker keeps the lower half of its piece, lo to lo + (hi - lo) / 2; the upper half becomes the
-    /// last pending span. The piece comes back where that is refused.
+    /// last pending span. The piece comes back if that is refused.
     pub fn halve(&mut self, worker: usize, piece: Piece) -> Result<Piece, (PoolFault, Piece)>
         ensures adds { IfOk result (λ _. Adds (Event.Halve worker) self.old self.new) }
         ensures piece { IfOk result (λ kept. held self.new.state worker ≡ Some kept) }
@@ -241,7 +241,7 @@ impl<L: Ledger> PoolState<L> {
     }
 
     /// The worker's piece of one line goes down to the next person: the path grows by the line, and the
-    /// range is the whole of that person's lines. The piece comes back where that is refused.
+    /// range is the whole of that person's lines. The piece comes back if that is refused.
     pub fn descend(&mut self, worker: usize, piece: Piece) -> Result<Piece, (PoolFault, Piece)>
         ensures adds { IfOk result (λ _. Adds (Event.Descend worker) self.old self.new) }
         ensures piece { IfOk result (λ kept. held self.new.state worker ≡ Some kept) }
@@ -281,7 +281,7 @@ impl<L: Ledger> PoolState<L> {
         Ok(kept)
     }
 
-    /// The worker's span becomes the last pending one. The piece comes back where that is refused.
+    /// The worker's span becomes the last pending one. The piece comes back if that is refused.
     pub fn back(&mut self, worker: usize, piece: Piece) -> Result<(), (PoolFault, Piece)>
         ensures adds { OnOk result (Adds (Event.Back worker) self.old self.new) }
         ensures allowed { OnOk result (hand_fault self.old.state worker piece ≡ None) }
@@ -314,7 +314,7 @@ impl<L: Ledger> PoolState<L> {
         Ok(())
     }
 
-    /// The worker's span is finished, and its share counts one more. What was done comes back where that
+    /// The worker's span is finished, and its share counts one more. What was done comes back if that
     /// is refused.
     pub fn finish(
         &mut self,

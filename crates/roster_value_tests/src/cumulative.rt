@@ -71,7 +71,7 @@ fn runs_of_days(rt: HostRuntime) {
         assert!(rt; greatest_duty(&days, &list, 28) == twenty_eight);
     }
 }
-// A duty of one sector alone.
+// A duty of only one sector.
 fn flight<R: Abort + AllocGlobal>(rt: &R, operates: bool, off: &str, on: &str) -> Duty {
     let mut duty = duty(rt, "AMS", off, on);
     let sector = Sector {

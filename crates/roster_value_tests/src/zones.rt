@@ -118,7 +118,7 @@ fn clocks_that_change_at_night(rt: HostRuntime) {
 }
 
 // An hour that the clocks skip stands for the later instant, one that they show twice for the
-// earlier. Where the C library has the hour at all, these are its instants.
+// earlier. If the C library has the hour at all, these are its instants.
 #[test]
 fn hours_in_a_gap_or_a_fold(rt: HostRuntime) {
     let midnight = "XXX3YYY,M10.3.0/0,M2.3.0/1";
