@@ -1,7 +1,7 @@
 //! Tests of bounds, of the search of a span and of the incumbent: what no clause says, and each public call once. A crate
 //! with tests of its own would be proved twice. In reading order:
 //!
-//! - `books`: two small problems
+//! - `books`: small problems
 //! - `bounds`: prices, nodes and their bounds
 //! - `spans`: searches of spans under sights that show wrong rosters
 //! - `incumbents`: the incumbent, and what it shows

@@ -6,7 +6,7 @@ ghost use Rattle.roster_lines.specs.Person.{IsTableOf};
 ghost use Rattle.roster_model.specs.Settled.{IsHeld};
 ghost use Rattle.roster_bounds.specs.Chosen.{priced_table};
 
-use crate::books::{ONE_OF_TWO, problem_of};
+use crate::books::{BEST, ONE_OF_TWO, TWO_DAYS, problem_of};
 use roster_bounds::{Tables, choose_tables};
 use roster_branchtree::{Done, Path, Piece, Sight, Span, all_left, check, search};
 use roster_lines::{Table, table_of};
@@ -15,27 +15,31 @@ use std::alloc::{AllocError, Global};
 use std::sync::Arc;
 use std::test::Fail;
 
-/// Shows the same roster of two pairings each time.
+/// Shows the same roster each time.
 #[derive(Drop)]
-struct Shows {
+struct Shows<'a> {
     alloc: Global,
-    places: [u16; 2],
+    places: &'a [u16],
     cost: i64,
 }
 
-impl Sight for Shows {
+impl Sight for Shows<'_> {
     fn look(&mut self) -> Option<Arc<Roster>> {
-        let shown = roster(self.alloc, self.places, self.cost).ok()?;
-        Arc::new(self.alloc, shown).ok()
+        shared(self.alloc, self.places, self.cost).ok()
     }
 }
 
-/// A roster of two pairings, right or wrong.
-pub(crate) fn roster(alloc: Global, places: [u16; 2], cost: i64) -> Result<Roster, AllocError> {
+/// A roster, right or wrong.
+fn roster(alloc: Global, places: &[u16], cost: i64) -> Result<Roster, AllocError> {
     Ok(Roster {
         places: Places::new(places.to_vec(alloc)?),
         cost,
     })
+}
+
+/// The same, so that it can be shared.
+pub(crate) fn shared(alloc: Global, places: &[u16], cost: i64) -> Result<Arc<Roster>, AllocError> {
+    Ok(Arc::new(alloc, roster(alloc, places, cost)?)?)
 }
 
 /// The roster that leaves all open, which `check` takes.
@@ -51,13 +55,13 @@ fn all_open(alloc: Global, problem: &Problem, table: &Table) -> Result<Arc<Roste
 }
 
 /// What the search of this span answers.
-fn searched(
+fn searched<S: Sight>(
     alloc: Global,
     problem: &Problem,
     table: &Table,
     tables: &Tables<'_>,
     span: Span,
-    sight: &mut Shows,
+    sight: &mut S,
     every: usize,
     known: &Arc<Roster>,
 ) -> Result<Arc<Roster>, AllocError>
@@ -79,12 +83,12 @@ fn searched(
 }
 
 /// The search over this table.
-fn over(
+fn over<S: Sight>(
     alloc: Global,
     problem: &Problem,
     table: &Table,
     span: Span,
-    sight: &mut Shows,
+    sight: &mut S,
     every: usize,
 ) -> Result<Arc<Roster>, Fail>
     requires { IsTableOf problem.now table.now }
@@ -112,7 +116,7 @@ fn found(
     };
     let mut sight = Shows {
         alloc,
-        places,
+        places: &places,
         cost,
     };
     let problem = problem_of(alloc, ONE_OF_TWO)?;
@@ -157,29 +161,70 @@ fn spans_without_rosters(rt: HostRuntime) -> Result<(), Fail> {
     Ok(())
 }
 
-/// Whether `check` takes this roster.
-fn is_taken(alloc: Global, roster: &Roster) -> Result<bool, Fail> {
-    let problem = problem_of(alloc, ONE_OF_TWO)?;
+/// What the search of all lists of line numbers answers in the problem of two days, with a look at each node.
+pub(crate) fn found_in_two_days<S: Sight>(
+    alloc: Global,
+    sight: &mut S,
+) -> Result<Arc<Roster>, Fail> {
+    let span = Span {
+        path: Path::new(Vec::new(alloc)),
+        lo: 0,
+        hi: 36,
+    };
+    let problem = problem_of(alloc, TWO_DAYS)?;
     let table = table_of(alloc, &problem)?;
-    Ok(check(&problem, &table, roster)?)
+    over(alloc, &problem, &table, span, sight, 1)
+}
+
+#[test]
+fn rosters_of_no_use_are_shown(rt: HostRuntime) -> Result<(), Fail> {
+    let none: &[u16] = &[];
+    let of_another_book: &[u16] = &[0];
+    let one_too_many: &[u16] = &[1, 0, 2, 3, 4, 0, 1, 2, 3, 4, 0];
+    let above_all: &[u16] = &[7; 10];
+    for places in [none, of_another_book, one_too_many, above_all, BEST] {
+        for cost in [i64::MIN, 0] {
+            let alloc = rt.alloc();
+            let mut sight = Shows {
+                alloc,
+                places,
+                cost,
+            };
+            let best = found_in_two_days(alloc, &mut sight)?;
+            assert!(rt; is(&best, BEST, 0), "{places:?} at {cost}");
+        }
+    }
+    Ok(())
 }
 
 /// Whether `check` takes these places at this cost.
-fn are_taken(alloc: Global, places: [u16; 2], cost: i64) -> Result<bool, Fail> {
-    is_taken(alloc, &roster(alloc, places, cost)?)
+fn are_taken(alloc: Global, places: &[u16], cost: i64) -> Result<bool, Fail> {
+    let problem = problem_of(alloc, ONE_OF_TWO)?;
+    let table = table_of(alloc, &problem)?;
+    Ok(check(&problem, &table, &roster(alloc, places, cost)?)?)
+}
+
+/// Whether `check` takes them at one of these costs, least and greatest numbers among them.
+fn are_ever_taken(alloc: Global, places: &[u16]) -> Result<bool, Fail> {
+    for cost in [i64::MIN, -1, 0, 99, 101, 200, i64::MAX] {
+        if are_taken(alloc, places, cost)? {
+            return Ok(true);
+        }
+    }
+    Ok(false)
 }
 
 #[test]
 fn rosters_checked(rt: HostRuntime) -> Result<(), Fail> {
-    assert!(rt; !are_taken(rt.alloc(), [0, 0], 0)?);
-    assert!(rt; !are_taken(rt.alloc(), [1, 0], 0)?);
-    assert!(rt; are_taken(rt.alloc(), [1, 0], 100)?);
-    assert!(rt; !are_taken(rt.alloc(), [2, 0], 100)?);
-    let short = Roster {
-        places: Places::new(Vec::new(rt.alloc())),
-        cost: i64::MIN,
-    };
-    assert!(rt; !is_taken(rt.alloc(), &short)?);
+    let legal: &[u16] = &[1, 0];
+    let both_with_one: &[u16] = &[0, 0];
+    let short: &[u16] = &[1];
+    let long: &[u16] = &[1, 0, 1];
+    let above_all: &[u16] = &[2, 0];
+    for places in [legal, both_with_one, short, long, above_all] {
+        assert!(rt; !are_ever_taken(rt.alloc(), places)?, "{places:?}");
+        assert!(rt; are_taken(rt.alloc(), places, 100)? == (places == legal), "{places:?}");
+    }
     Ok(())
 }
 

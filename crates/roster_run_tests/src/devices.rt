@@ -4,91 +4,100 @@ use crate::runs::{BOOK, REPORT};
 use roster_book::{Command, Watched};
 use roster_combine::Open;
 use roster_run::{Status, run};
+use std::alloc::Global;
 use std::io;
 use std::io::{Read, Write};
 use std::process::Abort;
 use std::sync::Wait;
+use std::test::Fail;
 use std::thread::Threads;
 
 /// What is written of a book without a record.
 const LINE: &[u8] = b"FAULT 1 1\n";
 
-/// Gives a byte at a time. After so many reads one fails, and then it goes on.
+/// Gives so many bytes at a time, at most. After so many reads one fails, and then it goes on.
 #[derive(Drop)]
 struct FailingReader<'a> {
     bytes: &'a [u8],
+    at_once: usize,
     reads: usize,
+    failure: io::ErrorKind,
 }
 
 impl Read for FailingReader<'_> {
     fn read(&mut self, buf: &mut [u8]) -> io::Result<usize> {
         if self.reads == 0 {
             self.reads = usize::MAX;
-            return Err(io::Error::from(io::ErrorKind::Other));
+            return Err(io::Error::from(self.failure));
         }
         self.reads -= 1;
-        match (self.bytes.split_first(), buf.is_empty()) {
-            (Some((byte, rest)), false) => {
-                buf[0] = *byte;
-                self.bytes = rest;
-                Ok(1)
-            }
-            _ => Ok(0),
-        }
+        let n = self.bytes.len().min(buf.len()).min(self.at_once);
+        let (given, rest) = self.bytes.split_at(n);
+        buf[..n].copy_from_slice(given);
+        self.bytes = rest;
+        Ok(n)
     }
+}
+
+/// How a run over this reader ends, and what it writes.
+fn over<'a, R: Threads + Wait + Sync>(
+    rt: &R,
+    alloc: Global,
+    reader: FailingReader<'a>,
+) -> (Status, Watched<FailingReader<'a>>, Watched<Vec<u8>>) {
+    let mut reader = Watched::new(reader);
+    let mut writer = Watched::new(Vec::new(alloc));
+    let status = run(
+        rt,
+        alloc,
+        Command::Solve,
+        1,
+        &mut reader,
+        &mut writer,
+        &Open,
+    );
+    (status, reader, writer)
 }
 
 #[test]
 fn tells_a_failed_reader(rt: HostRuntime) {
-    // One read for each byte, and one that meets the end.
-    for reads in 0..BOOK.len() + 1 {
-        let mut reader = Watched::new(FailingReader { bytes: BOOK, reads });
-        let mut writer = Watched::new(Vec::new(rt.alloc()));
-        let status = run(
-            &rt,
-            rt.alloc(),
-            Command::Solve,
-            1,
-            &mut reader,
-            &mut writer,
-            &Open,
-        );
-        assert!(rt; matches!(status, Status::ReadFailed), "after {reads} reads");
-        assert!(rt; reader.failed() && !writer.failed());
-        assert!(rt; writer.inner().is_empty());
+    for (at_once, failure) in [(1, io::ErrorKind::Other), (7, io::ErrorKind::Interrupted)] {
+        // Reads until each byte is given, and one that meets the end.
+        let most = BOOK.len().div_ceil(at_once) + 1;
+        for reads in 0..most {
+            let reader = FailingReader {
+                bytes: BOOK,
+                at_once,
+                reads,
+                failure,
+            };
+            let (status, reader, writer) = over(&rt, rt.alloc(), reader);
+            assert!(rt; matches!(status, Status::ReadFailed), "after {reads} reads");
+            assert!(rt; reader.failed() && !writer.failed());
+            assert!(rt; writer.inner().is_empty());
+        }
+        let reader = FailingReader {
+            bytes: BOOK,
+            at_once,
+            reads: most + 1,
+            failure,
+        };
+        let (status, _, writer) = over(&rt, rt.alloc(), reader);
+        assert!(rt; matches!(status, Status::Answered));
+        assert!(rt; writer.inner().as_slice() == REPORT);
+        assert!(rt; writer.flushed());
     }
-    let mut reader = Watched::new(FailingReader {
-        bytes: BOOK,
-        reads: BOOK.len() + 2,
-    });
-    let mut writer = Watched::new(Vec::new(rt.alloc()));
-    let status = run(
-        &rt,
-        rt.alloc(),
-        Command::Solve,
-        1,
-        &mut reader,
-        &mut writer,
-        &Open,
-    );
-    assert!(rt; matches!(status, Status::Answered));
-    assert!(rt; writer.inner().as_slice() == REPORT);
-    assert!(rt; writer.flushed());
-    // The first record's fault is told before the reader fails.
-    let mut reader = Watched::new(FailingReader {
+}
+
+#[test]
+fn tells_a_fault_before_the_reader_fails(rt: HostRuntime) {
+    let reader = FailingReader {
         bytes: b"jump\nperiod,2024-03\n",
+        at_once: 1,
         reads: 7,
-    });
-    let mut writer = Watched::new(Vec::new(rt.alloc()));
-    let status = run(
-        &rt,
-        rt.alloc(),
-        Command::Solve,
-        1,
-        &mut reader,
-        &mut writer,
-        &Open,
-    );
+        failure: io::ErrorKind::Other,
+    };
+    let (status, _, writer) = over(&rt, rt.alloc(), reader);
     assert!(rt; matches!(status, Status::Refused));
     assert!(rt; writer.inner().as_slice() == LINE);
 }
@@ -181,4 +190,22 @@ fn tells_a_failed_writer(rt: HostRuntime) {
         }
         tells(&rt, book, text, 1000, Failure::Flush);
     }
+}
+
+// Else a body that asks whether all is flushed before it flushes would pass a new device over.
+#[test]
+fn a_new_device_is_flushed_once_for_each_call(rt: HostRuntime) -> Result<(), Fail> {
+    let mut writer = Watched::new(FailingWriter {
+        taken: Vec::new(rt.alloc()),
+        writes: 1000,
+        failure: Failure::Error,
+        flushes: 0,
+    });
+    assert!(rt; !writer.flushed());
+    for flushes in 1..4 {
+        writer.flush()?;
+        assert!(rt; writer.flushed());
+        assert!(rt; writer.inner().flushes == flushes);
+    }
+    Ok(())
 }
