@@ -191,7 +191,7 @@ fn rosters_of_no_use_are_shown(rt: HostRuntime) -> Result<(), Fail> {
                 cost,
             };
             let best = found_in_two_days(alloc, &mut sight)?;
-            assert!(rt; is(&best, BEST, 0), "{places:?} at {cost}");
+            assert!(rt; is(&best, BEST, 0));
         }
     }
     Ok(())
@@ -222,8 +222,8 @@ fn rosters_checked(rt: HostRuntime) -> Result<(), Fail> {
     let long: &[u16] = &[1, 0, 1];
     let above_all: &[u16] = &[2, 0];
     for places in [legal, both_with_one, short, long, above_all] {
-        assert!(rt; !are_ever_taken(rt.alloc(), places)?, "{places:?}");
-        assert!(rt; are_taken(rt.alloc(), places, 100)? == (places == legal), "{places:?}");
+        assert!(rt; !are_ever_taken(rt.alloc(), places)?);
+        assert!(rt; are_taken(rt.alloc(), places, 100)? == (places == legal));
     }
     Ok(())
 }

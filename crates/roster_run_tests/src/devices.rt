@@ -59,34 +59,49 @@ fn over<'a, R: Threads + Wait + Sync>(
     (status, reader, writer)
 }
 
-#[test]
-fn tells_a_failed_reader(rt: HostRuntime) {
-    for (at_once, failure) in [(1, io::ErrorKind::Other), (7, io::ErrorKind::Interrupted)] {
-        // Reads until each byte is given, and one that meets the end.
-        let most = BOOK.len().div_ceil(at_once) + 1;
-        for reads in 0..most {
-            let reader = FailingReader {
-                bytes: BOOK,
-                at_once,
-                reads,
-                failure,
-            };
-            let (status, reader, writer) = over(&rt, rt.alloc(), reader);
-            assert!(rt; matches!(status, Status::ReadFailed), "after {reads} reads");
-            assert!(rt; reader.failed() && !writer.failed());
-            assert!(rt; writer.inner().is_empty());
-        }
+/// The reader's failure is told, whichever of so many reads fails, and nothing was written.
+fn tells_each_read<R: Threads + Wait + Abort + Sync>(
+    rt: &R,
+    alloc: Global,
+    at_once: usize,
+    reads: usize,
+    failure: io::ErrorKind,
+) {
+    for reads in 0..reads {
         let reader = FailingReader {
             bytes: BOOK,
             at_once,
-            reads: most + 1,
+            reads,
             failure,
         };
-        let (status, _, writer) = over(&rt, rt.alloc(), reader);
-        assert!(rt; matches!(status, Status::Answered));
-        assert!(rt; writer.inner().as_slice() == REPORT);
-        assert!(rt; writer.flushed());
+        let (status, reader, writer) = over(rt, alloc, reader);
+        assert!(rt; matches!(status, Status::ReadFailed), "after {reads} reads");
+        assert!(rt; reader.failed() && !writer.failed());
+        assert!(rt; writer.inner().is_empty());
     }
+    let reader = FailingReader {
+        bytes: BOOK,
+        at_once,
+        reads: reads.saturating_add(1),
+        failure,
+    };
+    let (status, _, writer) = over(rt, alloc, reader);
+    assert!(rt; matches!(status, Status::Answered));
+    assert!(rt; writer.inner().as_slice() == REPORT);
+    assert!(rt; writer.flushed());
+}
+
+#[test]
+fn tells_a_failed_reader(rt: HostRuntime) {
+    // Reads until each byte is given, and one that meets the end.
+    tells_each_read(&rt, rt.alloc(), 1, BOOK.len() + 1, io::ErrorKind::Other);
+    tells_each_read(
+        &rt,
+        rt.alloc(),
+        7,
+        BOOK.len() / 7 + 2,
+        io::ErrorKind::Interrupted,
+    );
 }
 
 #[test]
