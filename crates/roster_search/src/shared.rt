@@ -38,7 +38,8 @@ pub(crate) fn parts_of<R: Threads + Sync>(
     gathered(alloc, lists)
 }
 
-/// The parts that each of so many threads finds. It takes the next base until none is left.
+/// The parts that each of so many threads finds. It takes the next base until none is left, those with the
+/// most lines first, so that no long search begins when the others are done.
 fn parts_by_threads<R: Threads + Sync>(
     rt: &R,
     alloc: Global,
@@ -53,6 +54,8 @@ fn parts_by_threads<R: Threads + Sync>(
     ensures { IfOk result (λ lists. All (λ list. IfOk list (λ parts.
         AreBaseParts problem.now table.now ranges.now parts.items)) lists.items) }
 {
+    let bases = by_size(alloc, problem, table)?;
+    let bases = bases.as_slice();
     let next = AtomicUsize::new(0);
     let each = threads_a_base(problem, threads);
     let turns = |_: usize| -> Result<Vec<Part>, AllocError>
@@ -60,9 +63,38 @@ fn parts_by_threads<R: Threads + Sync>(
             × (length ranges.now ≡ length table.now) × (0 < each) }
         ensures { IfOk result (λ parts.
             AreBaseParts problem.entry.now table.entry.now ranges.entry.now parts.items) }
-    { parts_in_turn(rt, alloc, each, problem, table, ranges, &next) };
+    { parts_in_turn(rt, alloc, each, problem, table, ranges, bases, &next) };
     let lists = map_indices(rt, alloc, threads, &turns)?;
     Ok(lists)
+}
+
+/// All bases, those whose persons have the most lines first. No answer rests on the order.
+fn by_size(alloc: Global, problem: &Problem, table: &Table) -> Result<Vec<usize>, AllocError>
+    requires { IsTableOf problem.now table.now }
+{
+    let mut sizes: Vec<(usize, usize)> = Vec::new(alloc);
+    for base in 0..MOST_BASES {
+        sizes.push((lines_of_base(problem, table, base), base))?;
+    }
+    sizes.sort()?;
+    let mut bases = Vec::new(alloc);
+    for back in 0..sizes.len() {
+        bases.push(sizes[sizes.len() - 1 - back].1)?;
+    }
+    Ok(bases)
+}
+
+/// How many lines the persons of the base have.
+fn lines_of_base(problem: &Problem, table: &Table, base: usize) -> usize
+    requires { IsTableOf problem.now table.now }
+{
+    let mut lines: usize = 0;
+    for k in 0..problem.persons().len() {
+        if problem.person(k).base == base {
+            lines = lines.wrapping_add(table.width(k));
+        }
+    }
+    lines
 }
 
 /// How many threads look at the lines of one base, if so many share all bases.
@@ -89,6 +121,7 @@ fn parts_in_turn<R: Threads + Sync>(
     problem: &Problem,
     table: &Table,
     ranges: &[(usize, usize)],
+    bases: &[usize],
     next: &AtomicUsize,
 ) -> Result<Vec<Part>, AllocError>
     requires table { IsTableOf problem.now table.now }
@@ -97,11 +130,12 @@ fn parts_in_turn<R: Threads + Sync>(
     ensures { IfOk result (λ parts. AreBaseParts problem.now table.now ranges.now parts.items) }
 {
     let mut parts = Vec::new(alloc);
-    for _ in 0..MOST_BASES {
-        let base = next.fetch_add(1, Ordering::SeqCst);
-        if base >= MOST_BASES {
+    for _ in 0..bases.len() {
+        let turn = next.fetch_add(1, Ordering::SeqCst);
+        if turn >= bases.len() {
             break;
         }
+        let base = bases[turn];
         let least = least_of_base_by_threads(rt, alloc, threads, problem, table, ranges, base)?;
         parts.push((base, least))?;
     }
