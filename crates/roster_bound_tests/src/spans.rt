@@ -161,6 +161,16 @@ fn spans_without_rosters(rt: HostRuntime) -> Result<(), Fail> {
     Ok(())
 }
 
+// The path leads past the last person, so the span's own node is the only one.
+#[test]
+fn the_first_node_is_the_span_s_own(rt: HostRuntime) -> Result<(), Fail> {
+    for (every, places, cost) in [(1, [0, 1], 100), (2, [1, 1], 200)] {
+        let best = found(rt.alloc(), &[99], 5, 2, every, [0, 1], 100)?;
+        assert!(rt; is(&best, &places, cost), "every {every}");
+    }
+    Ok(())
+}
+
 /// What the search of all lists of line numbers answers in the problem of two days, with a look at each node.
 pub(crate) fn found_in_two_days<S: Sight>(
     alloc: Global,
