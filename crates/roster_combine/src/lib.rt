@@ -25,7 +25,7 @@ mod working;
 
 pub use combining::{Solved, combine};
 pub use gate::{Gate, Open, Point};
-pub use laws::{all_open_is_legal, has_best, one_best};
+pub use laws::{all_open_is_legal, has_best, least_handed_in_is_best, one_best};
 pub use replaying::replay;
 pub use search::{SolveFault, solve};
 pub use working::work;
