@@ -58,7 +58,7 @@ fn solver<'a>(alloc: Global) -> Result<clap::Command<'a>, AllocError>
 {
     let solve = solve(alloc)?;
     clap::Command::new(alloc, "roster")
-        .about("Rosters airline crew within the flight time limitations of ORO.FTL")
+        .about("Rosters airline crew by those rules of ORO.FTL that it judges")
         .subcommand_required(true)
         .subcommand(solve)
 }
