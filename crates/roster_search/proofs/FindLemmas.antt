@@ -1,5 +1,5 @@
 -- What is found in parts of a region.
-use Rattle.std.proofs.Common.{◌≡◌, Bool, true, false, MatchBool, Result, Ok, Err, IfOk, OnOk, ℕ, ◌+◌, List, Option, Some, None, ℤ, ◌≤ℤ◌, ◌<ℤ◌, ap, sym, ◌∙◌, ◌⊎◌, inl, inr, arith}
+use Rattle.std.proofs.Common.{◌≡◌, Bool, true, false, MatchBool, Result, Ok, Err, IfOk, ℕ, ◌+◌, List, Option, Some, None, ℤ, ◌≤ℤ◌, ◌<ℤ◌, refl, ap, sym, subst, ◌∙◌, ◌⊎◌, inl, inr, arith}
 use borrow.Author.Differences.{up, down}
 use Rattle.std.proofs.lemmas.Bool.{cases_lt}
 use Rattle.std.proofs.lemmas.Bool.Decides.{eqb_tells}
@@ -8,9 +8,11 @@ use Rattle.std.proofs.lemmas.Option.{none-some, same_Some, slice_get_cases}
 use Rattle.roster_model.specs.Costs.{cost_of}
 use Rattle.roster_model.specs.Problem.{Problem}
 use Rattle.roster_model.specs.Rosters.{Key, key_of}
-use Rattle.roster_model.specs.Settled.{CostsMore, IsFoundWithin, IsWithinCost}
-use Rattle.roster_search.specs.Least.{IsCheapest, IsLeast}
-use Rattle.roster_search.proofs.Keys.{by_cost}
+use Rattle.roster_model.specs.Settled.{CostsMore, IsFoundWithin, IsHeld, IsWithinCost, Settles}
+use Rattle.roster_model.proofs.KeyLemmas.{key_le-refl}
+use Rattle.roster_model.proofs.SettledLemmas.{Settles-then}
+use Rattle.roster_search.specs.Least.{IsCheapestBelow, IsLeastBelow}
+use Rattle.roster_search.proofs.Keys.{by_cost, no_dearer}
 use Rattle.roster_regions.specs.Regions.{Has, HasNot, IsIn, IsNarrowed, Region}
 use Rattle.roster_regions.specs.Bounds.{CostsAtMost, IsAllAbove}
 
@@ -31,10 +33,6 @@ if_ok (Err e) P Q is f = tt
 pub both_if_ok : {X E : Type 0} (r : Result X E) (P Q R : X → Type 0) → IfOk r P → IfOk r Q → ((x : X) → P x → Q x → R x) → IfOk r R
 both_if_ok (Ok x) P Q R p q f = f x p q
 both_if_ok (Err e) P Q R p q f = tt
-
-pub both_on_ok : {X E : Type 0} (r : Result X E) (P Q R : Type 0) → OnOk r P → OnOk r Q → (P → Q → R) → OnOk r R
-both_on_ok (Ok x) P Q R p q f = f p q
-both_on_ok (Err e) P Q R p q f = tt
 
 -- a roster costs at most so much, or more
 cost_cases : (most cost : ℤ) → (cost ≤ℤ most) ⊎ (most <ℤ cost)
@@ -96,30 +94,44 @@ found_in_rest problem k p old having rest most None given denied more is =
 
 -- ---- parts that have all that is cheap
 
--- a cheapest roster is one in the part that has all that cost no more
-pub cheapest_in_part : (problem : Problem) (old new : Region) (key : Key) → IsCheapest problem (IsIn problem old) key → IsNarrowed problem (CostsAtMost problem key.cost) old new → IsCheapest problem (IsIn problem new) key
-cheapest_in_part problem old new key cheapest part =
-    let cost = cheapest.held.cost in
+-- what settles the part settles the whole
+pub settled_in_whole : (problem : Problem) (old new : Region) (before after : Key) → IsNarrowed problem (CostsAtMost problem before.cost) old new → Settles problem (IsIn problem new) (IsIn problem new) (Some before) after → Settles problem (IsIn problem old) (IsIn problem old) (Some before) after
+settled_in_whole problem old new before after part settled =
+    let cheap = no_dearer after before settled.kept in
     record {
-      held = cheapest.held;
-      inside = part.kept key.places cheapest.inside (omega (arith, ints));
-      least = λ others legal inside. cheapest.least others legal (part.inside others inside);
+      held = settled.held;
+      kept = settled.kept;
+      least = λ others legal inside. elim (cost_cases before.cost (cost_of problem others)) [
+        | inl no_more ↦ settled.least others legal (part.kept others inside no_more)
+        | inr more ↦ by_cost after (key_of problem others) (omega (arith, ints))
+      ];
+      from = elim settled.from [ inl same ↦ inl same | inr own ↦ inr (part.inside after.places own) ];
     }
 
--- the least roster of the part is that of the whole
-pub least_in_whole : (problem : Problem) (old new : Region) (most : ℤ) (key : Key) → IsNarrowed problem (CostsAtMost problem most) old new → key.cost ≤ℤ most → IsLeast problem (IsIn problem new) key → IsLeast problem (IsIn problem old) key
-least_in_whole problem old new most key part cheap least = record {
-  held = least.held;
-  inside = part.inside key.places least.inside;
-  least = λ others legal inside. elim (cost_cases most (cost_of problem others)) [
-    | inl no_more ↦ least.least others legal (part.kept others inside no_more)
-    | inr more ↦ by_cost key (key_of problem others) (omega (arith, ints))
-  ];
+-- where each roster costs more, the given one is settled
+pub settled_below : (problem : Problem) (region : Region) (key : Key) → IsHeld problem key → IsAllAbove problem region key.cost → Settles problem (IsIn problem region) (IsIn problem region) (Some key) key
+settled_below problem region key held above = record {
+  held = held;
+  kept = key_le-refl key;
+  least = λ others legal inside. by_cost key (key_of problem others) (above others inside);
+  from = inl refl;
 }
 
--- a roster doesn't cost more than itself
-pub none_above : (problem : Problem) (region : Region) (key : Key) → IsCheapest problem (IsIn problem region) key → IsAllAbove problem region key.cost → ⊥
-none_above problem region key cheapest above =
-    let more = above key.places cheapest.inside in
-    let cost = cheapest.held.cost in
-    omega (arith, ints)
+-- a roster that isn't after the given one takes its place, and then the least of the part
+pub settled_after_cheaper : (problem : Problem) (old new : Region) (before cheaper after : Key) → IsNarrowed problem (CostsAtMost problem before.cost) old new → Settles problem (λ places. ⊥) (IsIn problem new) (Some before) cheaper → Settles problem (IsIn problem new) (IsIn problem new) (Some cheaper) after → Settles problem (IsIn problem old) (IsIn problem old) (Some before) after
+settled_after_cheaper problem old new before cheaper after part first then =
+    settled_in_whole problem old new before after part
+    (Settles-then problem (λ places. ⊥) (IsIn problem new) (IsIn problem new) (IsIn problem new) (Some before) cheaper after first then (λ others legal inside. inr inside))
+
+-- what settles the whole for a cheapest roster below the limit is the least there
+pub least_below : (problem : Problem) (Region : List ℕ → Type 0) (limit : ℤ) (cheapest least : Key) → IsCheapestBelow problem Region limit (Some cheapest) → Settles problem Region Region (Some cheapest) least → IsLeastBelow problem Region limit (Some least)
+least_below problem Region limit cheapest least is settled =
+    let below = is.1 in
+    let cheap = no_dearer least cheapest settled.kept in (
+      record {
+        held = settled.held;
+        inside = elim settled.from [ inl same ↦ subst (λ k. Region k.places) (same_Some cheapest least same) is.0.inside | inr own ↦ own ];
+        least = settled.least;
+      },
+      omega (arith, ints),
+    )

@@ -1,11 +1,12 @@
-//! The first of the cheapest rosters of a region.
+//! The first of equal cost: of a given roster and the cheapest ones of a region.
 
-ghost use Rattle.std.specs.Prelude.{◌≡◌, ◌<◌, ◌≤◌, ◌≤ℤ◌, false, IfOk, OnOk, length, unwrap_or};
+ghost use Rattle.std.specs.Prelude.{◌≡◌, ◌<◌, ◌≤◌, false, true, IfOk, OnOk, Some, length, unwrap_or};
 ghost use Rattle.roster_model.specs.Places.{open_number as nobody};
-ghost use Rattle.roster_model.specs.Settled.{IsFoundWithin};
+ghost use Rattle.roster_model.specs.Settled.{IsFoundWithin, IsHeld, Settles};
+ghost use Rattle.roster_regions.specs.Propagation.{IsEmpty};
 ghost use Rattle.roster_regions.specs.Regions.{Has, HasNot, IsIn, IsNarrowed, IsRegion, IsWhollyIn};
 ghost use Rattle.roster_search.specs.Firsts.{AgreeBefore, IsSettledAt};
-ghost use Rattle.roster_search.specs.Least.{IsCheapest, IsLeast};
+ghost use Rattle.roster_search.specs.Least.{CostsAtLeast};
 
 use crate::finding::find;
 use crate::nodes::Nodes;
@@ -14,11 +15,11 @@ use roster_problem::{Problem, Roster, open_number};
 use roster_regions::Region;
 use std::alloc::{AllocError, Global};
 
-/// The first in the list of the rosters of the region that cost as little as the given one, which is a
-/// cheapest one there.
+/// The first in the list among the given roster and those of the region that cost as little; none there
+/// costs less. The given one may lie outside the region.
 ///
-/// It settles one pairing after another: the first person who has it in a cheapest roster, if there is
-/// one, and from there on the region has no others.
+/// It settles one pairing after another: the first person who has it in one of them, if there is one, and
+/// from there on the region has no others. It ends early if nothing is left there.
 pub(crate) fn first<N: Nodes>(
     alloc: Global,
     problem: &Problem,
@@ -28,19 +29,36 @@ pub(crate) fn first<N: Nodes>(
     nodes: &mut N,
 ) -> Result<(), AllocError>
     requires region { IsRegion problem.now region.old }
-    requires cheapest { IsCheapest problem.now (IsIn problem.now region.old) roster.old }
-    ensures least { OnOk result (IsLeast problem.now (IsIn problem.now region.old) roster.new) }
-    ensures cheap { OnOk result (roster.new.cost ≤ℤ roster.old.cost) }
+    requires held { IsHeld problem.now roster.old }
+    requires least { CostsAtLeast problem.now (IsIn problem.now region.old) roster.old.cost }
+    ensures settled { OnOk result (Settles problem.now (IsIn problem.now region.old)
+        (IsIn problem.now region.old) (Some roster.old) roster.new) }
     ensures goes_on { N.goes_on nodes.old nodes.new }
 {
     for p in 0..problem.pairings().len() {
         settle(alloc, problem, region, roster, prices, p, nodes)?;
+        if is_empty(problem, region) {
+            return Ok(());
+        }
     }
     Ok(())
 }
 
+/// Whether somebody has no line left in the region, which then has no roster.
+fn is_empty(problem: &Problem, region: &Region) -> bool
+    requires { IsRegion problem.now region.now }
+    ensures { result ≡ true → IsEmpty problem.now region.now }
+{
+    for k in 0..problem.persons().len() {
+        if region.width(k) == 0 {
+            return true;
+        }
+    }
+    false
+}
+
 /// Settles who has the pairing at place `p`. In the new region all have there what the new roster has: the
-/// first number that a roster has there which costs as little as the old one.
+/// first number that the old one has there, or a roster of the region that costs as little.
 fn settle<N: Nodes>(
     alloc: Global,
     problem: &Problem,

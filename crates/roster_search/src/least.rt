@@ -1,10 +1,11 @@
 //! The least roster of a region.
 
-ghost use Rattle.std.specs.Prelude.{◌^◌, ◌-◌, ◌≤ℤ◌, ◌<ℤ◌, ℕ, IfOk, List, OnOk, neg_ℤ, pos};
+ghost use Rattle.std.specs.Prelude.{◌^◌, ◌-◌, ◌≤ℤ◌, ◌<ℤ◌, ℕ, IfOk, List, OnOk, Some, neg_ℤ, pos};
 ghost use Rattle.roster_model.specs.Costs.{cost_of};
 ghost use Rattle.roster_model.specs.Rosters.{IsLegalRoster};
+ghost use Rattle.roster_model.specs.Settled.{IsHeld, Settles};
 ghost use Rattle.roster_regions.specs.Regions.{IsIn, IsRegion};
-ghost use Rattle.roster_search.specs.Least.{IsCheapest, IsLeast, IsLeastBelow};
+ghost use Rattle.roster_search.specs.Least.{CostsAtLeast, IsLeastBelow};
 
 use crate::cheapest::cheapest;
 use crate::first::first;
@@ -22,7 +23,7 @@ pub(crate) fn least<N: Nodes>(
     alloc: Global,
     problem: &Problem,
     region: Region,
-    root: RootPrices,
+    root: &RootPrices,
     limit: i64,
     nodes: &mut N,
 ) -> Result<Option<Roster>, AllocError>
@@ -32,12 +33,11 @@ pub(crate) fn least<N: Nodes>(
 {
     costs_fit(problem);
     let mut region = region;
-    let prices = root.prices;
     match cheapest(
         alloc,
         problem,
         &region,
-        &prices,
+        &root.prices,
         i64::MIN,
         root.likely,
         limit,
@@ -45,15 +45,79 @@ pub(crate) fn least<N: Nodes>(
     )? {
         Some(roster) => {
             let mut roster = roster;
-            first_of_all(alloc, problem, &mut region, &mut roster, &prices, nodes)?;
+            first_of_all(
+                alloc,
+                problem,
+                &mut region,
+                &mut roster,
+                &root.prices,
+                nodes,
+            )?;
             Ok(Some(roster))
         }
         None => Ok(None),
     }
 }
 
-/// The first in the list of the rosters of the region that cost as little as the given one, which is a
-/// cheapest one there. The others are left out of the region before it begins.
+/// Puts the least roster of the region in place of the given one, if it comes before it. Any prices will do
+/// for it; good ones make it short.
+pub(crate) fn improve<N: Nodes>(
+    alloc: Global,
+    problem: &Problem,
+    region: Region,
+    root: &RootPrices,
+    roster: &mut Roster,
+    nodes: &mut N,
+) -> Result<(), AllocError>
+    requires region { IsRegion problem.now region }
+    requires held { IsHeld problem.now roster.old }
+    ensures settled { OnOk result (Settles problem.now (IsIn problem.now region)
+        (IsIn problem.now region) (Some roster.old) roster.new) }
+    ensures goes_on { N.goes_on nodes.old nodes.new }
+{
+    let mut region = region;
+    if !region.tighten(alloc, problem, root.prices.prices(), roster.cost)? {
+        return Ok(());
+    }
+    cheapen(alloc, problem, &region, root, roster, nodes)?;
+    first_of_all(alloc, problem, &mut region, roster, &root.prices, nodes)
+}
+
+/// Puts a cheapest roster of the region in place of the given one, if it costs less.
+fn cheapen<N: Nodes>(
+    alloc: Global,
+    problem: &Problem,
+    region: &Region,
+    root: &RootPrices,
+    roster: &mut Roster,
+    nodes: &mut N,
+) -> Result<(), AllocError>
+    requires region { IsRegion problem.now region.now }
+    requires held { IsHeld problem.now roster.old }
+    ensures settled { OnOk result (Settles problem.now (λ places. ⊥)
+        (IsIn problem.now region.now) (Some roster.old) roster.new) }
+    ensures least { OnOk result
+        (CostsAtLeast problem.now (IsIn problem.now region.now) roster.new.cost) }
+    ensures goes_on { N.goes_on nodes.old nodes.new }
+{
+    costs_fit(problem);
+    if let Some(cheaper) = cheapest(
+        alloc,
+        problem,
+        region,
+        &root.prices,
+        i64::MIN,
+        root.likely,
+        roster.cost,
+        nodes,
+    )? {
+        *roster = cheaper;
+    }
+    Ok(())
+}
+
+/// The first in the list among the given roster and those of the region that cost as little; none there
+/// costs less. What costs more is left out of the region before it begins.
 fn first_of_all<N: Nodes>(
     alloc: Global,
     problem: &Problem,
@@ -63,9 +127,10 @@ fn first_of_all<N: Nodes>(
     nodes: &mut N,
 ) -> Result<(), AllocError>
     requires region { IsRegion problem.now region.old }
-    requires cheapest { IsCheapest problem.now (IsIn problem.now region.old) roster.old }
-    ensures least { OnOk result (IsLeast problem.now (IsIn problem.now region.old) roster.new) }
-    ensures cheap { OnOk result (roster.new.cost ≤ℤ roster.old.cost) }
+    requires held { IsHeld problem.now roster.old }
+    requires least { CostsAtLeast problem.now (IsIn problem.now region.old) roster.old.cost }
+    ensures settled { OnOk result (Settles problem.now (IsIn problem.now region.old)
+        (IsIn problem.now region.old) (Some roster.old) roster.new) }
     ensures goes_on { N.goes_on nodes.old nodes.new }
 {
     if !region.tighten(alloc, problem, prices.prices(), roster.cost)? {

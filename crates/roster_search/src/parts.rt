@@ -97,7 +97,7 @@ fn least_in<N: Nodes>(
         (IsInPart problem.now table.now ranges.now (λ b. b == base)) (pos (2 ^ 63 - 1))) }
     ensures goes_on { N.goes_on nodes.old nodes.new }
 {
-    least(alloc, problem, region, root, i64::MAX, nodes)
+    least(alloc, problem, region, &root, i64::MAX, nodes)
 }
 
 /// The ranges of the persons of the base; everybody else has the empty line only.

@@ -13,13 +13,10 @@ loop-k-preserved g c =
     let Here : List ℕ → Type 0 = λ places. IsIn problem c.loop-k.region places × Has c.loop-k.k c.args.p places in
     let fits : FitsSigned w64 c.roster.inside.cost = search rules in
     let cost : to_z w64 (of_z w64 c.roster.inside.cost) ≡ key.cost = to_z-of_z w64 c.roster.inside.cost fits ∙ ap (λ (k : Key). k.cost) c.roster.view_is in
-    let slice : c.as_slice.result.now ≡ key.places = c.as_slice.ensures ∙ ap (λ (k : Key). k.places) c.roster.view_is in
-    let has = number_at problem c.args.p c.args.region.now key c.as_slice.result.now c.requires.agree c.requires.pairing slice in
     let none = subst (λ found. IsFoundWithin problem Here (to_z w64 (of_z w64 c.roster.inside.cost)) found) c.in-None.is c.in_ok-earlier.ensures.found in
-    let less : c.loop-k.k < get_or c.as_slice.result.now c.args.p 0 = omega (arith, c.loop-k-test.true) in
     record {
-      tried = tried_one_more problem c.args.p c.loop-k.k (get_or c.as_slice.result.now c.args.p 0) c.args.region.now c.loop-k.region c.deny.new.self key c.loop-k.invariant.tried
-          (subst (CostsMore problem Here) cost none) c.in_ok-deny-in-None.ensures.narrowed has less;
+      tried = tried_one_more problem c.args.p c.loop-k.k c.args.region.now c.loop-k.region c.deny.new.self key c.loop-k.invariant.tried
+          (subst (CostsMore problem Here) cost none) c.in_ok-deny-in-None.ensures.narrowed;
       goes_on = g.met.N.Nodes.follows _ _ _ c.loop-k.invariant.goes_on c.with_person.ensures.goes_on;
     }
 

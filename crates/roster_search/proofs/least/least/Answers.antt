@@ -1,13 +1,18 @@
-use Rattle.std.proofs.Common.{◌≤ℤ◌, ◌<ℤ◌, w64, ℤ, to_z, of_z, subst, arith}
-use Rattle.std.proofs.lemmas.Int.{ints, to_z-of_z}
+use Rattle.std.proofs.Common.{w64, ℤ, Some, to_z, of_z, subst}
+use Rattle.std.proofs.lemmas.Int.{to_z-of_z}
 use Rattle.roster_regions.specs.Regions.{IsIn}
-use Rattle.roster_search.specs.Least.{IsCheapestBelow}
+use Rattle.roster_search.specs.Least.{IsCheapestBelow, IsLeastBelow}
+use Rattle.roster_search.proofs.FindLemmas.{least_below}
 use Rattle.roster_search.proofs.least.least.Goals as goal
 
 pub returns-in-Some-clause-least : goal.returns-in-Some-clause-least
 returns-in-Some-clause-least g c =
+    let problem = c.args.problem.now in
+    let Here = IsIn problem c.args.region in
     let limit : ℤ = to_z w64 (of_z w64 c.args.limit) in
-    let cheapest = subst (IsCheapestBelow c.args.problem.now (IsIn c.args.problem.now c.args.region) limit) c.in-Some.is c.in_ok-roster.ensures.cheapest in
-    let below = subst (λ most. c.in-Some.roster.cost <ℤ most) (to_z-of_z w64 c.args.limit c.ranges.limit) cheapest.1 in
-    let cheap : c.first_of_all.new.roster.cost ≤ℤ c.in-Some.roster.cost = c.in_ok-first_of_all-in-Some.ensures.cheap in
-    (c.in_ok-first_of_all-in-Some.ensures.least, omega (arith, ints, cheap, below))
+    let cheapest = subst (IsCheapestBelow problem Here limit) c.in-Some.is c.in_ok-roster.ensures.cheapest in
+    let least = least_below problem Here limit c.in-Some.roster c.first_of_all.new.roster cheapest c.in_ok-first_of_all-in-Some.ensures.settled in
+    subst (λ limit. IsLeastBelow problem Here limit (Some c.first_of_all.new.roster)) (to_z-of_z w64 c.args.limit c.ranges.limit) least
+
+pub returns-in-Some-clause-goes_on : goal.returns-in-Some-clause-goes_on
+returns-in-Some-clause-goes_on g c = g.met.N.Nodes.follows _ _ _ c.cheapest.ensures.goes_on c.first_of_all.ensures.goes_on

@@ -1,0 +1,31 @@
+use Rattle.std.proofs.Common.{rules, ◌≡◌, w64, FitsSigned, to_z, of_z, subst, ap, ◌∙◌}
+use Rattle.std.proofs.lemmas.Int.{to_z-of_z}
+use Rattle.std.proofs.lemmas.Result.{on_ok_weaker}
+use Rattle.roster_model.specs.Rosters.{Key}
+use Rattle.roster_regions.specs.Bounds.{CostsAtMost, IsAllAbove}
+use Rattle.roster_regions.specs.Regions.{IsNarrowed}
+use Rattle.roster_search.proofs.FindLemmas.{says_no, says_yes, settled_after_cheaper, settled_below}
+use Rattle.roster_search.proofs.least.improve.Goals as goal
+
+pub returns-then-not-branch-clause-settled : goal.returns-then-not-branch-clause-settled
+returns-then-not-branch-clause-settled g c =
+    let problem = c.args.problem.now in
+    let key : Key = c.args.roster.now in
+    let fits : FitsSigned w64 c.roster.inside.cost = search rules in
+    let cost : to_z w64 (of_z w64 c.roster.inside.cost) ≡ key.cost = to_z-of_z w64 c.roster.inside.cost fits ∙ ap (λ (k : Key). k.cost) c.roster.view_is in
+    let above = says_no _ _ _ c.in_ok-tighten.ensures c.if-not-branch.true in
+    settled_below problem c.args.region key c.requires.held (subst (IsAllAbove problem c.args.region) cost above)
+
+pub returns-clause-settled : goal.returns-clause-settled
+returns-clause-settled g c =
+    let problem = c.args.problem.now in
+    let key : Key = c.args.roster.now in
+    let fits : FitsSigned w64 c.roster.inside.cost = search rules in
+    let cost : to_z w64 (of_z w64 c.roster.inside.cost) ≡ key.cost = to_z-of_z w64 c.roster.inside.cost fits ∙ ap (λ (k : Key). k.cost) c.roster.view_is in
+    let part = says_yes _ _ _ c.in_ok-tighten.ensures c.if-not-branch.false in
+    on_ok_weaker c.first_of_all.result (settled_after_cheaper problem c.args.region c.tighten.new.self key c.cheapen.new.roster c.first_of_all.new.roster
+    (subst (λ most. IsNarrowed problem (CostsAtMost problem most) c.args.region c.tighten.new.self) cost part) c.in_ok-cheapen.ensures.settled)
+    c.first_of_all.ensures.settled
+
+pub returns-clause-goes_on : goal.returns-clause-goes_on
+returns-clause-goes_on g c = g.met.N.Nodes.follows _ _ _ c.cheapen.ensures.goes_on c.first_of_all.ensures.goes_on
