@@ -2,8 +2,8 @@
 
 ghost use Rattle.std.specs.Prelude.{◌≡◌, ◌<◌, ◌+◌, ◌⊎◌, ◌∷◌, ◌++◌, [], false, length, IsTrue, IfErr, IfNone, IfOk, IfSome, None, OnErr, OnOk, Some, slice_get, true, unwrap_or};
 ghost use Rattle.std.specs.Arc.{arc_value};
-ghost use Rattle.roster_subtreepool.specs.Refusals.{is_free, take_fault};
-ghost use Rattle.roster_subtreepool.specs.States.{Adds, IsAtRest, can_halve, held, lower};
+ghost use Rattle.roster_subtreepool.specs.Refusals.{descend_fault, halve_fault, hand_fault, is_free, take_fault};
+ghost use Rattle.roster_subtreepool.specs.States.{Adds, IsAtRest, State, can_halve, held, lower};
 
 use crate::event::Event;
 use crate::fault::PoolFault;
@@ -54,7 +54,8 @@ impl<L: Ledger> Guarded<L> {
         ensures taken { IfOk result (λ got. IfSome got (λ piece. Adds (Event.Take worker 0) self.old.state self.new.state
             × (held self.new.state.state worker ≡ Some piece))) }
         ensures same { IfOk result (λ got. IfNone got (self.new.state ≡ self.old.state)) }
-        ensures none { IfOk result (λ got. IfNone got ((self.old.stopped ≡ true) ⊎ IsAtRest self.old.state.state)) }
+        ensures none { IfOk result (λ got. IfNone got ((self.old.stopped ≡ true)
+            ⊎ (IsAtRest self.old.state.state × (is_free (slice_get self.old.state.state.hands worker) ≡ true)))) }
         ensures refused { OnErr result (self.new.state ≡ self.old.state) }
         ensures fault { IfErr result (λ fault. fault ≡ unwrap_or (take_fault self.old.state.state worker 0) PoolFault.Memory) }
         ensures stopped { self.new.stopped ≡ self.old.stopped }
@@ -84,8 +85,11 @@ impl<L: Ledger> Pool<L> {
 
     /// The first pending span goes into the worker's hand. It waits while nothing is pending and some
     /// worker has a span. None if the pool is at rest, or was stopped. A worker that isn't there, or has
-    /// a span, is refused at once.
-    pub fn wait_take<R: Wait>(&self, rt: &R, worker: usize) -> Result<Option<Piece>, PoolFault> {
+    /// a span, is refused at once, unless the pool was stopped.
+    pub fn wait_take<R: Wait>(&self, rt: &R, worker: usize) -> Result<Option<Piece>, PoolFault>
+        ensures { IfErr result (λ fault. (state : State)
+            × (fault ≡ unwrap_or (take_fault state worker 0) PoolFault.Memory)) }
+    {
         let guard = self.guarded.lock(rt);
         let mut guard = self
             .changed
@@ -102,6 +106,8 @@ impl<L: Ledger> Pool<L> {
     ) -> Result<Piece, (PoolFault, Piece)>
         ensures part { IfOk result (λ kept. kept ≡ lower piece) }
         ensures wide { OnOk result (can_halve piece ≡ true) }
+        ensures fault { IfErr result (λ refused. (state : State)
+            × (refused.0 ≡ unwrap_or (halve_fault state worker piece) PoolFault.Memory)) }
         ensures back { IfErr result (λ refused. refused.1 ≡ piece) }
     {
         let halved = self.guarded.lock(rt).state.halve(worker, piece);
@@ -118,6 +124,8 @@ impl<L: Ledger> Pool<L> {
     ) -> Result<Piece, (PoolFault, Piece)>
         ensures path { IfOk result (λ kept. kept.path ≡ piece.path ++ piece.lo ∷ []) }
         ensures first { IfOk result (λ kept. kept.lo ≡ 0) }
+        ensures fault { IfErr result (λ refused. (state : State)
+            × (refused.0 ≡ unwrap_or (descend_fault state worker piece) PoolFault.Memory)) }
         ensures back { IfErr result (λ refused. refused.1 ≡ piece) }
     {
         self.guarded.lock(rt).state.descend(worker, piece)
@@ -130,7 +138,9 @@ impl<L: Ledger> Pool<L> {
         worker: usize,
         piece: Piece,
     ) -> Result<(), (PoolFault, Piece)>
-        ensures { IfErr result (λ refused. refused.1 ≡ piece) }
+        ensures fault { IfErr result (λ refused. (state : State)
+            × (refused.0 ≡ unwrap_or (hand_fault state worker piece) PoolFault.Memory)) }
+        ensures back { IfErr result (λ refused. refused.1 ≡ piece) }
     {
         let given = self.guarded.lock(rt).state.back(worker, piece);
         self.changed.notify_all();
@@ -148,6 +158,8 @@ impl<L: Ledger> Pool<L> {
         ensures counted { OnOk result (share.new ≡ share.old + 1) }
         ensures settled { IfOk result (λ settled. (settled.span ≡ done.piece) × (settled.best ≡ arc_value done.best)) }
         ensures same { OnErr result (share.new ≡ share.old) }
+        ensures fault { IfErr result (λ refused. (state : State)
+            × (refused.0 ≡ unwrap_or (hand_fault state worker done.piece) PoolFault.Memory)) }
         ensures back { IfErr result (λ refused. refused.1 ≡ done) }
     {
         let settled = self.guarded.lock(rt).state.finish(worker, done, share);
