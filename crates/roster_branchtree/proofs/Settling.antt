@@ -42,7 +42,7 @@ earlier (Some key) before since best kept is = is
 
 pub found_settles : (problem : Problem) (Region : List ℕ → Type 0) (every : ℕ) (known : Key) (mid now : Watched) (found : Option Key) (best : Key) → IsHeld problem known
     → KeepsWatch (watch_of problem every known) mid → KeepsWatch mid now
-    → Settles problem Region Region (Some mid.best) (unwrap_or found mid.best) → MatchOption found (best ≡ now.best) (λ key. IsEarlierOf key now.best best)
+    → Settles problem Region (λ places. every ≡ 0 → Region places) (Some mid.best) (unwrap_or found mid.best) → MatchOption found (best ≡ now.best) (λ key. IsEarlierOf key now.best best)
     → Settles problem Region (λ places. every ≡ 0 → Region places) (Some known) best
 found_settles problem Region every known mid now found best held first second settled one =
     let start = watch_of problem every known in
@@ -62,7 +62,7 @@ found_settles problem Region every known mid now found best held first second se
           | inr same ↦ inl (ap (λ (key : Key). Some key) (sym (same ∙ all.blind never)))
           | inl same ↦ elim settled.from [
             | inl old ↦ inl (ap (λ (key : Key). Some key) (sym (same ∙ sym (same_Some mid.best least old) ∙ first.blind never)))
-            | inr inside ↦ inr (λ _. subst (λ (key : Key). Region key.places) (sym same) inside)
+            | inr inside ↦ inr (λ _. subst (λ (key : Key). Region key.places) (sym same) (inside never))
           ]
         ]
       ];

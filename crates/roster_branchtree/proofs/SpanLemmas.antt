@@ -8,6 +8,7 @@ use Rattle.roster_model.specs.Problem.{Problem}
 use Rattle.roster_model.specs.Places.{set_of}
 use Rattle.roster_model.specs.Rosters.{IsLegalRoster, Key}
 use Rattle.roster_model.specs.Settled.{Settles}
+use Rattle.roster_model.proofs.SettledLemmas.{Settles-wider, Settles-within}
 use Rattle.roster_lines.specs.Entries.{Entry, sets_of}
 use Rattle.roster_lines.specs.Person.{lines_at, IsTableOf}
 use Rattle.roster_bounds.specs.Chosen.{line_set, HasLines, Meets}
@@ -132,14 +133,14 @@ in_span problem table span ranges places is legal short are inside =
     (numbers, found.1, record { front = front; next = (there.0, one k there.0 few there.3, there.1, there.2) })
 
 -- so what settles the ranges settles the span
-pub settles_span : (problem : Problem) (table : List (List Entry)) (span : Span) (ranges : List (ℕ × ℕ)) (old new : Key) → IsTableOf problem table → length span.path < length problem.persons → AreRangesOf table span (length table) ranges
-    → Settles problem (IsInRanges table ranges) (IsInRanges table ranges) (Some old) new → Settles problem (IsInSpan table span) (IsInSpan table span) (Some old) new
-settles_span problem table span ranges old new is short are settled = record {
-  held = settled.held;
-  kept = settled.kept;
-  least = λ others legal inside. settled.least others legal (in_ranges table span ranges others are inside);
-  from = elim settled.from [
-    | inl same ↦ inl same
-    | inr found ↦ inr (in_span problem table span ranges new.places is settled.held.legal short are found)
-  ];
-}
+pub settles_span : (problem : Problem) (table : List (List Entry)) (span : Span) (ranges : List (ℕ × ℕ)) (Own : List ℕ → Type 0) (old new : Key) → IsTableOf problem table → length span.path < length problem.persons → AreRangesOf table span (length table) ranges
+    → Settles problem (IsInRanges table ranges) Own (Some old) new → Settles problem (IsInSpan table span) Own (Some old) new
+settles_span problem table span ranges Own old new is short are settled =
+    Settles-within problem (IsInRanges table ranges) (IsInSpan table span) Own (Some old) new settled (λ others legal inside. in_ranges table span ranges others are inside)
+
+-- and what lies in the ranges lies in the span
+pub settles_in_span : (problem : Problem) (table : List (List Entry)) (span : Span) (ranges : List (ℕ × ℕ)) (Own : List ℕ → Type 0) (old new : Key) → IsTableOf problem table → length span.path < length problem.persons → AreRangesOf table span (length table) ranges
+    → ((places : List ℕ) → IsInSpan table span places → Own places) → Settles problem (IsInRanges table ranges) (IsInRanges table ranges) (Some old) new → Settles problem (IsInSpan table span) Own (Some old) new
+settles_in_span problem table span ranges Own old new is short are wider settled =
+    Settles-wider problem (IsInSpan table span) (IsInRanges table ranges) Own (Some old) new (settles_span problem table span ranges (IsInRanges table ranges) old new is short are settled)
+    (λ places legal inside. wider places (in_span problem table span ranges places is legal short are inside))

@@ -1,6 +1,6 @@
 //! A search by several threads.
 
-ghost use Rattle.std.specs.Prelude.{◌≡◌, ◌+◌, ◌<◌, ◌≤◌, [], All, IfErr, IfOk, List, length, map, vec_len};
+ghost use Rattle.std.specs.Prelude.{◌≡◌, ◌+◌, ◌<◌, ◌≤◌, [], All, IfErr, IfOk, List, length, map, unwrap_or, vec_len};
 ghost use Rattle.std.specs.Arc.{arc_value};
 ghost use Rattle.std.specs.Thread.{IsSync};
 ghost use Rattle.roster_model.specs.Problem.{Problem as PlainProblem};
@@ -17,7 +17,7 @@ use roster_bounds::{Tables, choose_tables};
 use roster_incumbent::Incumbent;
 use roster_lines::Table;
 use roster_problem::{Problem, Roster};
-use roster_search::least_of_all;
+use roster_search::search_bases;
 use roster_subtreepool::{Pool, PoolState, Settled, Share};
 use std::alloc::{AllocError, Global};
 use std::marker::Brand;
@@ -45,8 +45,7 @@ pub(crate) fn solve_over<R: Threads + Wait + Sync, G: Gate + Sync>(
             fallbacks: 0,
         });
     }
-    let best = best_by_threads(rt, alloc, problem, table, workers)?;
-    let tables = choose_tables(alloc, problem, table)?.knowing(Arc::try_clone(&best)?);
+    let (best, tables) = begun(rt, alloc, problem, table, workers)?;
     solve_from::<Brand, R, G>(
         rt,
         alloc,
@@ -60,21 +59,41 @@ pub(crate) fn solve_over<R: Threads + Wait + Sync, G: Gate + Sync>(
     )
 }
 
-/// The best roster, for which so many threads search the bases.
-fn best_by_threads<R: Threads + Sync>(
+/// A roster to begin with, and the tables for the searches of spans, for which so many threads search the
+/// bases. The tables know that the roster is the best, or what is left to search.
+fn begun<'a, R: Threads + Sync>(
     rt: &R,
     alloc: Global,
-    problem: &Problem,
-    table: &Table,
+    problem: &'a Problem,
+    table: &'a Table,
     threads: usize,
-) -> Result<Arc<Roster>, AllocError>
+) -> Result<(Arc<Roster>, Tables<'a>), AllocError>
     requires table { IsTableOf problem.now table.now }
     requires threads { 0 < threads }
-    ensures { IfOk result (λ best. IsBestKey problem.now (arc_value best)) }
+    ensures { IfOk result (λ begun.
+        begun.1 ≡ priced_table problem.now table.now begun.1.prices) }
 {
     let known = first_known(alloc, problem)?;
-    match least_of_all(rt, alloc, problem, table, &known, threads)? {
-        Some(best) => Ok(Arc::new(alloc, best)?),
+    let (better, left) = search_bases(rt, alloc, problem, table, &known, threads)?;
+    let best = better_or(alloc, better, known)?;
+    let tables = choose_tables(alloc, problem, table)?;
+    if let Some(left) = left {
+        return Ok((best, tables.leaving(left)));
+    }
+    let tables = tables.knowing(Arc::try_clone(&best)?);
+    Ok((best, tables))
+}
+
+/// The better roster, if there is one, or the known one.
+fn better_or(
+    alloc: Global,
+    better: Option<Roster>,
+    known: Arc<Roster>,
+) -> Result<Arc<Roster>, AllocError>
+    ensures { IfOk result (λ best. arc_value best ≡ unwrap_or better (arc_value known)) }
+{
+    match better {
+        Some(better) => Ok(Arc::new(alloc, better)?),
         None => Ok(known),
     }
 }

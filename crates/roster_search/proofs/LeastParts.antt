@@ -6,6 +6,7 @@ use Rattle.roster_model.specs.Problem.{Problem}
 use Rattle.roster_model.specs.Rosters.{IsLegalRoster, Key, key_of, key_le}
 use Rattle.roster_model.proofs.KeyLemmas.{key_le-trans}
 use Rattle.roster_model.proofs.SettledLemmas.{held-key}
+use Rattle.roster_model.specs.Settled.{IsHeld}
 use Rattle.roster_lines.specs.Entries.{Entry}
 use Rattle.roster_search.specs.Least.{IsLeast}
 use Rattle.roster_search.specs.Parts.{base_of_person, base_of_pairing, merge, IsInPart, IsNumbered}
@@ -44,10 +45,24 @@ not_in_first first second both base are h =
       | inr theirs ↦ theirs
     ]
 
--- the least roster by the cost of its places
-key_le-least : (problem : Problem) (Region : List ℕ → Type 0) (key : Key) (others : List ℕ) → IsLeast problem Region key → IsLegalRoster problem others → Region others → key_le (key_of problem key.places) (key_of problem others) ≡ true
-key_le-least problem Region key others is legal inside =
-    subst (λ k. key_le k (key_of problem others) ≡ true) (held-key problem key is.held) (is.least others legal inside)
+-- If neither part of the others comes before its own roster, the others don't come before the merge.
+pub merged_not_after : SharesAddUp → (problem : Problem) (first : ℕ → Bool) (xs ys : Key) (others : List ℕ) → IsHeld problem xs → IsHeld problem ys → IsLegalRoster problem others
+    → key_le xs (key_of problem (merge problem first others xs.places)) ≡ true → key_le ys (key_of problem (merge problem first ys.places others)) ≡ true
+    → key_le (key_of problem (merge problem first xs.places ys.places)) (key_of problem others) ≡ true
+merged_not_after shares problem first xs ys others held also legal later latter =
+    let same_first : length xs.places ≡ length others = held.legal.covers ∙ sym legal.covers in
+    let same_second : length ys.places ≡ length others = also.legal.covers ∙ sym legal.covers in
+    let mid : List ℕ = merge problem first xs.places others in
+    let mid_legal = legal-merge problem first xs.places others held.legal legal in
+    let ours = subst (λ k. key_le k (key_of problem (merge problem first others xs.places)) ≡ true) (held-key problem xs held) later in
+    let step = sym (exchange shares problem first xs.places others held.legal legal) ∙ ours in
+    let theirs = subst (λ k. key_le k (key_of problem (merge problem first ys.places others)) ≡ true) (held-key problem ys also) latter in
+    let same_merge : merge problem first ys.places mid ≡ merge problem first ys.places others = pick-second (λ p. first (base_of_pairing problem p)) 0 xs.places others ys.places same_first (sym same_second) in
+    let theirs_mid = subst (λ zs. key_le (key_of problem ys.places) (key_of problem zs) ≡ true) (sym same_merge) theirs in
+    let turn = sym (exchange_others shares problem first ys.places mid also.legal mid_legal) ∙ theirs_mid in
+    let same_front : merge problem first mid ys.places ≡ merge problem first xs.places ys.places = pick-first (λ p. first (base_of_pairing problem p)) 0 xs.places others ys.places same_first (sym same_second) in
+    let front = subst (λ zs. key_le (key_of problem zs) (key_of problem mid) ≡ true) same_front turn in
+    key_le-trans (key_of problem (merge problem first xs.places ys.places)) (key_of problem mid) (key_of problem others) front step
 
 -- ---- merged rosters in parts
 
@@ -98,28 +113,13 @@ module _ (problem : Problem) (table : List (List Entry)) (ranges : List (ℕ × 
     ];
   }
 
-  -- no roster of the whole is before the merge of the least ones
-  merged_least : SharesAddUp → (xs ys : Key) → IsLeast problem (IsInPart problem table ranges first) xs → IsLeast problem (IsInPart problem table ranges second) ys → (others : List ℕ) → IsInPart problem table ranges both others → key_le (key_of problem (merge problem first xs.places ys.places)) (key_of problem others) ≡ true
-  merged_least shares xs ys one two others whole =
-      let same_first : length xs.places ≡ length others = one.held.legal.covers ∙ sym whole.legal.covers in
-      let same_second : length ys.places ≡ length others = two.held.legal.covers ∙ sym whole.legal.covers in
-      let ours = first_inside xs.places others one.inside whole in
-      let theirs = second_inside ys.places others two.inside whole in
-      let mid : List ℕ = merge problem first xs.places others in
-      let mid_legal = legal-merge problem first xs.places others one.held.legal whole.legal in
-      let later = key_le-least problem (IsInPart problem table ranges first) xs (merge problem first others xs.places) one ours.legal ours in
-      let step = sym (exchange shares problem first xs.places others one.held.legal whole.legal) ∙ later in
-      let also = key_le-least problem (IsInPart problem table ranges second) ys (merge problem first ys.places others) two theirs.legal theirs in
-      let same_merge : merge problem first ys.places mid ≡ merge problem first ys.places others = pick-second (λ p. first (base_of_pairing problem p)) 0 xs.places others ys.places same_first (sym same_second) in
-      let also_mid = subst (λ zs. key_le (key_of problem ys.places) (key_of problem zs) ≡ true) (sym same_merge) also in
-      let turn = sym (exchange_others shares problem first ys.places mid two.held.legal mid_legal) ∙ also_mid in
-      let same_front : merge problem first mid ys.places ≡ merge problem first xs.places ys.places = pick-first (λ p. first (base_of_pairing problem p)) 0 xs.places others ys.places same_first (sym same_second) in
-      let front = subst (λ zs. key_le (key_of problem zs) (key_of problem mid) ≡ true) same_front turn in
-      key_le-trans (key_of problem (merge problem first xs.places ys.places)) (key_of problem mid) (key_of problem others) front step
-
   pub merged_is_least : SharesAddUp → (xs ys : Key) → IsLeast problem (IsInPart problem table ranges first) xs → IsLeast problem (IsInPart problem table ranges second) ys → IsLeast problem (IsInPart problem table ranges both) (key_of problem (merge problem first xs.places ys.places))
   merged_is_least shares xs ys one two = record {
     held = record { legal = legal-merge problem first xs.places ys.places one.held.legal two.held.legal; cost = refl };
     inside = merged_inside xs.places ys.places one.inside two.inside;
-    least = λ others legal whole. merged_least shares xs ys one two others whole;
+    least = λ others legal whole.
+        let ours = first_inside xs.places others one.inside whole in
+        let theirs = second_inside ys.places others two.inside whole in
+        merged_not_after shares problem first xs ys others one.held two.held legal
+        (one.least (merge problem first others xs.places) ours.legal ours) (two.least (merge problem first ys.places others) theirs.legal theirs);
   }

@@ -1,6 +1,6 @@
 -- Parts of a problem: the persons and the pairings of some bases. No line has another base's pairing, so
 -- parts share neither persons nor pairings.
-use Rattle.std.specs.Prelude.{◌≡◌, ℕ, ◌+◌, ◌-◌, ◌^◌, ◌<◌, ◌≤◌, All, Bool, true, false, ◌==◌, if◌then◌else◌, List, [], ◌∷◌, Option, Some, length, option_map, pos, slice_get, unwrap_or}
+use Rattle.std.specs.Prelude.{◌≡◌, ℕ, ◌+◌, ◌-◌, ◌^◌, ◌<◌, ◌≤◌, ◌&&◌, All, Bool, true, false, nat_lt, not, ◌==◌, if◌then◌else◌, List, [], ◌∷◌, Option, Some, None, length, option_map, pos, slice_get, unwrap_or}
 use Rattle.roster_model.specs.Places.{set_of}
 use Rattle.roster_model.specs.Problem.{Problem}
 use Rattle.roster_model.specs.Rosters.{IsLegalRoster, Key}
@@ -26,6 +26,10 @@ pick test p (x ∷ xs) (y ∷ ys) = (if test p then x else y) ∷ pick test (p +
 -- what the first list has at the pairings of some bases, and the second at the others
 abbrev pub merge : Problem → (ℕ → Bool) → List ℕ → List ℕ → List ℕ
 merge problem part xs ys = pick (λ p. part (base_of_pairing problem p)) 0 xs ys
+
+-- the bases before a number, but for one
+abbrev pub before_but : ℕ → ℕ → ℕ → Bool
+before_but n but base = nat_lt base n && not (base == but)
 
 -- the set is a line of person k whose number is in the range
 abbrev pub IsNumbered : List (List Entry) → ℕ → ℕ × ℕ → List ℕ → Type 0
@@ -59,6 +63,11 @@ IsBasePart problem table ranges found =
 
 abbrev pub AreBaseParts : Problem → List (List Entry) → List (ℕ × ℕ) → List (ℕ × Option Key) → Type 0
 AreBaseParts problem table ranges parts = All (IsBasePart problem table ranges) parts
+
+-- some base has no roster with lines in the ranges
+abbrev pub IsWithoutPart : Problem → List (List Entry) → List (ℕ × ℕ) → Type 0
+IsWithoutPart problem table ranges =
+    (base : ℕ) × IsLeastBelow problem (IsInPart problem table ranges (λ b. b == base)) (pos (2 ^ 63 - 1)) None
 
 -- for each of so many persons the range of all lines
 pub record AreWhole (table : List (List Entry)) (count : ℕ) (ranges : List (ℕ × ℕ)) : Type 0 where

@@ -118,7 +118,7 @@ fn cheapen<N: Nodes>(
 
 /// The first in the list among the given roster and those of the region that cost as little; none there
 /// costs less. What costs more is left out of the region before it begins.
-fn first_of_all<N: Nodes>(
+pub(crate) fn first_of_all<N: Nodes>(
     alloc: Global,
     problem: &Problem,
     region: &mut Region,

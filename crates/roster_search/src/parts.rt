@@ -1,6 +1,6 @@
 //! The parts of a box: the persons of one base each.
 
-ghost use Rattle.std.specs.Prelude.{◌≡◌, ◌<◌, ◌<ℤ◌, ◌^◌, ◌-◌, ◌==◌, IfOk, length, pos};
+ghost use Rattle.std.specs.Prelude.{◌≡◌, ◌<◌, ◌<ℤ◌, ◌^◌, ◌-◌, ◌==◌, IfOk, length, pos, replicate};
 ghost use Rattle.roster_lines.specs.Person.{IsTableOf};
 ghost use Rattle.roster_search.specs.Least.{IsLeastBelow};
 ghost use Rattle.roster_search.specs.Parts.{merge, AreOwnRanges, IsInPart, IsRegionOfPart};
@@ -9,7 +9,7 @@ use crate::least::least;
 use crate::nodes::{Nodes, Unseen};
 use crate::root::{RootPrices, root_prices, root_prices_by_threads};
 use roster_lines::Table;
-use roster_problem::{Problem, Roster};
+use roster_problem::{Problem, Roster, open_number};
 use roster_regions::Region;
 use std::alloc::{AllocError, Global};
 use std::thread::Threads;
@@ -32,7 +32,7 @@ pub(crate) fn least_of_base<N: Nodes>(
 {
     let region = region_of_base(alloc, problem, table, ranges, base)?;
     let root = root_prices(alloc, problem, &region)?;
-    least_in(alloc, problem, table, ranges, base, region, root, nodes)
+    least_in(alloc, problem, table, ranges, base, region, &root, nodes)
 }
 
 /// `least_of_base`, for which so many threads look at the lines.
@@ -60,13 +60,13 @@ pub(crate) fn least_of_base_by_threads<R: Threads + Sync>(
         ranges,
         base,
         region,
-        root,
+        &root,
         &mut Unseen,
     )
 }
 
 /// The region of the base.
-fn region_of_base(
+pub(crate) fn region_of_base(
     alloc: Global,
     problem: &Problem,
     table: &Table,
@@ -89,7 +89,7 @@ fn least_in<N: Nodes>(
     ranges: &[(usize, usize)],
     base: usize,
     region: Region,
-    root: RootPrices,
+    root: &RootPrices,
     nodes: &mut N,
 ) -> Result<Option<Roster>, AllocError>
     requires { IsRegionOfPart problem.now table.now ranges.now base region }
@@ -97,7 +97,7 @@ fn least_in<N: Nodes>(
         (IsInPart problem.now table.now ranges.now (λ b. b == base)) (pos (2 ^ 63 - 1))) }
     ensures goes_on { N.goes_on nodes.old nodes.new }
 {
-    least(alloc, problem, region, &root, i64::MAX, nodes)
+    least(alloc, problem, region, root, i64::MAX, nodes)
 }
 
 /// The ranges of the persons of the base; everybody else has the empty line only.
@@ -119,6 +119,15 @@ fn own_ranges(
         })?;
     }
     Ok(own)
+}
+
+/// The places of the roster that leaves all open.
+pub(crate) fn all_open(alloc: Global, problem: &Problem) -> Result<Vec<u16>, AllocError>
+    ensures { IfOk result (λ places. places.items
+        ≡ replicate (length problem.now.pairings) (length problem.now.persons)) }
+{
+    let places = vec![in alloc; open_number(problem); problem.pairings().len()]?;
+    Ok(places)
 }
 
 /// The places with the numbers of the part at the pairings of the base.

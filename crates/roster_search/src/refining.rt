@@ -1,8 +1,9 @@
 //! Regions made smaller by prices that rise.
 
 ghost use Rattle.std.specs.Prelude.{◌<◌, IfOk, IfSome, MatchBool, MatchOption, length};
-ghost use Rattle.roster_model.specs.Settled.{IsWithinCost};
+ghost use Rattle.roster_model.specs.Settled.{IsHeld, IsWithinCost};
 ghost use Rattle.roster_regions.specs.Bounds.{CostsAtMost, IsAllAbove};
+ghost use Rattle.roster_regions.specs.Prices.{ArePrices};
 ghost use Rattle.roster_regions.specs.Regions.{IsDecided, IsIn, IsNarrowed, IsRegion, IsSplit};
 ghost use Rattle.roster_search.specs.Refined.{IsRefined};
 
@@ -114,7 +115,30 @@ fn cheap(
     ensures { IfOk result (λ roster. IfSome roster
         (IsWithinCost problem.now (IsIn problem.now region.now) most)) }
 {
-    let Some(places) = rounded(alloc, problem, region, ascent.prices(), room, 0)? else {
+    let Some(roster) = rounded_in(alloc, problem, region, ascent.prices(), room)? else {
+        return Ok(None);
+    };
+    if roster.cost > most {
+        return Ok(None);
+    }
+    Ok(Some(roster))
+}
+
+/// A roster of the region that is rounded from the prices, with its cost, if one comes out.
+pub(crate) fn rounded_in(
+    alloc: Global,
+    problem: &Problem,
+    region: &Region,
+    prices: &[i64],
+    room: i64,
+) -> Result<Option<Roster>, AllocError>
+    requires region { IsRegion problem.now region.now }
+    requires prices { ArePrices prices.now }
+    ensures held { IfOk result (λ roster. IfSome roster (IsHeld problem.now)) }
+    ensures inside { IfOk result (λ roster. IfSome roster
+        (λ roster. IsIn problem.now region.now roster.places)) }
+{
+    let Some(places) = rounded(alloc, problem, region, prices, room, 0)? else {
         return Ok(None);
     };
     let places = Places::new(places);
@@ -122,9 +146,6 @@ fn cheap(
         return Ok(None);
     }
     let cost = roster_cost(problem, places.as_slice());
-    if cost > most {
-        return Ok(None);
-    }
     Ok(Some(Roster { places, cost }))
 }
 

@@ -17,7 +17,7 @@ const MOST_STEPS: usize = 150;
 const STEPS_A_ROUNDING: usize = 8;
 
 /// Good prices for a region, and what its least roster likely costs. Nothing rests on either.
-#[derive(Drop)]
+#[derive(Debug, Drop)]
 pub(crate) struct RootPrices {
     pub(crate) prices: DualPrices,
     pub(crate) likely: i64,

@@ -5,11 +5,13 @@ ghost use Rattle.std.specs.Thread.{IsSync};
 ghost use Rattle.roster_model.specs.Problem.{Problem as PlainProblem};
 ghost use Rattle.roster_lines.specs.Entries.{Entry};
 ghost use Rattle.roster_lines.specs.Person.{IsTableOf};
+ghost use Rattle.roster_search.specs.Attempts.{IsAttempt, IsFound};
 ghost use Rattle.roster_search.specs.Least.{IsLeastBelow};
-ghost use Rattle.roster_search.specs.Parts.{AreBaseParts, IsInPart, IsBasePart};
+ghost use Rattle.roster_search.specs.Parts.{AreBaseParts, IsInPart};
 
 use crate::nodes::Nodes;
 use crate::parts::{least_of_base, least_of_base_by_threads};
+use crate::trying::{Attempt, Tried, try_base};
 use roster_lines::Table;
 use roster_model::limits::MOST_BASES;
 use roster_problem::{Places, Problem, Roster};
@@ -20,52 +22,95 @@ use std::thread::{Threads, map_indices};
 /// A base, and the least roster in which only its persons fly, if there is one.
 pub(crate) type Part = (usize, Option<Roster>);
 
-/// The parts of all bases, found by so many threads.
-pub(crate) fn parts_of<R: Threads + Sync>(
-    rt: &R,
-    alloc: Global,
-    problem: &Problem,
-    table: &Table,
-    ranges: &[(usize, usize)],
-    threads: usize,
-) -> Result<Vec<Part>, AllocError>
-    requires table { IsTableOf problem.now table.now }
-    requires ranges { length ranges.now ≡ length table.now }
-    requires threads { 0 < threads }
-    ensures { IfOk result (λ parts. AreBaseParts problem.now table.now ranges.now parts.items) }
-{
-    let lists = parts_by_threads(rt, alloc, problem, table, ranges, threads)?;
-    gathered(alloc, lists)
+/// What threads find: the parts of bases, and what is known of a base that was given up.
+#[derive(Drop)]
+pub(crate) struct Found {
+    pub(crate) parts: Vec<Part>,
+    pub(crate) tried: Option<Tried>,
 }
 
-/// The parts that each of so many threads finds. It takes the next base until none is left, those with the
-/// most lines first, so that no long search begins when the others are done.
-fn parts_by_threads<R: Threads + Sync>(
+impl Found {
+    /// Nothing is found yet.
+    fn nothing(alloc: Global) -> Found
+        ensures { (problem : PlainProblem) (table : List (List Entry)) (ranges : List (ℕ × ℕ))
+            → IsFound problem table ranges result }
+    {
+        Found {
+            parts: Vec::new(alloc),
+            tried: None,
+        }
+    }
+
+    /// What is found, and what comes of one base more.
+    fn with(self, base: usize, attempt: Attempt) -> Result<Found, AllocError>
+        ensures { IfOk result (λ found. (problem : PlainProblem) (table : List (List Entry))
+            (ranges : List (ℕ × ℕ)) → IsFound problem table ranges self
+            → IsAttempt problem table ranges base attempt → IsFound problem table ranges found) }
+    {
+        let Found { parts, tried } = self;
+        match attempt {
+            Attempt::Settled(least) => {
+                let mut parts = parts;
+                parts.push((base, least))?;
+                Ok(Found { parts, tried })
+            }
+            Attempt::GivenUp(tried) => Ok(Found {
+                parts,
+                tried: Some(tried),
+            }),
+        }
+    }
+
+    /// What is found by two threads.
+    fn and(self, other: Found) -> Result<Found, AllocError>
+        ensures { IfOk result (λ found. (problem : PlainProblem) (table : List (List Entry))
+            (ranges : List (ℕ × ℕ)) → IsFound problem table ranges self
+            → IsFound problem table ranges other → IsFound problem table ranges found) }
+    {
+        let Found { parts, tried } = self;
+        let Found {
+            parts: more,
+            tried: given_up,
+        } = other;
+        let mut parts = parts;
+        let mut more = more;
+        parts.append(&mut more)?;
+        match given_up {
+            Some(given_up) => Ok(Found {
+                parts,
+                tried: Some(given_up),
+            }),
+            None => Ok(Found { parts, tried }),
+        }
+    }
+}
+
+/// The parts of all bases, found by so many threads. One base may be given up.
+pub(crate) fn found_by_threads<R: Threads + Sync>(
     rt: &R,
     alloc: Global,
     problem: &Problem,
     table: &Table,
     ranges: &[(usize, usize)],
+    hard: usize,
     threads: usize,
-) -> Result<Vec<Result<Vec<Part>, AllocError>>, AllocError>
+) -> Result<Found, AllocError>
     requires table { IsTableOf problem.now table.now }
     requires ranges { length ranges.now ≡ length table.now }
     requires threads { 0 < threads }
-    ensures { IfOk result (λ lists. All (λ list. IfOk list (λ parts.
-        AreBaseParts problem.now table.now ranges.now parts.items)) lists.items) }
+    ensures { IfOk result (IsFound problem.now table.now ranges.now) }
 {
     let bases = by_size(alloc, problem, table)?;
     let bases = bases.as_slice();
     let next = AtomicUsize::new(0);
     let each = threads_a_base(problem, threads);
-    let turns = |_: usize| -> Result<Vec<Part>, AllocError>
+    let turns = |_: usize| -> Result<Found, AllocError>
         requires { IsSync R.row × IsTableOf problem.now table.now
             × (length ranges.now ≡ length table.now) × (0 < each) }
-        ensures { IfOk result (λ parts.
-            AreBaseParts problem.entry.now table.entry.now ranges.entry.now parts.items) }
-    { parts_in_turn(rt, alloc, each, problem, table, ranges, bases, &next) };
+        ensures { IfOk result (IsFound problem.entry.now table.entry.now ranges.entry.now) }
+    { found_in_turn(rt, alloc, each, problem, table, ranges, hard, bases, &next) };
     let lists = map_indices(rt, alloc, threads, &turns)?;
-    Ok(lists)
+    gathered(alloc, problem, table, ranges, lists)
 }
 
 /// All bases, those whose persons have the most lines first. No answer rests on the order.
@@ -113,49 +158,74 @@ fn threads_a_base(problem: &Problem, threads: usize) -> usize
     (threads / bases).max(1)
 }
 
-/// The parts of the bases that nobody else has taken, one after another.
-fn parts_in_turn<R: Threads + Sync>(
+/// What is found of the bases that nobody else has taken, one after another.
+fn found_in_turn<R: Threads + Sync>(
     rt: &R,
     alloc: Global,
     threads: usize,
     problem: &Problem,
     table: &Table,
     ranges: &[(usize, usize)],
+    hard: usize,
     bases: &[usize],
     next: &AtomicUsize,
-) -> Result<Vec<Part>, AllocError>
+) -> Result<Found, AllocError>
     requires table { IsTableOf problem.now table.now }
     requires ranges { length ranges.now ≡ length table.now }
     requires threads { 0 < threads }
-    ensures { IfOk result (λ parts. AreBaseParts problem.now table.now ranges.now parts.items) }
+    ensures { IfOk result (IsFound problem.now table.now ranges.now) }
 {
-    let mut parts = Vec::new(alloc);
+    let mut found = Found::nothing(alloc);
     for _ in 0..bases.len() {
         let turn = next.fetch_add(1, Ordering::SeqCst);
         if turn >= bases.len() {
             break;
         }
         let base = bases[turn];
-        let least = least_of_base_by_threads(rt, alloc, threads, problem, table, ranges, base)?;
-        parts.push((base, least))?;
+        let attempt = attempt(rt, alloc, threads, problem, table, ranges, hard, base)?;
+        found = found.with(base, attempt)?;
     }
-    Ok(parts)
+    Ok(found)
 }
 
-/// The parts in all the lists; or that memory ran out for one of them.
+/// What is found of the base. It is given up after some time if it may be.
+fn attempt<R: Threads + Sync>(
+    rt: &R,
+    alloc: Global,
+    threads: usize,
+    problem: &Problem,
+    table: &Table,
+    ranges: &[(usize, usize)],
+    hard: usize,
+    base: usize,
+) -> Result<Attempt, AllocError>
+    requires table { IsTableOf problem.now table.now }
+    requires ranges { length ranges.now ≡ length table.now }
+    requires threads { 0 < threads }
+    ensures { IfOk result (IsAttempt problem.now table.now ranges.now base) }
+{
+    if base == hard {
+        return try_base(rt, alloc, threads, problem, table, ranges, base);
+    }
+    let least = least_of_base_by_threads(rt, alloc, threads, problem, table, ranges, base)?;
+    Ok(Attempt::Settled(least))
+}
+
+/// All that the threads found; or that memory ran out for one of them.
 fn gathered(
     alloc: Global,
-    lists: Vec<Result<Vec<Part>, AllocError>>,
-) -> Result<Vec<Part>, AllocError>
-    ensures { IfOk result (λ all. (problem : PlainProblem) (table : List (List Entry)) (ranges : List (ℕ × ℕ))
-        → All (λ list. IfOk list (λ parts. AreBaseParts problem table ranges parts.items)) lists.items
-        → AreBaseParts problem table ranges all.items) }
+    problem: &Problem,
+    table: &Table,
+    ranges: &[(usize, usize)],
+    lists: Vec<Result<Found, AllocError>>,
+) -> Result<Found, AllocError>
+    requires { All (λ found. IfOk found (IsFound problem.now table.now ranges.now)) lists.items }
+    ensures { IfOk result (IsFound problem.now table.now ranges.now) }
 {
     let mut lists = lists;
-    let mut all = Vec::new(alloc);
-    while let Some(list) = lists.pop() {
-        let mut list = list?;
-        all.append(&mut list)?;
+    let mut all = Found::nothing(alloc);
+    while let Some(found) = lists.pop() {
+        all = all.and(found?)?;
     }
     Ok(all)
 }
@@ -180,24 +250,29 @@ pub(crate) fn least_at<N: Nodes>(
     for i in 0..parts.len() {
         let part = &parts[i];
         if part.0 == base {
-            return copy_of(alloc, &part.1);
+            return copy_if(alloc, &part.1);
         }
     }
     least_of_base(alloc, problem, table, ranges, base, nodes)
 }
 
-/// The same roster again.
-fn copy_of(alloc: Global, roster: &Option<Roster>) -> Result<Option<Roster>, AllocError>
+/// The same roster again, if there is one.
+fn copy_if(alloc: Global, roster: &Option<Roster>) -> Result<Option<Roster>, AllocError>
     ensures { IfOk result (λ copy. copy ≡ roster.now) }
 {
     match roster {
-        Some(roster) => {
-            let places = roster.places.as_slice().to_vec(alloc)?;
-            Ok(Some(Roster {
-                places: Places::new(places),
-                cost: roster.cost,
-            }))
-        }
+        Some(roster) => Ok(Some(copy_of(alloc, roster)?)),
         None => Ok(None),
     }
+}
+
+/// The same roster again.
+pub(crate) fn copy_of(alloc: Global, roster: &Roster) -> Result<Roster, AllocError>
+    ensures { IfOk result (λ copy. copy ≡ roster.now) }
+{
+    let places = roster.places.as_slice().to_vec(alloc)?;
+    Ok(Roster {
+        places: Places::new(places),
+        cost: roster.cost,
+    })
 }

@@ -14,4 +14,4 @@ returns-then-part-base-clause-least g c =
     let least : ℕ → Option Key → Type 0 = λ base. IsLeastBelow problem (IsInPart problem table ranges (λ b. eqb b base)) (pos (2 ^ 63 - 1)) in
     let part : IsBasePart problem table ranges found = subst (IsBasePart problem table ranges) (sym c.index-parts-i.is) (c.requires.parts c.loop-i.i found c.loop-i-test.true) in
     let here : least c.args.base found.1 = subst (λ (base : ℕ). least base found.1) c.if-part-base.true part in
-    IfOk-weaker c.copy_of.result (λ copy. copy ≡ found.1) (least c.args.base) (λ copy same. subst (least c.args.base) (sym same) here) c.copy_of.ensures
+    IfOk-weaker c.copy_if.result (λ copy. copy ≡ found.1) (least c.args.base) (λ copy same. subst (least c.args.base) (sym same) here) c.copy_if.ensures
