@@ -1,4 +1,4 @@
-//! What follows from the definitions alone.
+//! What follows from nothing but the definitions.
 
 ghost use Rattle.std.specs.Prelude.{◌≡◌, ◌<◌, ◌≤◌, ℕ, List, length};
 ghost use Rattle.roster_model.specs.declared.limits.TheConstants.{MOST_LINES};
