@@ -28,9 +28,6 @@ abbrev pub capped_runs : (ℕ → ℕ) → Days → ℕ → ℕ → List CappedS
 capped_runs minutes days n most =
     map (λ last. record { total = in_run minutes n last; most = most }) (judged_days days)
 
-runs-of_table : (minutes table : ℕ → ℕ) (days : Days) (n most : ℕ) → ((i : ℕ) → table i ≡ minutes i) → capped_runs table days n most ≡ capped_runs minutes days n most
-runs-of_table minutes table days n most same = ap (λ m. capped_runs m days n most) (fun_ext same)
-
 all-sums : (days : Days) (list : List Duty) (year eleven : ℕ) (last : CappedSum) → last ≡ capped_of days list year eleven MonthFlight
     → capped_runs (duty_on days list) days SHORT_RUN MOST_DUTY_IN_7_DAYS ++ capped_runs (duty_on days list) days MIDDLE_RUN MOST_DUTY_IN_14_DAYS
     ++ capped_runs (duty_on days list) days LONG_RUN MOST_DUTY_IN_28_DAYS

@@ -1,12 +1,12 @@
 -- What is left to decide in a region, and whether a list of places is in it.
 use Rattle.std.proofs.Common.{◌≡◌, ℕ, ◌<◌, ◌≤◌, Bool, true, false, ◌&&◌, List, length, get_or, refl, sym, ap, ◌∙◌, subst, inl, inr, arith}
 use Rattle.std.specs.Prelude.{All, Contains}
-use Rattle.std.specs.List.{list_all, list_any}
+use Rattle.std.specs.List.{list_all}
 use Rattle.std.proofs.lemmas.Bool.{both_ways}
 use Rattle.std.proofs.lemmas.List.{get_or_default, same_lists}
-use Rattle.std.proofs.lemmas.List.Folds.{list_any_at, Any-from_list_any}
-use Rattle.std.proofs.lemmas.List.Sums.{AllPass-from_list_all, list_all-from_AllPass}
-use Rattle.std.proofs.lemmas.List.Elements.{All-contains, Contains-get_or}
+use Rattle.std.proofs.lemmas.List.Folds.{Any-from_list_any}
+use Rattle.std.proofs.lemmas.List.Sums.{list_all-from_AllPass}
+use Rattle.std.proofs.lemmas.List.Elements.{All-contains}
 use Rattle.std.proofs.lemmas.Option.{get_or_from_slice_get, slice_get_within}
 use Rattle.roster_model.specs.Places.{open_number, set_of}
 use Rattle.roster_model.specs.Problem.{Problem}
@@ -16,27 +16,12 @@ use Rattle.roster_regions.specs.Inside.{AreChosen, AreStatesKept}
 use Rattle.roster_regions.specs.Propagation.{IsUncertain}
 use Rattle.roster_regions.specs.Regions.{lines_of, sets_of, AllowedLine, Has, IsAllowedLine, IsDecided, IsIn, IsRegion, IsSplit, IsWhollyIn, Region}
 use Rattle.roster_regions.specs.Splits.{AgreesOn, IsNumberOf}
-use Rattle.roster_regions.specs.Trees.{AreCertain, ArePossible, Offers}
+use Rattle.roster_regions.specs.Trees.{Offers}
 use Rattle.roster_regions.proofs.ListLemmas.{Contains-map}
 use Rattle.roster_regions.proofs.PropagationLemmas.{number_of}
 use Rattle.roster_regions.proofs.RegionLemmas.{among_from_Has, chosen_line, Has-from_among, lines_of_get, lines_of_is}
 
 -- ---- splits
-
-has_by_all : (lines : List AllowedLine) (line : AllowedLine) (p : ℕ) → Contains lines line → list_all (λ (l : AllowedLine). is_among l.set p) lines ≡ true → is_among line.set p ≡ true
-has_by_all lines line p among all = All-contains (λ (l : AllowedLine). is_among l.set p ≡ true) lines line (AllPass-from_list_all (λ (l : AllowedLine). is_among l.set p) lines all) among
-
-any_by_one : (lines : List AllowedLine) (line : AllowedLine) (p : ℕ) → Contains lines line → is_among line.set p ≡ true → list_any (λ (l : AllowedLine). is_among l.set p) lines ≡ true
-any_by_one lines line p among has = list_any_at (λ (l : AllowedLine). is_among l.set p) lines among.0 line among.1 (ap (λ (l : AllowedLine). is_among l.set p) among.2 ∙ has)
-
--- where no pairing is possible and not certain, all lines are the same
-pub agrees_on : (lines : List AllowedLine) (possible certain : List ℕ) → ArePossible lines possible → AreCertain lines certain → ((p : ℕ) → 0 < length lines → is_among possible p ≡ true → is_among certain p ≡ false → ⊥) → AgreesOn lines
-agrees_on lines possible certain some all none = (certain, λ k d inside p. go (get_or lines k d) p (Contains-get_or lines k d inside) (omega arith) (is_among certain p) (is_among (get_or lines k d).set p) refl refl)
-  where
-    go : (line : AllowedLine) (p : ℕ) → Contains lines line → 0 < length lines → (b h : Bool) → is_among certain p ≡ b → is_among line.set p ≡ h → is_among line.set p ≡ is_among certain p
-    go line p among here true h e f = has_by_all lines line p among (sym (all here p) ∙ e) ∙ sym e
-    go line p among here false false e f = f ∙ sym e
-    go line p among here false true e f = absurd (none p here (some p ∙ any_by_one lines line p among f) e)
 
 -- a pairing of some line is one of the problem's
 pub split_within : (problem : Problem) (region : Region) (k p : ℕ) → IsRegion problem region → k < length problem.persons → IsSplit region k p → p < length problem.pairings

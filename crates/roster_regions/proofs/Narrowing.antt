@@ -1,17 +1,8 @@
 -- One step of narrowing after another.
-use Rattle.std.proofs.Common.{ℕ, List, refl, ◌∙◌, arith}
+use Rattle.std.proofs.Common.{ℕ, List, ◌∙◌, arith}
 use Rattle.roster_model.specs.Problem.{Problem}
-use Rattle.roster_regions.specs.Regions.{IsIn, IsNarrowed, IsRegion, IsWhollyIn, Region}
+use Rattle.roster_regions.specs.Regions.{IsIn, IsNarrowed, Region}
 use Rattle.roster_regions.specs.Propagation.{Anything}
-
-pub narrowed_by_nothing : (problem : Problem) (Kept : List ℕ → Type 0) (region : Region) → IsRegion problem region → IsNarrowed problem Kept region region
-narrowed_by_nothing problem Kept region is = record {
-  region = is;
-  inside = λ places there. there;
-  kept = λ places there _. there;
-  size = omega arith;
-  scale = refl;
-}
 
 pub narrowed_then : (problem : Problem) (Kept : List ℕ → Type 0) (a b c : Region) → IsNarrowed problem Kept a b → IsNarrowed problem Kept b c → IsNarrowed problem Kept a c
 narrowed_then problem Kept a b c first second = record {
@@ -20,16 +11,6 @@ narrowed_then problem Kept a b c first second = record {
   kept = λ places there keeps. second.kept places (first.kept places there keeps) keeps;
   size = omega (arith, first.size, second.size);
   scale = second.scale ∙ first.scale;
-}
-
--- where all rosters meet the condition, none is lost
-pub narrowed_by_what_holds : (problem : Problem) (Kept Other : List ℕ → Type 0) (a b : Region) → IsNarrowed problem Kept a b → IsWhollyIn problem a Kept → IsNarrowed problem Other a b
-narrowed_by_what_holds problem Kept Other a b step all = record {
-  region = step.region;
-  inside = step.inside;
-  kept = λ places there _. step.kept places there (all places there);
-  size = step.size;
-  scale = step.scale;
 }
 
 -- where none is lost, those that meet a condition aren't either

@@ -1,15 +1,15 @@
 -- What the lines that are left say of who has a pairing.
-use Rattle.std.proofs.Common.{◌≡◌, ◌≢◌, ℕ, ◌+◌, ◌<◌, ◌≤◌, true, List, length, get_or, Option, Some, None, sym, ap, ◌∙◌, subst, ◌⊎◌, inl, inr, arith, below_more}
+use Rattle.std.proofs.Common.{◌≡◌, ◌≢◌, ℕ, ◌<◌, ◌≤◌, true, List, length, get_or, Some, sym, ap, ◌∙◌, subst, ◌⊎◌, inl, inr, arith}
 use Rattle.std.specs.List.{list_any}
 use Rattle.std.proofs.lemmas.Bool.{both_ways, cases_eq}
 use Rattle.std.proofs.lemmas.List.Folds.{list_any_at}
 use Rattle.std.proofs.lemmas.List.Sums.{AllPass-from_list_all}
 use Rattle.std.proofs.lemmas.List.Elements.{All-contains}
-use Rattle.std.proofs.lemmas.Option.{same_Some, slice_get-get_or}
+use Rattle.std.proofs.lemmas.Option.{slice_get-get_or}
 use Rattle.roster_model.specs.Places.{open_number}
 use Rattle.roster_model.specs.Problem.{Problem}
 use Rattle.roster_model.specs.Rules.{is_among}
-use Rattle.roster_regions.specs.Propagation.{IsSoleBefore, Lacks}
+use Rattle.roster_regions.specs.Propagation.{Lacks}
 use Rattle.roster_regions.specs.Regions.{lines_of, AllowedLine, Has, HasNot, IsIn, IsRegion, IsWhollyIn, Region}
 use Rattle.roster_regions.specs.Trees.{AreCertain}
 use Rattle.roster_regions.proofs.RegionLemmas.{among_from_Has, chosen_line, Has-from_among}
@@ -58,21 +58,4 @@ one_has problem region p sole is inside lack places there flown =
       ]
     ]
 
--- who has a pairing has it alone
-pub has_alone : (j k p : ℕ) (places : List ℕ) → Has k p places → (j ≡ k → ⊥) → HasNot j p places
-has_alone j k p places has other has' = other (same_Some j k (sym has' ∙ has))
-
 -- ---- one person more
-
-pub sole-keeps : (region : Region) (p k : ℕ) (sole : Option ℕ) → IsSoleBefore region p k sole → Lacks region p k → IsSoleBefore region p (k + 1) sole
-sole-keeps region p k None before lacks = below_more (Lacks region p) k before lacks
-sole-keeps region p k (Some sole) before lacks = (
-  omega (arith, before.0),
-  λ j inside other. elim (cases_eq j k) [
-    | inl same ↦ subst (Lacks region p) (sym same) lacks
-    | inr rest ↦ before.1 j (omega arith) other
-  ],
-)
-
-pub sole-takes : (region : Region) (p k : ℕ) → IsSoleBefore region p k None → IsSoleBefore region p (k + 1) (Some k)
-sole-takes region p k before = (omega arith, λ j inside other. before j (omega arith))

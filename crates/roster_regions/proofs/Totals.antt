@@ -7,9 +7,6 @@ use Rattle.std.proofs.lemmas.List.{drop_all, drop_more, take_more}
 use Rattle.roster_model.specs.Costs.{total}
 use Rattle.roster_model.proofs.CostLemmas.{total-nil, total-cons, total-append}
 
-pub total-range_none : (f : ℕ → ℤ) (first : ℕ) → total f (range_with_len first 0) ≡ pos 0
-total-range_none f first = total-nil f
-
 total-range_last : (f : ℕ → ℤ) (first n last : ℕ) → first + n ≡ last → total f (range_with_len first (suc n)) ≡ total f (range_with_len first n) +ℤ f last
 total-range_last f first zero last at =
     let here : first ≡ last = omega arith in

@@ -1,9 +1,9 @@
 -- The lines of a tree of choices, one choice after another.
-use Rattle.std.proofs.Common.{◌≡◌, ℕ, ◌+◌, ◌-◌, ◌<◌, ◌≤◌, Bool, true, false, ◌&&◌, ◌||◌, cond, eq-eqb, List, [], ◌∷◌, ◌++◌, length, get_or, take, drop, pos, refl, sym, ap, ◌∙◌, subst, inl, inr, arith, append-nil}
+use Rattle.std.proofs.Common.{◌≡◌, ℕ, ◌+◌, ◌-◌, ◌<◌, ◌≤◌, Bool, true, false, ◌&&◌, ◌||◌, cond, eq-eqb, List, [], ◌∷◌, ◌++◌, length, get_or, take, drop, pos, refl, sym, ap, ◌∙◌, subst, arith, append-nil}
 use Rattle.std.specs.Prelude.{All, Contains, filter}
 use Rattle.std.specs.List.{list_any, list_all}
-use Rattle.std.proofs.lemmas.Bool.{cases_eq, ne_eqb}
-use Rattle.std.proofs.lemmas.List.{append_assoc, take-append-drop, length-append, length-take, length_push, take_all, take-take, take-append-le, take_more}
+use Rattle.std.proofs.lemmas.Bool.{ne_eqb}
+use Rattle.std.proofs.lemmas.List.{append_assoc, take-append-drop, length-append, take_all, take-take, take_more}
 use Rattle.std.proofs.lemmas.List.Elements.{All-nil, All-cons, All-push, All-append, Contains-append_left, Contains-push, filter-append}
 use Rattle.std.proofs.lemmas.List.Folds.{list_any-append, list_all-append}
 use Rattle.roster_model.specs.Rules.{is_among}
@@ -71,34 +71,6 @@ pub next_path-deep : (path : List ℕ) (choice : Choice) → 0 < choice.depth �
 next_path-deep path choice deep =
     let other : choice.depth ≡ 0 → ⊥ = λ e. omega arith in
     rw (ne_eqb choice.depth 0 other) refl
-
-pub length-next_path : (path : List ℕ) (choice : Choice) → length (next_path path choice) ≤ choice.depth
-length-next_path path choice =
-    elim (cases_eq choice.depth 0) [
-      | inl root ↦ omega (arith, ap length (next_path-root path choice root))
-      | inr deep ↦ omega (arith, ap length (next_path-deep path choice (omega arith)), length_push (take (choice.depth - 1) path) choice.last, length-take (choice.depth - 1) path)
-    ]
-
--- what comes before its last pairing stays
-pub take-next_path : (n : ℕ) (path : List ℕ) (choice : Choice) → n ≤ choice.depth - 1 → n ≤ length path → take n (next_path path choice) ≡ take n path
-take-next_path n path choice above inside =
-    elim (cases_eq choice.depth 0) [
-      | inl root ↦
-          let none : n ≡ 0 = omega arith in
-          ap (λ m. take m (next_path path choice)) none ∙ ap (λ m. take m path) (sym none)
-      | inr deep ↦
-          let long : n ≤ length (take (choice.depth - 1) path) = omega (arith, length-take (choice.depth - 1) path) in
-          ap (take n) (next_path-deep path choice (omega arith))
-          ∙ take-append-le n (take (choice.depth - 1) path) (choice.last ∷ []) long
-          ∙ take-take n (choice.depth - 1) path above
-    ]
-
-pub next_path-reaches : (n : ℕ) (path : List ℕ) (choice : Choice) → n ≤ choice.depth - 1 → n ≤ length path → n ≤ length (next_path path choice)
-next_path-reaches n path choice above inside =
-    elim (cases_eq choice.depth 0) [
-      | inl root ↦ omega arith
-      | inr deep ↦ omega (arith, ap length (next_path-deep path choice (omega arith)), length_push (take (choice.depth - 1) path) choice.last, length-take (choice.depth - 1) path)
-    ]
 
 -- the step to position n of a path, from what has the path's first n pairings
 pub next_path-along : (out path : List ℕ) (shared n : ℕ) (choice : Choice) → take shared out ≡ take shared path → n ≤ shared → n < length path → choice.depth ≡ n + 1 → choice.last ≡ get_or path n 0 → next_path out choice ≡ take (n + 1) path
