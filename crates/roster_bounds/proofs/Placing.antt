@@ -22,15 +22,6 @@ placing_most table k (i ∷ lines) p =
       | inr other ↦ rw other (omega (arith, later))
     ]
 
-pub placing_least : (table : List (List Entry)) (k : ℕ) (lines : List ℕ) (p : ℕ) → k ≤ placing_person table k lines p
-placing_least table k [] p = omega arith
-placing_least table k (i ∷ lines) p =
-    let later = placing_least table (k + 1) lines p in
-    elim (cases_Bool (is_among (line_set table k i) p)) [
-      | inl member ↦ rw member (omega arith)
-      | inr other ↦ rw other (omega (arith, later))
-    ]
-
 -- where a line has the pairing, it isn't a later person
 pub placing_before : (table : List (List Entry)) (k : ℕ) (lines : List ℕ) (p j i at : ℕ) → slice_get lines j ≡ Some i → at ≡ k + j → is_among (line_set table at i) p ≡ true → placing_person table k lines p ≤ at
 placing_before table k [] p j i at found is member = absurd (omega (arith, slice_get_within [] j i found))

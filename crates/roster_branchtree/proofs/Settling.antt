@@ -5,7 +5,7 @@ use Rattle.std.proofs.lemmas.Bool.{cases_eq}
 use Rattle.std.proofs.lemmas.Option.{same_Some}
 use Rattle.roster_model.specs.Problem.{Problem}
 use Rattle.roster_model.specs.Rosters.{key_le, key_of, Key}
-use Rattle.roster_model.specs.Settled.{IsHeld, IsNotAfter, Settles}
+use Rattle.roster_model.specs.Settled.{IsHeld, Settles}
 use Rattle.roster_model.proofs.KeyLemmas.{key_le-refl, key_le-trans}
 use Rattle.roster_branchtree.specs.Shown.{IsEarlierOf, KeepsWatch, Watched}
 use Rattle.roster_branchtree.specs.Watching.{keeps_then}
@@ -17,19 +17,6 @@ watch_of problem every known = record { problem = problem; every = every; best =
 -- its roster is that of a legal roster of the problem
 pub watch_held : (problem : Problem) (every : ℕ) (known : Key) (now : Watched) → IsHeld problem known → KeepsWatch (watch_of problem every known) now → IsHeld problem now.best
 watch_held problem every known now held keeps = subst (λ p. IsHeld p now.best) keeps.problem (keeps.held held)
-
--- what was known or seen settles a region where it isn't after any roster there
-pub seen_settles : (problem : Problem) (Region : List ℕ → Type 0) (every : ℕ) (known : Key) (now : Watched) → IsHeld problem known → KeepsWatch (watch_of problem every known) now → IsNotAfter problem Region now.best
-    → Settles problem Region (λ places. every ≡ 0 → Region places) (Some known) now.best
-seen_settles problem Region every known now held keeps least = record {
-  held = watch_held problem every known now held keeps;
-  kept = keeps.kept;
-  least = least;
-  from = elim (cases_eq every 0) [
-    | inl never ↦ inl (ap (λ (key : Key). Some key) (sym (keeps.blind never)))
-    | inr looks ↦ inr (λ never. absurd (looks never))
-  ];
-}
 
 -- the best of what was seen before, found and seen since
 earlier : (found : Option Key) (before since best : Key) → key_le since before ≡ true → MatchOption found (best ≡ since) (λ key. IsEarlierOf key since best) → IsEarlierOf (unwrap_or found before) since best

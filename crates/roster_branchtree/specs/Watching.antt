@@ -1,7 +1,5 @@
 -- What a watch keeps, over one node and then more.
-use Rattle.std.proofs.Common.{◌≡◌, ◌<◌, true, refl, ◌∙◌, arith}
-use Rattle.roster_model.specs.Settled.{IsHeld}
-use Rattle.roster_model.specs.Rosters.{Key, key_le}
+use Rattle.std.proofs.Common.{refl, ◌∙◌}
 use Rattle.roster_model.proofs.KeyLemmas.{key_le-refl, key_le-trans}
 use Rattle.roster_branchtree.specs.Shown.{KeepsWatch, Watched}
 
@@ -21,14 +19,4 @@ keeps_then old mid new first second = record {
   held = λ held. second.held (first.held held);
   kept = key_le-trans new.best mid.best old.best second.kept first.kept;
   blind = λ never. second.blind (first.every ∙ never) ∙ first.blind never;
-}
-
--- what is legal and comes before the roster may take its place, at a node to look at
-pub keeps_earlier : (old : Watched) (shown : Key) → 0 < old.every → IsHeld old.problem shown → key_le shown old.best ≡ true → KeepsWatch old (record old { best = shown })
-keeps_earlier old shown looks held earlier = record {
-  problem = refl;
-  every = refl;
-  held = λ before. held;
-  kept = earlier;
-  blind = λ never. absurd (omega (arith, never));
 }

@@ -136,8 +136,9 @@ fn is_settled(
     }
 }
 
-/// The least roster of the span, if it comes before the given one. If the tables know what is left to search,
-/// and the answer needn't lie in the span, only that is searched.
+/// A roster that comes before the given one and isn't after any of the span; or none, and then the given one
+/// isn't after any of it. It lies in the span, unless the tables know what is left to search and the answer
+/// may lie elsewhere: then only that is searched.
 fn least_in<N: Nodes>(
     alloc: Global,
     problem: &Problem,

@@ -71,7 +71,7 @@ pub fn program<T: Threads + Wait + Sync, R: Read, W: Write, E: Write, G: Gate + 
     ensures memory { exit_status result ≡ 3 → writer.new ≡ writer.old }
     ensures unread_unwritten { has_failed reader.new ≡ true → writer.new ≡ writer.old }
 
-    // A device's failure is told where it happened and only there.
+    // A device's failure is told if it happened, and only then.
     ensures failed { (exit_status result ≡ 4)
         ↔ ((has_failed reader.new ≡ true) ⊎ (has_failed writer.new ≡ true)) }
     ensures limited { exit_status result ≤ 4 }

@@ -1,19 +1,16 @@
 -- What a replay keeps, and that it ends at rest.
-use Rattle.std.proofs.Common.{◌≡◌, ℕ, zero, suc, ◌+◌, ◌<◌, ◌==◌, Bool, true, false, List, [], ◌∷◌, ◌++◌, length, map, get_or, replicate, refl, sym, ap, ◌∙◌, subst, arith, Option, Some, None, inl, inr}
-use Rattle.std.specs.Prelude.{All, if◌then◌else◌, remove, slice_get, slice_index_or, slice_set}
+use Rattle.std.proofs.Common.{◌≡◌, ℕ, ◌+◌, ◌<◌, ◌==◌, Bool, true, false, List, [], ◌∷◌, ◌++◌, length, map, replicate, refl, sym, ap, ◌∙◌, subst, arith, Option, Some, None, inl, inr}
+use Rattle.std.specs.Prelude.{All, if◌then◌else◌, slice_get, slice_index_or, slice_set}
 use Rattle.std.proofs.lemmas.Bool.{cases_Bool, eq-eqb, eqb-true}
-use Rattle.std.proofs.lemmas.List.{append-nil, get_or-replicate, get_or-set_other, get_or-set_same, length-replicate, length-set, map_push, set-set}
-use Rattle.std.proofs.lemmas.List.Edits.{length-remove}
+use Rattle.std.proofs.lemmas.List.{append-nil, get_or-replicate, get_or-set_other, get_or-set_same, length-replicate, length-set, map_push}
 use Rattle.std.proofs.lemmas.List.Elements.{All-from_get_or, All-get_or, All-nil, All-push, All-replicate, All-same, All-set, All-weaker}
-use Rattle.std.proofs.lemmas.Option.{slice_get-get_or}
 use Rattle.roster_model.specs.Problem.{Problem}
 use Rattle.roster_model.specs.Rosters.{Key, key_le}
 use Rattle.roster_model.specs.Settled.{IsHeld}
 use Rattle.roster_branchtree.specs.Spans.{Span}
-use Rattle.roster_subtreepool.specs.States.{IsAtRest, Part, State, finished_by, held, opening, step}
-use Rattle.roster_subtreepool.specs.declared.event.Event.{Event}
-use Rattle.roster_subtreepool.specs.declared.event.Event.TheVariants.{Back, Finish, Take}
-use Rattle.roster_subtreepool.proofs.StepLemmas.{back-is, finish-is, step-keeps, step-same, take-is}
+use Rattle.roster_subtreepool.specs.States.{IsAtRest, Part, State, held, opening, step}
+use Rattle.roster_subtreepool.specs.declared.event.Event.TheVariants.{Finish}
+use Rattle.roster_subtreepool.proofs.StepLemmas.{finish-is, step-keeps}
 use Rattle.roster_subtreepool.proofs.TimesLemmas.{held_within}
 use Rattle.roster_incumbent.specs.Kept.{less_of}
 use Rattle.roster_combine.specs.Parts.{AreSettled, IsSettled, Task, span_of, spans_by, spans_if}
@@ -40,22 +37,6 @@ replays-opening task widths workers lists best held same none = record {
 
   no_span : Option Span
   no_span = None
-
--- an event that finishes nothing
-pub replays-same : (task : Task) (s next : State) (event : Event) (lists : List (List Part)) (best : Key) → IsReplaying task s lists best → finished_by event ≡ 0 → step s event ≡ Some next → IsReplaying task next lists best
-replays-same task s next event lists best old none is =
-    let kept = step-keeps s next event is in
-    let same = step-same s next event none is in
-    record {
-      held = old.held;
-      settled = old.settled;
-      agree = record {
-        covers = kept.widths ∙ old.agree.covers;
-        workers = subst (λ finished. All (λ (entry : ℕ × Span). entry.0 < length lists) finished) (sym same) old.agree.workers;
-        spans = λ worker within. old.agree.spans worker within ∙ ap (spans_by worker) (sym same);
-      };
-      hands = kept.hands ∙ old.hands;
-    }
 
 held_less : (problem : Problem) (old new : Key) (b : Bool) → key_le old new ≡ b → IsHeld problem old → IsHeld problem new → IsHeld problem (less_of old new)
 held_less problem old new true is first second = subst (λ (key : Key). IsHeld problem key) (sym (ap (λ b. if b then old else new) is)) first
@@ -135,52 +116,9 @@ replays-finish task s next worker part lists best old has is settled = record {
 
 -- ---- the hands
 
-set_none : (hands : List (Option Span)) (worker k : ℕ) → get_or hands k None ≡ None → get_or (slice_set hands worker None) k None ≡ None
-set_none [] worker k none = none
-set_none (hand ∷ hands) zero zero none = refl
-set_none (hand ∷ hands) zero (suc k) none = none
-set_none (hand ∷ hands) (suc worker) zero none = none
-set_none (hand ∷ hands) (suc worker) (suc k) none = set_none hands worker k none
-
-set_own : (hands : List (Option Span)) (worker : ℕ) → get_or (slice_set hands worker None) worker None ≡ None
-set_own [] worker = refl
-set_own (hand ∷ hands) zero = refl
-set_own (hand ∷ hands) (suc worker) = set_own hands worker
-
--- a worker that gives back has nothing, and who had nothing still has
-pub back-empties : (s next : State) (worker : ℕ) (span : Span) → held s worker ≡ Some span → step s (Back worker) ≡ Some next → held next worker ≡ None
-back-empties s next worker span has is =
-    ap (λ (t : State). held t worker) (back-is s next worker span has is) ∙ set_own s.hands worker
-
-pub back-others : (s next : State) (worker k : ℕ) (span : Span) → held s worker ≡ Some span → step s (Back worker) ≡ Some next → held s k ≡ None → held next k ≡ None
-back-others s next worker k span has is none =
-    ap (λ (t : State). held t k) (back-is s next worker span has is) ∙ set_none s.hands worker k none
-
 first_of : (pending : List Span) → 0 < length pending → (span : Span) × (slice_get pending 0 ≡ Some span)
 first_of [] some = absurd (omega (arith, some))
 first_of (span ∷ rest) some = (span, refl)
-
--- where nobody has a span, worker 0 takes the first pending one and finishes it
-pub idle-again : (s mid next : State) → IsIdle s → 0 < length s.hands → 0 < length s.pending → step s (Take 0 0) ≡ Some mid → step mid (Finish 0) ≡ Some next
-    → IsIdle next × (length next.pending + 1 ≡ length s.pending)
-idle-again s mid next idle workers some takes finishes = (
-  λ k. ap (λ (t : State). held t k) (final ∙ both) ∙ ap (λ hands. get_or hands k None) (set-set s.hands 0 (Some span) None) ∙ set_none s.hands 0 k (idle k),
-  omega (arith, ap (λ (t : State). length t.pending) (final ∙ both), length-remove s.pending 0 some),
-) where
-  span : Span
-  span = (first_of s.pending some).0
-
-  taken : mid ≡ record s { pending = remove s.pending 0; hands = slice_set s.hands 0 (Some span) }
-  taken = take-is s mid 0 0 span (slice_get-get_or s.hands 0 None workers ∙ ap (λ hand. Some hand) (idle 0)) (first_of s.pending some).1 takes
-
-  has : held mid 0 ≡ Some span
-  has = ap (λ (t : State). held t 0) taken ∙ get_or-set_same s.hands 0 (Some span) None workers
-
-  final : next ≡ record mid { hands = slice_set mid.hands 0 None; finished = mid.finished ++ (0, span) ∷ [] }
-  final = finish-is mid next 0 span has finishes
-
-  both : record mid { hands = slice_set mid.hands 0 None; finished = mid.finished ++ (0, span) ∷ [] } ≡ record s { pending = remove s.pending 0; hands = slice_set (slice_set s.hands 0 (Some span)) 0 None; finished = s.finished ++ (0, span) ∷ [] }
-  both = ap (λ (t : State). record t { hands = slice_set t.hands 0 None; finished = t.finished ++ (0, span) ∷ [] }) taken
 
 pub at_rest : (s : State) → IsIdle s → s.pending ≡ [] → IsAtRest s
 at_rest s idle none = record { pending = none; hands = All-from_get_or (λ hand. hand ≡ None) s.hands None (λ k within. idle k) }

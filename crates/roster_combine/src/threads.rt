@@ -4,6 +4,7 @@ ghost use Rattle.std.specs.Prelude.{◌≡◌, ◌+◌, ◌<◌, ◌≤◌, [], 
 ghost use Rattle.std.specs.Arc.{arc_value};
 ghost use Rattle.std.specs.Thread.{IsSync};
 ghost use Rattle.roster_model.specs.Problem.{Problem as PlainProblem};
+ghost use Rattle.roster_model.specs.Settled.{IsHeld};
 ghost use Rattle.roster_lines.specs.Entries.{Entry};
 ghost use Rattle.roster_lines.specs.Person.{IsTableOf};
 ghost use Rattle.roster_bounds.specs.Chosen.{priced_table};
@@ -70,8 +71,9 @@ fn begun<'a, R: Threads + Sync>(
 ) -> Result<(Arc<Roster>, Tables<'a>), AllocError>
     requires table { IsTableOf problem.now table.now }
     requires threads { 0 < threads }
-    ensures { IfOk result (λ begun.
+    ensures tables { IfOk result (λ begun.
         begun.1 ≡ priced_table problem.now table.now begun.1.prices) }
+    ensures held { IfOk result (λ begun. IsHeld problem.now (arc_value begun.0)) }
 {
     let known = first_known(alloc, problem)?;
     let (better, left) = search_bases(rt, alloc, problem, table, &known, threads)?;

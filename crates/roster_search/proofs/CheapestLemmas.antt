@@ -1,31 +1,18 @@
 -- How a cheapest roster of a region is closed in on.
-use Rattle.std.proofs.Common.{◌≡◌, ℕ, ◌+◌, ◌-◌, ◌<◌, List, Option, Some, None, ℤ, pos, ◌+ℤ◌, ◌≤ℤ◌, ◌<ℤ◌, refl, subst, arith}
+use Rattle.std.proofs.Common.{◌≡◌, ℕ, ◌+◌, ◌-◌, ◌<◌, List, Option, Some, None, ℤ, pos, ◌+ℤ◌, ◌<ℤ◌, refl, subst, arith}
 use borrow.Author.Differences.{up, down}
 use Rattle.std.proofs.lemmas.Int.{ints}
 use Rattle.roster_model.specs.Problem.{Problem}
 use Rattle.roster_model.specs.Rosters.{Key}
 use Rattle.roster_model.specs.Settled.{IsFoundWithin, IsHeld}
 use Rattle.roster_regions.specs.Regions.{IsIn, Region}
-use Rattle.roster_search.specs.Least.{CostsAtLeast, IsCheapestBelow}
+use Rattle.roster_search.specs.Least.{CostsAtLeast}
 
 -- a better roster costs less than `high`: less than the one that is found, if there is one
 abbrev pub IsBeaten : Problem → (List ℕ → Type 0) → ℤ → ℤ → Option Key → Type 0
 IsBeaten problem Region limit high None = high ≡ limit
 IsBeaten problem Region limit high (Some key) =
     IsHeld problem key × Region key.places × (key.cost ≡ high) × (key.cost <ℤ limit)
-
--- where nothing costs less than that, the one that is found is a cheapest one
-pub cheapest_at_end : (problem : Problem) (Region : List ℕ → Type 0) (limit low high : ℤ) (best : Option Key) → CostsAtLeast problem Region low → high ≤ℤ low → IsBeaten problem Region limit high best → IsCheapestBelow problem Region limit best
-cheapest_at_end problem Region limit low high None least met beaten =
-    λ others legal inside. let above = least others legal inside in omega (arith, ints)
-cheapest_at_end problem Region limit low high (Some key) least met beaten = (
-  record {
-    held = beaten.0;
-    inside = beaten.1;
-    least = λ others legal inside. let above = least others legal inside in let same = beaten.2 in omega (arith, ints);
-  },
-  beaten.3,
-)
 
 -- what is found in a copy of a region is found in the region
 pub found_in_copy : (problem : Problem) (here copied : Region) (most : ℤ) (found : Option Key) → copied ≡ here → IsFoundWithin problem (IsIn problem copied) most found → IsFoundWithin problem (IsIn problem here) most found

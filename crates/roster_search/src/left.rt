@@ -56,9 +56,9 @@ impl Left {
         self.others.places.as_slice()
     }
 
-    /// A legal roster that isn't after any of the box, nor after the known one, if it comes before that one.
-    /// Ranges of lines are as `least_of_box` takes them; those of other bases' persons aren't looked at, so
-    /// the roster needn't lie in the box.
+    /// A legal roster that comes before the known one and isn't after any of the box; or none, and then the
+    /// known one isn't after any of it. Ranges of lines are as the function `least_of_box` takes them; those
+    /// of other bases' persons aren't looked at, so the roster needn't lie in the box.
     pub fn least_of_box<N: Nodes>(
         &self,
         alloc: Global,

@@ -85,7 +85,8 @@ impl Found {
     }
 }
 
-/// The parts of all bases, found by so many threads. One base may be given up.
+/// The least rosters of bases, found by so many threads. The base `hard` may be given up; what is missing is
+/// searched by the caller.
 pub(crate) fn found_by_threads<R: Threads + Sync>(
     rt: &R,
     alloc: Global,
@@ -188,7 +189,7 @@ fn found_in_turn<R: Threads + Sync>(
     Ok(found)
 }
 
-/// What is found of the base. It is given up after some time if it may be.
+/// What is found of the base, which is given up after some nodes if it is the one that may be.
 fn attempt<R: Threads + Sync>(
     rt: &R,
     alloc: Global,

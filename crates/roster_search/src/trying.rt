@@ -20,8 +20,7 @@ use std::thread::Threads;
 /// thread settles sooner.
 const MOST_NODES: usize = 64;
 
-/// What is known of a base that was given up: prices, and a legal roster in which only its persons fly, if
-/// one was found.
+/// What is known of a base that was given up: prices, and a legal roster to begin with, if one was found.
 #[derive(Drop)]
 pub(crate) struct Tried {
     pub(crate) root: RootPrices,
@@ -33,7 +32,7 @@ pub(crate) struct Tried {
 pub(crate) enum Attempt {
     /// The least roster in which only its persons fly, if there is one.
     Settled(Option<Roster>),
-    /// Its search took too long.
+    /// Its search took too long, or met want of memory.
     GivenUp(Tried),
 }
 
@@ -59,8 +58,9 @@ impl Nodes for Patience {
     ghost follows = { λ old mid new first then. tt };
 }
 
-/// The least roster in which only persons of the base fly, if its search doesn't take long. Whatever ends
-/// the search, it is given up, and that it was want of memory isn't told.
+/// The least roster in which only persons of the base fly, with lines in their ranges, if its search doesn't
+/// take long. Whatever ends the search, the base is given up, and that it was want of memory isn't told: a
+/// later search meets it again, or doesn't need it.
 pub(crate) fn try_base<R: Threads + Sync>(
     rt: &R,
     alloc: Global,

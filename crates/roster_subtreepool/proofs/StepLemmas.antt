@@ -1,6 +1,6 @@
 -- What each event keeps and what it changes.
-use Rattle.std.proofs.Common.{length-append, ◌≡◌, ℕ, ◌+◌, Bool, true, false, List, [], ◌∷◌, ◌++◌, length, refl, sym, ap, ap₂, ◌∙◌, subst, arith, Option, Some, None}
-use Rattle.std.specs.Prelude.{if◌then◌else◌, option_and_then, remove, slice_get, slice_set}
+use Rattle.std.proofs.Common.{length-append, ◌≡◌, ℕ, ◌+◌, Bool, true, false, List, [], ◌∷◌, ◌++◌, length, refl, sym, ap, ◌∙◌, subst, arith, Option, Some, None}
+use Rattle.std.specs.Prelude.{if◌then◌else◌, option_and_then, slice_get, slice_set}
 use Rattle.std.proofs.lemmas.List.Sums.{sum_by-cons, sum_by_push}
 use Rattle.std.proofs.Math.ListN.{length-set}
 use Rattle.roster_branchtree.specs.Spans.{Span}
@@ -12,9 +12,6 @@ use Rattle.roster_subtreepool.specs.declared.event.Event.TheVariants.{Take, Halv
 pub record Keeps (old new : State) : Type 0 where
   pub widths : new.widths ≡ old.widths
   pub hands : length new.hands ≡ length old.hands
-
-keeps_hand : (old new : State) (worker : ℕ) (hand : Option Span) → new.widths ≡ old.widths → new.hands ≡ slice_set old.hands worker hand → Keeps old new
-keeps_hand old new worker hand widths hands = record { widths = widths; hands = ap length hands ∙ length-set old.hands worker hand }
 
 keeps_if : (old made new : State) (b : Bool) → Keeps old made → (if b then Some made else None) ≡ Some new → Keeps old new
 keeps_if old made new true kept is = let same : made ≡ new = cc in subst (Keeps old) same kept
@@ -158,15 +155,6 @@ pub after-finished : (widths : List ℕ) (workers : ℕ) (events : List Event) (
 after-finished widths workers events state is = omega (arith, play-finished events (opening widths workers) state is)
 
 -- ---- what the hands become
-
-pub take-is : (s next : State) (worker place : ℕ) (span : Span) → slice_get s.hands worker ≡ Some None → slice_get s.pending place ≡ Some span → step s (Take worker place) ≡ Some next
-    → next ≡ record s { pending = remove s.pending place; hands = slice_set s.hands worker (Some span) }
-take-is s next worker place span free there is =
-    let made = ap₂ (λ (hand : Option (Option Span)) (pending : Option Span). take_in s worker place hand pending) free there in cc
-
-pub back-is : (s next : State) (worker : ℕ) (span : Span) → held s worker ≡ Some span → step s (Back worker) ≡ Some next
-    → next ≡ record s { pending = s.pending ++ span ∷ []; hands = slice_set s.hands worker None }
-back-is s next worker span has is = let made = ap (back_in s worker) has in cc
 
 pub finish-is : (s next : State) (worker : ℕ) (span : Span) → held s worker ≡ Some span → step s (Finish worker) ≡ Some next
     → next ≡ record s { hands = slice_set s.hands worker None; finished = s.finished ++ (worker, span) ∷ [] }

@@ -2,7 +2,7 @@
 
 ghost use Rattle.std.specs.Prelude.{◌≡◌, ◌<◌, ◌+◌, ◌⊎◌, ◌∷◌, ◌++◌, [], false, length, IsTrue, IfErr, IfNone, IfOk, IfSome, None, OnErr, OnOk, Some, slice_get, true, unwrap_or};
 ghost use Rattle.std.specs.Arc.{arc_value};
-ghost use Rattle.roster_subtreepool.specs.Refusals.{descend_fault, halve_fault, hand_fault, is_free, take_fault};
+ghost use Rattle.roster_subtreepool.specs.Refusals.{descend_fault, halve_fault, is_free, take_fault};
 ghost use Rattle.roster_subtreepool.specs.States.{Adds, IsAtRest, State, can_halve, held, lower};
 
 use crate::event::Event;
@@ -51,7 +51,8 @@ impl<L: Ledger> Guarded<L> {
 
     /// The first pending span for the worker. None if the pool was stopped, or is at rest.
     fn next(&mut self, worker: usize) -> Result<Option<Piece>, PoolFault>
-        ensures taken { IfOk result (λ got. IfSome got (λ piece. Adds (Event.Take worker 0) self.old.state self.new.state
+        ensures taken { IfOk result (λ got. IfSome got (λ piece.
+            Adds (Event.Take worker 0) self.old.state self.new.state
             × (held self.new.state.state worker ≡ Some piece))) }
         ensures same { IfOk result (λ got. IfNone got (self.new.state ≡ self.old.state)) }
         ensures none { IfOk result (λ got. IfNone got ((self.old.stopped ≡ true)
@@ -87,8 +88,8 @@ impl<L: Ledger> Pool<L> {
     /// worker has a span. None if the pool is at rest, or was stopped. A worker that isn't there, or has
     /// a span, is refused at once, unless the pool was stopped.
     pub fn wait_take<R: Wait>(&self, rt: &R, worker: usize) -> Result<Option<Piece>, PoolFault>
-        ensures { IfErr result (λ fault. (state : State)
-            × (fault ≡ unwrap_or (take_fault state worker 0) PoolFault.Memory)) }
+        ensures { IfErr result (λ fault. (fault ≡ PoolFault.NotYours) ⊎ (fault ≡ PoolFault.Nothing)
+            ⊎ (fault ≡ PoolFault.Memory)) }
     {
         let guard = self.guarded.lock(rt);
         let mut guard = self
@@ -138,8 +139,8 @@ impl<L: Ledger> Pool<L> {
         worker: usize,
         piece: Piece,
     ) -> Result<(), (PoolFault, Piece)>
-        ensures fault { IfErr result (λ refused. (state : State)
-            × (refused.0 ≡ unwrap_or (hand_fault state worker piece) PoolFault.Memory)) }
+        ensures fault { IfErr result (λ refused. (refused.0 ≡ PoolFault.NotYours)
+            ⊎ (refused.0 ≡ PoolFault.Memory)) }
         ensures back { IfErr result (λ refused. refused.1 ≡ piece) }
     {
         let given = self.guarded.lock(rt).state.back(worker, piece);
@@ -158,8 +159,8 @@ impl<L: Ledger> Pool<L> {
         ensures counted { OnOk result (share.new ≡ share.old + 1) }
         ensures settled { IfOk result (λ settled. (settled.span ≡ done.piece) × (settled.best ≡ arc_value done.best)) }
         ensures same { OnErr result (share.new ≡ share.old) }
-        ensures fault { IfErr result (λ refused. (state : State)
-            × (refused.0 ≡ unwrap_or (hand_fault state worker done.piece) PoolFault.Memory)) }
+        ensures fault { IfErr result (λ refused. (refused.0 ≡ PoolFault.NotYours)
+            ⊎ (refused.0 ≡ PoolFault.Memory)) }
         ensures back { IfErr result (λ refused. refused.1 ≡ done) }
     {
         let settled = self.guarded.lock(rt).state.finish(worker, done, share);
