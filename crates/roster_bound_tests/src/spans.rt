@@ -43,7 +43,7 @@ pub(crate) fn shared(alloc: Global, places: &[u16], cost: i64) -> Result<Arc<Ros
 }
 
 /// The roster that leaves all open, which `check` takes.
-fn all_open(alloc: Global, problem: &Problem, table: &Table) -> Result<Arc<Roster>, Fail>
+pub(crate) fn all_open(alloc: Global, problem: &Problem, table: &Table) -> Result<Arc<Roster>, Fail>
     requires { IsTableOf problem.now table.now }
     ensures { IfOk result (λ known. IsHeld problem.now (arc_value known)) }
 {
@@ -55,7 +55,7 @@ fn all_open(alloc: Global, problem: &Problem, table: &Table) -> Result<Arc<Roste
 }
 
 /// What the search of this span answers.
-fn searched<S: Sight>(
+pub(crate) fn searched<S: Sight>(
     alloc: Global,
     problem: &Problem,
     table: &Table,
