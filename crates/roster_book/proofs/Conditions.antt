@@ -19,7 +19,7 @@ test_of code (condition ∷ conditions) =
 abbrev pub IsMet : Code → List (Code × Bool) → Type 0
 IsMet code conditions = test_of code conditions ≡ true
 
--- where none is unmet, that of each code is met
+-- if none is unmet, that of each code is met
 pub is_met : (conditions : List (Code × Bool)) → first_unmet conditions ≡ None → (code : Code) → IsMet code conditions
 is_met [] h code = refl
 is_met ((other, true) ∷ conditions) h code =

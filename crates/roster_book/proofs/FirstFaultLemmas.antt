@@ -41,7 +41,7 @@ first_fault-at command seen fields rest code faultless e =
     ∙ first_fault_after-faultless command [] seen (fields ∷ rest) faultless
     ∙ ap (λ (o : Option Code). fault_or o (next_row seen) (first_fault_after command (seen ++ fields ∷ []) rest)) e
 
--- the same where no record has one
+-- the same if no record has one
 pub first_fault-at-end : (command : Command) (records : List Record) → IsFaultlessSoFar command records → 0 < length records
     → first_fault command records ≡ missing_duty records
 unfolding first_fault_after
@@ -50,7 +50,7 @@ first_fault-at-end command records faultless some =
     ∙ ap (first_fault_after command []) (sym (append-nil records))
     ∙ first_fault_after-faultless command [] records [] faultless
 
--- the same where there is no record
+-- the same if there is no record
 pub first_fault-of-none : (command : Command) → first_fault command [] ≡ Some (fault_at 1 NoPeriod)
 unfolding first_fault
 first_fault-of-none command = refl

@@ -12,7 +12,7 @@ use Rattle.roster_book.specs.Reading.{AreSeen, records_between}
 
 -- ---- a byte
 
--- where it ends a record, it leaves the machine between two
+-- if it ends a record, it leaves the machine between two
 abbrev EndsBetween : State × Action → Type 0
 EndsBetween q = is_end q.1 ≡ true → ends_at_end q.0 ≡ false
 
@@ -79,7 +79,7 @@ record-leaves s fields field (c ∷ rest) p e =
     let left = cons-leaves s fields field c rest p (record-leaves (step default_config s c).0 (fields_after (step default_config s c).1 fields field) (field_after (step default_config s c).1 c field) rest p) e in
     (left.0, omega arith)
 
--- where it begins between two records, it takes a byte
+-- if it begins between two records, it takes a byte
 record-takes : (s : State) (xs : List ℕ) (p : Read) → ends_at_end s ≡ false
     → next_record default_config s [] [] xs ≡ Some p → (ends_at_end p.1 ≡ false) × (length p.2 < length xs)
 unfolding next_record

@@ -30,7 +30,7 @@ sectors_at-append given more d =
     ∙ map-append (λ (g : GivenSector). g.sector) (filter (is_of_duty d) given) (filter (is_of_duty d) (more ∷ []))
     ∙ one_more_of (is_of_duty d more) (sectors_at given d) more
 
--- where the duty is none of them, or an earlier one, they are as they were
+-- if the duty is none of them, or an earlier one, they are as they were
 flown-none : (given : List GivenSector) (sector : Sector) (d : ℕ) (duties : List Duty)
     → flown_from (given ++ record { duty = None; sector = sector } ∷ []) d duties ≡ flown_from given d duties
 unfolding flown_from

@@ -25,7 +25,7 @@ seen-more (Some records) None rest seen fields h next = absurd h
 seen-more (Some records) (Some others) None seen fields h next = absurd next
 seen-more (Some records) (Some others) (Some last) seen fields h next = h ∙ ap (λ (t : List Record). seen ++ t) next ∙ sym (append_assoc seen (fields ∷ []) last)
 
--- where none is left, those seen are all
+-- if none is left, those seen are all
 pub seen-all : (all left : Option (List Record)) (seen : List Record) (P : List Record → Type 0)
     → AreSeen all seen left → IfSome left (λ records. records ≡ []) → P seen → OfKnown P all
 seen-all None left seen P h none holds = (seen, holds)

@@ -22,7 +22,7 @@ placing_most table k (i ∷ lines) p =
       | inr other ↦ rw other (omega (arith, later))
     ]
 
--- where a line has the pairing, it isn't a later person
+-- if a line has the pairing, it isn't a later person
 pub placing_before : (table : List (List Entry)) (k : ℕ) (lines : List ℕ) (p j i at : ℕ) → slice_get lines j ≡ Some i → at ≡ k + j → is_among (line_set table at i) p ≡ true → placing_person table k lines p ≤ at
 placing_before table k [] p j i at found is member = absurd (omega (arith, slice_get_within [] j i found))
 placing_before table k (h ∷ lines) p zero i at found is member =

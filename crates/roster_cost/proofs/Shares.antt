@@ -12,14 +12,14 @@ use Rattle.roster_model.specs.Places.{open_number, places_with, set_of}
 use Rattle.roster_model.specs.Problem.{Problem, units_of}
 use Rattle.roster_model.proofs.CostLemmas.{total-nil, total-cons, total-both}
 
--- where no number of a range is x
+-- if no number of a range is x
 nowhere : (cost : ℕ → ℤ) (x first n : ℕ) → x < first → total (λ k. cond (eqb x k) (cost k) (pos 0)) (range_with_len first n) ≡ pos 0
 nowhere cost x first zero before = total-nil (λ k. cond (eqb x k) (cost k) (pos 0))
 nowhere cost x first (suc n) before =
     let here : cond (eqb x first) (cost first) (pos 0) ≡ pos 0 = rw (ne_eqb x first (λ e. omega arith)) refl in
     omega (arith, ints, total-cons (λ k. cond (eqb x k) (cost k) (pos 0)) first (range_with_len (first + 1) n), here, nowhere cost x (first + 1) n (omega arith))
 
--- and where one may be
+-- and if one may be
 at_one : (cost : ℕ → ℤ) (x first n last : ℕ) → first + n ≡ last → first ≤ x → total (λ k. cond (eqb x k) (cost k) (pos 0)) (range_with_len first n) ≡ cond (ltb x last) (cost x) (pos 0)
 at_one cost x first zero last at after =
     total-nil (λ k. cond (eqb x k) (cost k) (pos 0)) ∙ rw (le-ltb x last (omega arith)) refl

@@ -134,7 +134,7 @@ month_flight-set problem days k set rises = month_flight-ascending problem days 
 
 -- ---- of all persons
 
--- where no number of a range passes
+-- if no number of a range passes
 none_passes : (passes : ℕ → Bool) (minutes : ℕ → ℕ) (first n : ℕ) → ((k : ℕ) → first ≤ k → passes k ≡ true → ⊥) → sum_by (λ k. cond (passes k) (minutes k) 0) (range_with_len first n) ≡ 0
 none_passes passes minutes first zero none = omega arith
 none_passes passes minutes first (suc n) none =
@@ -143,7 +143,7 @@ none_passes passes minutes first (suc n) none =
     let later = none_passes passes minutes (first + 1) n (λ k past. none k (omega arith)) in
     omega (arith, sum_by-cons (λ k. cond (passes k) (minutes k) 0) first (range_with_len (first + 1) n), here, later)
 
--- and where one does at most
+-- and if one does at most
 one_passes : (passes : ℕ → Bool) (minutes : ℕ → ℕ) (most first n : ℕ) → ((i j : ℕ) → passes i ≡ true → passes j ≡ true → i ≡ j) → ((k : ℕ) → minutes k ≤ most) → sum_by (λ k. cond (passes k) (minutes k) 0) (range_with_len first n) ≤ most
 one_passes passes minutes most first zero one few = omega arith
 one_passes passes minutes most first (suc n) one few =

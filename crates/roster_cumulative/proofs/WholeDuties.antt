@@ -38,7 +38,7 @@ run-whole measure divided days table list n last most short within few =
     let run = in_days days table minutes (IsDivided-sum_by measure divided list) (last + 1 - n) n (last + 1) (omega arith) (omega arith) in
     omega (arith, run, few (get_or days.mid (last + 1 - n) 0) (get_or days.mid (last + 1) 0))
 
--- where all duties keep the limit, each judged run does
+-- if all duties keep the limit, each judged run does
 runs-whole : (measure : Duty → ℕ → ℕ → ℕ) → ((duty : Duty) → IsDivided (measure duty)) → (days : Days) → IsTable days → (list : List Duty) (n most : ℕ) → n ≤ DAYS_BEFORE
     → ((from to : ℕ) → sum_by (λ duty. measure duty from to) list ≤ most) → KeepsLimit (on_day measure days list) days n most
 runs-whole measure divided days table list n most short few = λ k d inside.

@@ -142,7 +142,7 @@ behind year s t q r at standard summer inner start finish =
     ∙ ap (λ b. if a then summer.seconds else (if f then standard.seconds else (if b then summer.seconds else standard.seconds)))
     (same_span t (t -ℤ delta) r (saturating_sub r shift) at last (earlier year t r standard summer inner finish))
 
--- where the two offsets are one, it doesn't matter which holds
+-- if the two offsets are one, it doesn't matter which holds
 one_offset : (b : Bool) (standard summer : ℤ) → summer ≡ standard → standard ≡ (if b then summer else standard)
 one_offset true standard summer same = sym same
 one_offset false standard summer same = refl

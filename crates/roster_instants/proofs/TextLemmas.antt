@@ -34,7 +34,7 @@ pointwise-take test (suc n) (x ∷ xs) [] e = cc
 pointwise-take test (suc n) (x ∷ xs) (y ∷ ys) e =
     let both = and_parts _ _ e in and_from _ _ both.0 (pointwise-take test n xs ys both.1)
 
--- where a shape is all `0`, what has it is digits
+-- if a shape is all `0`, what has it is digits
 all_digits : (shape text : List ℕ) → list_all (λ s. s == 48) shape ≡ true → has_shape shape text ≡ true → all_ascii_digits text ≡ true
 all_digits [] [] zeros fits = refl
 all_digits [] (c ∷ cs) zeros fits = cc

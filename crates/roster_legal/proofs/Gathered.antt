@@ -116,7 +116,7 @@ distinct-more k from p set positions more duties l rises distinct old new =
     IsDistinct-append positions more distinct (distinct_rising more rises) (λ i h.
     new i ∙ neither (λ duty. is_listed k (places_before from set) duty.holder) (λ duty. is_held_by_pairing p duty.holder) (λ duty. not_held k from p set duty.holder l) (slice_get duties i) (sym (old i) ∙ h))
 
--- where no place is left, all are gathered
+-- if no place is left, all are gathered
 listed-all : (k from : ℕ) (set : List ℕ) (holder : Holder) → ((q : ℕ) → from ≤ q → is_among set q ≡ false) → is_listed k (places_before from set) holder ≡ is_listed k set holder
 listed-all k from set (OfPerson j) none = refl
 listed-all k from set (OfPairing q) none =

@@ -214,7 +214,7 @@ module _ (stepped : Stepped) (p : ℕ) (ordered : IsInOrder stepped.loads.proble
   fits : (most before brings after : ℕ) → after ≡ before + brings → after ≤ most → min most_load brings ≤ most - before
   fits most before brings after is h = omega arith
 
-  -- where it finds room, no sum is more than there may be,
+  -- if it finds room, no sum is more than there may be,
   pub within-next : (rooms loads : List ℕ) → AreRoomsOf problem k set rooms → loads ≡ map (load_of days brought) sums → AreWithin days (duty_list problem k set) (year_of problem k) (eleven_of problem k) → ((j : ℕ) → slice_index loads j ≤ slice_index rooms j) → AreWithin days (duty_list problem k (set ++ p ∷ [])) (year_of problem k) (eleven_of problem k)
   within-next rooms loads are is kept have =
       All-from_get_or (λ sum. sum_of days (duty_list problem k (set ++ p ∷ [])) sum ≤ most_of (year_of problem k) (eleven_of problem k) sum) sums MonthFlight (λ j inside.
@@ -225,7 +225,7 @@ module _ (stepped : Stepped) (p : ℕ) (ordered : IsInOrder stepped.loads.proble
       let enough_room : load_of days brought sum ≤ room_of days (duty_list problem k set) (year_of problem k) (eleven_of problem k) sum = omega arith in
       enough (most_of (year_of problem k) (eleven_of problem k) sum) (sum_of days (duty_list problem k set) sum) (sum_of days brought sum) (sum_of days (duty_list problem k (set ++ p ∷ [])) sum) (most-few (year_of problem k) (eleven_of problem k) sum) (All-get_or (λ s. sum_of days (duty_list problem k set) s ≤ most_of (year_of problem k) (eleven_of problem k) s) sums j MonthFlight inside kept) (more sum) enough_room)
 
-  -- and where it is legal, it finds room
+  -- and if it is legal, it finds room
   pub room-next : (rooms loads : List ℕ) → AreRoomsOf problem k set rooms → loads ≡ map (load_of days brought) sums → IsLegal problem k (set ++ p ∷ []) → (j : ℕ) → slice_index loads j ≤ slice_index rooms j
   room-next rooms loads are is legal_next j =
       elim (cases_lt j (length sums)) [

@@ -28,7 +28,7 @@ HasBelow-with P set new n p has later none is members q = (
   ],
 )
 
--- and where it isn't
+-- and if it isn't
 pub HasBelow-without : (P : ℕ → Type 0) (set : List ℕ) (n p : ℕ) → HasBelow P n set → n ≤ p → ((q : ℕ) → n ≤ q → q < p → P q → ⊥) → (P p → ⊥) → HasBelow P (p + 1) set
 HasBelow-without P set n p has later none not q = (
   λ h. let below = ((has q).0 h).0 in (omega arith, ((has q).0 h).1),

@@ -21,7 +21,7 @@ All-slice_get P xs i x all at = subst P (get_or_from_slice_get xs i x x at) (all
 abbrev pub AreAmong : List (List ℕ) → List (List ℕ) → Type 0
 AreAmong sets others = (i : ℕ) (set : List ℕ) → slice_get sets i ≡ Some set → (j : ℕ) × (slice_get others j ≡ Some set)
 
--- where both are in order, it stands no earlier there
+-- if both are in order, it stands no earlier there
 pub no_earlier : (sets others : List (List ℕ)) → AreOrdered sets → AreOrdered others → AreAmong sets others → (i : ℕ) (set : List ℕ) → slice_get sets i ≡ Some set → (j : ℕ) × (i ≤ j) × (slice_get others j ≡ Some set)
 no_earlier sets others up over among zero set at = let found = among 0 set at in (found.0, omega arith, found.1)
 no_earlier sets others up over among (suc i) set at =

@@ -24,7 +24,7 @@ IsMadeOf-from_clauses problem k (Err e) sets costs few fault = fault
 pub IsTableSoFar-push : (problem : Problem) (table : List (List Entry)) (lines : List Entry) → IsTableSoFar problem table → AreMade problem (length table) lines → IsTableSoFar problem (table ++ lines ∷ [])
 IsTableSoFar-push problem table lines each made = each-push (AreMade problem) table lines each made
 
--- where the next person has too many lines, nobody before has
+-- if the next person has too many lines, nobody before has
 pub IsFirstCrowded-next : (problem : Problem) (table : List (List Entry)) → IsTableSoFar problem table → length table < length problem.persons → IsCrowded problem (length table) → IsFirstCrowded problem (length table)
 IsFirstCrowded-next problem table each person crowded = record {
   person = person;

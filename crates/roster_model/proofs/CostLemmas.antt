@@ -37,7 +37,7 @@ total-pos f (x ∷ xs) = omega (arith, ints, total-cons (λ y. pos (f y)) x xs, 
 
 -- ---- units
 
--- where no units are beyond their limit, those of a pair aren't
+-- if no units are beyond their limit, those of a pair aren't
 pub units-limited : (costs : List Cost) (k p : ℕ) → All (λ cost. unsigned_abs cost.units ≤ MOST_UNITS) costs → unsigned_abs (unwrap_or (units_given costs k p) (pos 0)) ≤ MOST_UNITS
 units-limited [] k p few = omega arith
 units-limited (cost ∷ costs) k p few =

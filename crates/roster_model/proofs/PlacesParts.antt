@@ -20,7 +20,7 @@ pub number_from_set_of : (k p : ℕ) (places : List ℕ) → p < length places �
 number_from_set_of k p places inside member =
     eqb-true (get_or places p 0) k (sym (is_among-set_of_at k p places 0 inside) ∙ member)
 
--- where a number has the same set in two lists, it stands at the same places
+-- if a number has the same set in two lists, it stands at the same places
 pub same_number : (k p : ℕ) (xs ys : List ℕ) → length xs ≡ length ys → p < length xs → set_of k xs ≡ set_of k ys → get_or xs p 0 ≡ k → get_or ys p 0 ≡ k
 same_number k p xs ys long inside same number =
     number_from_set_of k p ys (omega (arith, long)) (subst (λ set. is_among set p ≡ true) same (in_set_of_number k p xs inside number))

@@ -73,7 +73,7 @@ Settles-then problem First Second Both Own old mid new first second covers = rec
   ];
 }
 
--- where the new roster lies in the region, it is the least there
+-- if the new roster lies in the region, it is the least there
 pub Settles-least : (problem : Problem) (Region Own : List ℕ → Type 0) (old : Option Key) (new : Key) → Settles problem Region Own old new → Region new.places → IsLeastIn problem Region new.places
 Settles-least problem Region Own old new settled inside = record {
   is_legal = settled.held.legal;
@@ -81,7 +81,7 @@ Settles-least problem Region Own old new settled inside = record {
   least = subst (IsNotAfter problem Region) (held-key problem new settled.held) settled.least;
 }
 
--- where the region has all lists, the key is that of the best roster
+-- if the region has all lists, the key is that of the best roster
 pub Settles-all : (problem : Problem) (Region Own : List ℕ → Type 0) (old : Option Key) (new : Key) → Settles problem Region Own old new → ((others : List ℕ) → Region others) → IsBest problem new.places
 Settles-all problem Region Own old new settled all =
     let whole = Settles-within problem Region Anywhere Own old new settled (λ others _ _. all others) in

@@ -43,7 +43,7 @@ rises_at zone day h = below_from_test _ _ _ _ h
 ordered : (a b c d mid eight ten next : ℕ) → mid ≡ a → eight ≡ b → ten ≡ c → next ≡ d → (a < b) × (b < c) × (c < d) → (mid < eight) × (eight < ten) × (ten < next)
 ordered a b c d mid eight ten next e f g h (i, j, k) = (omega arith, omega arith, omega arith)
 
--- where each day rises, the table does
+-- if each day rises, the table does
 pub table-rises : (period : Period) (zone : TzText) → rises period zone ≡ true → IsRising (days_shown period zone)
 table-rises period zone all = record {
   on = λ i mid eight ten next is_mid is_eight is_ten is_next.

@@ -20,7 +20,7 @@ put_elsewhere number set old new p put inside other =
 abbrev pub Throughout : ℕ → List ℕ → List ℕ → Type 0
 Throughout number set places = All (λ p. get_or places p 0 ≡ number) set
 
--- where the old number is put back, the list is the old one
+-- if the old number is put back, the list is the old one
 pub put_back : (number before : ℕ) (set old mid new : List ℕ) → Throughout before set old → IsPut number set old mid → IsPut before set mid new → new ≡ old
 put_back number before set old mid new free put back =
     let long = put.covers in

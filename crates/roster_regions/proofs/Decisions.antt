@@ -31,7 +31,7 @@ split_within problem region k p is person split =
     let known = All-contains (IsAllowedLine problem region.scale k) (lines_of region k) found.1 (is.each k (lines_of region k) (lines_of_get region k inside)) (found.0, found.2, found.3) in
     All-is_among (λ q. q < length problem.pairings) found.1.set p known.is_line.places found.4
 
--- where the lines of each person are the same, nobody is split
+-- if the lines of each person are the same, nobody is split
 pub decided_by_each : (region : Region) (n : ℕ) → length region.choices ≡ n → ((k : ℕ) → k < n → AgreesOn (lines_of region k)) → IsDecided region
 decided_by_each region n covers each k lines at =
     let inside = slice_get_within region.choices k lines at in
@@ -72,7 +72,7 @@ chosen_inside problem region places is there k person =
 pub number_of_owner : (problem : Problem) (region : Region) (k p : ℕ) → IsWhollyIn problem region (Has k p) → IsNumberOf problem region p k
 number_of_owner problem region k p all places there = get_or_from_slice_get places p k 0 (all places there)
 
--- where all lines of each person are the same, a pairing that nobody's lines all have is open
+-- if all lines of each person are the same, a pairing that nobody's lines all have is open
 pub number_of_nobody : (problem : Problem) (region : Region) (p : ℕ) → IsRegion problem region → IsDecided region → p < length problem.pairings → ((k : ℕ) → k < length problem.persons → IsUncertain region p k) → IsNumberOf problem region p (open_number problem)
 number_of_nobody problem region p is decided inside uncertain places there =
     elim (number_of problem region p places there inside) [

@@ -88,7 +88,7 @@ length-filter-lt {X} test (x ∷ xs) fails = go (length-filter-lt test xs) (leng
         omega arith
     go shorter most false e = omega arith
 
--- where some pass, not all fail
+-- if some pass, not all fail
 pub list_all-not : {X : Type 0} (test : X → Bool) (xs : List X) → list_any test xs ≡ true → list_all (λ x. not (test x)) xs ≡ false
 list_all-not test [] some = absurd (both_ways false refl some)
 list_all-not {X} test (x ∷ xs) some = go (list_all-not test xs) (test x) refl

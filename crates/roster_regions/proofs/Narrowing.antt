@@ -13,7 +13,7 @@ narrowed_then problem Kept a b c first second = record {
   scale = second.scale ∙ first.scale;
 }
 
--- where none is lost, those that meet a condition aren't either
+-- if none is lost, those that meet a condition aren't either
 pub narrowed_by_less : (problem : Problem) (Kept : List ℕ → Type 0) (a b : Region) → IsNarrowed problem Anything a b → IsNarrowed problem Kept a b
 narrowed_by_less problem Kept a b step = record {
   region = step.region;
@@ -23,7 +23,7 @@ narrowed_by_less problem Kept a b step = record {
   scale = step.scale;
 }
 
--- where those that meet a condition meet the other
+-- if those that meet a condition meet the other
 pub narrowed_by_more : (problem : Problem) (Kept Other : List ℕ → Type 0) (a b : Region) → IsNarrowed problem Kept a b → ((places : List ℕ) → IsIn problem a places → Other places → Kept places) → IsNarrowed problem Other a b
 narrowed_by_more problem Kept Other a b step all = record {
   region = step.region;

@@ -50,7 +50,7 @@ count-same-by test n (suc m) none =
     let before = count-same-by test n m (λ k from below. none k from (omega arith)) in
     ap (count_below test) next ∙ count-more test (n + m) ∙ omega (arith, last, before)
 
--- where none from n on passes
+-- if none from n on passes
 pub count-same : (test : ℕ → Bool) (n m : ℕ) → n ≤ m → ((k : ℕ) → n ≤ k → k < m → test k ≡ false) → count_below test m ≡ count_below test n
 count-same test n m order none =
     let there : n + (m - n) ≡ m = omega arith in

@@ -17,7 +17,7 @@ one-fewer true false more = absurd (false≢true (more refl))
 one-fewer false true more = omega arith
 one-fewer false false more = omega arith
 
--- where each number below n that passes the first test passes the second
+-- if each number below n that passes the first test passes the second
 count-fewer : (p q : ℕ → Bool) (n : ℕ) → ((i : ℕ) → i < n → p i ≡ true → q i ≡ true) → count_below p n ≤ count_below q n
 count-fewer p q zero more = omega arith
 count-fewer p q (suc n) more =
@@ -57,7 +57,7 @@ held-later days table from i j order within = let later = ten-later days table i
 -- ---- the nights that it takes
 
 module _ (days : Days) (table : IsTable days) (from : ℕ) where
-  -- where the night is the last of as many as it takes
+  -- if the night is the last of as many as it takes
   pub rested-found : (night : ℕ) → night < length days.eight - 1 → count_below (can_hold days from) (night + 1) ≡ RECURRENT_NIGHTS → count_below (can_hold days from) night < RECURRENT_NIGHTS → (rested : ℕ) → rested ≡ max (from + RECURRENT_REST) (held_by days from night) → IsRestedBy days from rested
   rested-found night within enough few rested is to last = (
     λ rest. elim (cases_lt to (held_by days from night)) [
@@ -81,7 +81,7 @@ module _ (days : Days) (table : IsTable days) (from : ℕ) where
     },
   )
 
-  -- where there are too few
+  -- if there are too few
   pub rested-never : count_below (can_hold days from) (length days.eight - 1) < RECURRENT_NIGHTS → IsRestedBy days from (LAST_INSTANT + 1)
   rested-never few to last = (
     λ rest.

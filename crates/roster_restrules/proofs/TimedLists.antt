@@ -46,7 +46,7 @@ module _ (timed : Timed) (positions : List ℕ) (within : All (λ p. p < length 
             });
       }
 
-  -- and where there is none, it goes on
+  -- and if there is none, it goes on
   pub block-goes_on : (first i : ℕ) (before at : DutyTimes) → 0 < i → i < length positions → IsAt timed positions (i - 1) before → IsAt timed positions i at → at.report ≤ LAST_INSTANT → at.report < before.rested → IsBlock timed.days (picked timed.duties positions) first (i - 1) → IsBlock timed.days (picked timed.duties positions) first i
   block-goes_on first i before at later inside is_before is_at short tired block =
       let a = there (i - 1) (omega arith) in

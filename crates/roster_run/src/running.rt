@@ -25,9 +25,10 @@ use std::thread::Threads;
 /// Reads a book to its end or to its first fault, does what the command asks, and writes the one
 /// answer. The status tells if that could not be done.
 ///
-/// So many workers search for the best roster, each in a thread of its own, and pass the gate. What is written
-/// is said without them: whatever their number, whichever parts of the search each takes, and whenever it sees
-/// a better roster of another, it is what one thread writes. It may wait for threads and locks.
+/// So many workers search for the best roster, each in a thread of its own, and pass the gate. What is
+/// written is said without them: whatever their number, whichever parts of the search each takes, and
+/// whenever it sees a better roster of another, it is what one thread writes. It may wait for threads and
+/// locks.
 pub fn run<T: Threads + Wait + Sync, R: Read, W: Write, G: Gate + Sync>(
     rt: &T,
     alloc: Global,

@@ -119,7 +119,7 @@ only_base problem table ranges base others covers legal inside =
           set_of-merge_other problem (λ b. eqb b base) others (all_open problem) k legal open_legal person none ∙ nobody_flies problem k person;
     }
 
--- where a base has none, the box has none
+-- if a base has none, the box has none
 pub settled_by_none : (problem : Problem) (table : List (List Entry)) (ranges : List (ℕ × ℕ)) (base : ℕ) (known : Key) → length ranges ≡ length problem.persons → IsHeld problem known
     → CostsAtLeast problem (IsInPart problem table ranges (λ b. eqb b base)) (pos (2 ^ 63 - 1)) → ((places : List ℕ) → IsLegalRoster problem places → cost_of problem places <ℤ pos (2 ^ 63 - 1))
     → Settles problem (IsInRanges table ranges) (IsInRanges table ranges) (Some known) known

@@ -18,7 +18,7 @@ IsBeaten problem Region limit high (Some key) =
 pub found_in_copy : (problem : Problem) (here copied : Region) (most : ℤ) (found : Option Key) → copied ≡ here → IsFoundWithin problem (IsIn problem copied) most found → IsFoundWithin problem (IsIn problem here) most found
 found_in_copy problem here copied most found same is = subst (λ region. IsFoundWithin problem (IsIn problem region) most found) same is
 
--- where none costs so little, each costs more
+-- if none costs so little, each costs more
 pub raised_least : (problem : Problem) (Region : List ℕ → Type 0) (most low : ℤ) → IsFoundWithin problem Region most None → low ≡ most +ℤ pos 1 → CostsAtLeast problem Region low
 raised_least problem Region most low none next =
     λ others legal inside. let above = none others legal inside in omega (arith, ints)

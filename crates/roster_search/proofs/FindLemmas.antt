@@ -61,7 +61,7 @@ within_part problem Kept old new most key part found = record {
   within = found.within;
 }
 
--- where a part has all that is cheap, and nothing in it is, nothing is
+-- if a part has all that is cheap, and nothing in it is, nothing is
 pub more_than_part : (problem : Problem) (old new : Region) (most : ℤ) → IsNarrowed problem (CostsAtMost problem most) old new → CostsMore problem (IsIn problem new) most → CostsMore problem (IsIn problem old) most
 more_than_part problem old new most part more =
     λ others legal inside. elim (cost_cases most (cost_of problem others)) [
@@ -82,7 +82,7 @@ pub found_in_part : (problem : Problem) (old new : Region) (most : ℤ) (found :
 found_in_part problem old new most None part is = more_than_part problem old new most part is
 found_in_part problem old new most (Some key) part is = within_part problem (CostsAtMost problem most) old new most key part is
 
--- where nothing is cheap in which the person has the pairing, what is found among the others is what is
+-- if nothing is cheap in which the person has the pairing, what is found among the others is what is
 -- found in the whole
 pub found_in_rest : (problem : Problem) (k p : ℕ) (old having rest : Region) (most : ℤ) (found : Option Key) → IsNarrowed problem (Has k p) old having → IsNarrowed problem (HasNot k p) old rest → CostsMore problem (IsIn problem having) most → IsFoundWithin problem (IsIn problem rest) most found → IsFoundWithin problem (IsIn problem old) most found
 found_in_rest problem k p old having rest most (Some key) given denied more is = within_part problem (HasNot k p) old rest most key denied is
@@ -108,7 +108,7 @@ settled_in_whole problem old new before after part settled =
       from = elim settled.from [ inl same ↦ inl same | inr own ↦ inr (part.inside after.places own) ];
     }
 
--- where each roster costs more, the given one is settled
+-- if each roster costs more, the given one is settled
 pub settled_below : (problem : Problem) (region : Region) (key : Key) → IsHeld problem key → IsAllAbove problem region key.cost → Settles problem (IsIn problem region) (IsIn problem region) (Some key) key
 settled_below problem region key held above = record {
   held = held;

@@ -155,7 +155,7 @@ agree_before_first problem region key is held = record {
 
 -- ---- all is settled
 
--- where nothing is left in the region that comes before the roster
+-- if nothing is left in the region that comes before the roster
 settled_by_rest : (problem : Problem) (whole region : Region) (before after : Key) (p : ℕ) → CostsAtLeast problem (IsIn problem whole) before.cost → AgreeBefore problem p region after → GoesOn problem whole before region after → ((others : List ℕ) → IsIn problem region others → places_le after.places others ≡ true) → Settles problem (IsIn problem whole) (IsIn problem whole) (Some before) after
 settled_by_rest problem whole region before after p least agree on rest =
     let cheap = on.cheap in

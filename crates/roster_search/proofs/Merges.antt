@@ -27,7 +27,7 @@ get_or-merge problem part p xs ys same inside =
     get_or-pick (λ q. part (base_of_pairing problem q)) 0 p xs ys same inside
     ∙ ap (λ q. cond (part (base_of_pairing problem q)) (get_or xs p 0) (get_or ys p 0)) first
 
--- where each number is that of the part or of the others, the list is merged
+-- if each number is that of the part or of the others, the list is merged
 pub merged_at_end : (problem : Problem) (base n : ℕ) (part others places : List ℕ) → length part ≡ length problem.pairings → length others ≡ length problem.pairings → length places ≡ n → n ≡ length others
     → ((q : ℕ) → q < n → get_or places q 0 ≡ cond (eqb (base_of_pairing problem q) base) (get_or part q 0) (get_or others q 0)) → places ≡ merge problem (λ b. eqb b base) part others
 merged_at_end problem base n part others places one two long all each =

@@ -115,7 +115,8 @@ fn begun(
     requires known { IsHeld problem.now known.now }
     requires tried { IfSome tried.roster (IsHeld problem.now) }
     requires others { IsLeast problem.now
-        (IsInPart problem.now table.now ranges.now (λ b. not (b == base))) (key_of problem.now others.items) }
+        (IsInPart problem.now table.now ranges.now (λ b. not (b == base)))
+        (key_of problem.now others.items) }
     ensures { IfOk result (IsSearched problem.now known.now) }
 {
     let Tried { root, roster } = tried;
@@ -226,8 +227,8 @@ fn merged_but_for<N: Nodes>(
     Ok(Some(places))
 }
 
-/// The places with those of the least roster of one base more, unless it is the one that is left out; or none,
-/// if it has no roster.
+/// The places with those of the least roster of one base more, unless it is the one that is left out; or
+/// none, if it has no roster.
 fn with_base<N: Nodes>(
     alloc: Global,
     problem: &Problem,

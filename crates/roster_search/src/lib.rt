@@ -1,10 +1,10 @@
 //! The least roster of a box of lines.
 //!
-//! `least_of_box` answers the least legal roster of a box if it is before a known one. `search_bases` does so
-//! for all lines, by several threads, or says what is `Left` to search. They ask one thing again and again: whether a region has a
-//! roster that costs at most so much (`find`). Least cost and ties are loops round that, so nothing that
-//! prunes knows of ties. Bases share neither persons nor pairings, so each is searched apart. In reading
-//! order:
+//! `least_of_box` answers the least legal roster of a box if it is before a known one. `search_bases` does
+//! so for all lines, by several threads, or says what is `Left` to search. They ask one thing again and
+//! again: whether a region has a roster that costs at most so much (`find`). Least cost and ties are loops
+//! round that, so nothing that prunes knows of ties. Bases share neither persons nor pairings, so each is
+//! searched apart. In reading order:
 //!
 //! - `boxes`: the least roster of a box, merged from those of its bases
 //! - `left`: what is left to search if all bases but one are settled

@@ -1,9 +1,9 @@
 //! A pool of spans that workers share: who has which part of the box of all lists of line numbers.
 //!
-//! A `PoolState` keeps which spans are pending, in a worker's hand and finished, and what happened to it. Its
-//! state is the replay of its history, whoever did what and in whatever order; and after any history each list
-//! of the box lies in just one span. So what is finished at rest is the whole box, each part once. A `Pool` is
-//! such a state behind a lock. In reading order:
+//! A `PoolState` keeps which spans are pending, in a worker's hand and finished, and what happened to it.
+//! Its state is the replay of its history, whoever did what and in whatever order; and after any history
+//! each list of the box lies in just one span. So what is finished at rest is the whole box, each part once.
+//! A `Pool` is such a state behind a lock. In reading order:
 //!
 //! - `event`: what happens to a pool
 //! - `fault`: what a pool refuses

@@ -17,7 +17,8 @@ use std::marker::Model;
 use std::sync::ledger::{Blank, Book, Ledger};
 use std::sync::{Arc, ledger};
 
-/// A span that is settled, and by which roster. Plain data. Contracts see it as the span and the roster's key.
+/// A span that is settled, and by which roster. Plain data. Contracts see it as the span and the roster's
+/// key.
 #[derive(Debug, Drop)]
 pub struct Settled {
     /// The span.
