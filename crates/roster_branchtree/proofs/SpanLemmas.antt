@@ -17,7 +17,8 @@ use Rattle.roster_lines.proofs.Numbers.{AreNumbersOf-exist}
 use Rattle.roster_regions.specs.Regions.{IsInRanges}
 use Rattle.roster_bounds.proofs.PricedLines.{lines_of_person}
 use Rattle.roster_bounds.proofs.OfNode.{has_line, later_is_apart}
-use Rattle.roster_branchtree.specs.Spans.{range_at, range_or, AreRangesOf, IsInSpan, Span}
+use Rattle.roster_branchtree.specs.Spans.{range_at, range_or, AreRangesOf, IsInSpan}
+use Rattle.roster_spans.specs.Spans.{Span}
 
 -- ---- ranges
 

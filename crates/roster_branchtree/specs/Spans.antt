@@ -1,20 +1,9 @@
--- Spans: the line numbers of the first persons, and a range for the next one.
-use Rattle.std.specs.Prelude.{◌≡◌, ℕ, ◌<◌, ◌≤◌, ◌+◌, ◌==◌, if◌then◌else◌, List, Option, Some, None, length, map, slice_get}
+-- The rosters of a span, and its range of lines for each person.
+use Rattle.std.specs.Prelude.{◌≡◌, ℕ, ◌<◌, ◌+◌, ◌==◌, if◌then◌else◌, List, Option, Some, None, length, map, slice_get}
 use Rattle.roster_model.specs.Lines.{AreNumbersOf}
 use Rattle.roster_lines.specs.Entries.{Entry, sets_of}
 use Rattle.roster_lines.specs.Person.{lines_at}
-
--- the numbers of the first persons' lines, and the next person's from the first number up to the second,
--- which isn't one of them
-pub record Span : Type 0 where
-  pub path : List ℕ
-  pub lo : ℕ
-  pub hi : ℕ
-
--- a list of line numbers begins with the path, and its next number is in the range
-pub record LiesIn (span : Span) (numbers : List ℕ) : Type 0 where
-  pub front : (k i : ℕ) → slice_get span.path k ≡ Some i → slice_get numbers k ≡ Some i
-  pub next : (i : ℕ) × (slice_get numbers (length span.path) ≡ Some i) × (span.lo ≤ i) × (i < span.hi)
+use Rattle.roster_spans.specs.Spans.{LiesIn, Span}
 
 -- the places have a list of line numbers that lies in the span
 abbrev pub IsInSpan : List (List Entry) → Span → List ℕ → Type 0

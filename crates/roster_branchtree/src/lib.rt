@@ -4,7 +4,6 @@
 //! answers a legal roster that isn't after any legal roster of the span, nor after the known one; it looks
 //! at a `Sight` now and then, whose answers it trusts in nothing. In reading order:
 //!
-//! - `span`: a part of the box, and a piece that holds one
 //! - `checked`: whether a roster is legal and has its cost
 //! - `ranges`: a span as a range of lines for each person
 //! - `sight`: who shows rosters to a search
@@ -16,10 +15,9 @@ mod checked;
 mod ranges;
 mod searching;
 mod sight;
-mod span;
 mod watch;
 
 pub use checked::{all_left, check};
-pub use searching::{Done, search};
+pub use roster_spans::{Done, Path, Piece, Span};
+pub use searching::search;
 pub use sight::Sight;
-pub use span::{Path, Piece, Span};

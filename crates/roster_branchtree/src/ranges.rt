@@ -6,10 +6,10 @@ ghost use Rattle.roster_lines.specs.Person.{IsTableOf};
 ghost use Rattle.roster_bounds.specs.Chosen.{HasLines};
 ghost use Rattle.roster_branchtree.specs.Spans.{range_at, AreLineNumbers, AreRangesOf};
 
-use crate::span::Span;
 use roster_bounds::{Node, Tables};
 use roster_lines::Table;
 use roster_problem::Problem;
+use roster_spans::Span;
 use std::alloc::{AllocError, Global};
 
 /// The node of the path: of the legal rosters that give the first persons these lines. There is none if

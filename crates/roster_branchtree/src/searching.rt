@@ -10,24 +10,15 @@ ghost use Rattle.roster_branchtree.specs.Spans.{AreLineNumbers, IsInSpan};
 
 use crate::ranges::{node_of, ranges_of};
 use crate::sight::Sight;
-use crate::span::{Piece, Span};
 use crate::watch::{Watch, earlier_if};
 use roster_bounds::Tables;
 use roster_cost::Key;
 use roster_lines::Table;
 use roster_problem::{Problem, Roster};
 use roster_search::{Nodes, least_of_box};
+use roster_spans::{Done, Piece, Span};
 use std::alloc::{AllocError, Global};
 use std::sync::Arc;
-
-/// A piece whose span is settled, and by which roster. It must be spent, as a piece must.
-#[derive(Debug)]
-pub struct Done {
-    /// The piece.
-    pub piece: Piece,
-    /// The roster.
-    pub best: Arc<Roster>,
-}
 
 /// Searches the span of the piece. The roster that it answers is legal, with its cost; its key is after
 /// that of no legal roster in the span, and not after that of the known one.

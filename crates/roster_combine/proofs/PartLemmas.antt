@@ -14,7 +14,7 @@ use Rattle.roster_model.proofs.SettledLemmas.{held-key}
 use Rattle.roster_lines.specs.Entries.{Entry, sets_of}
 use Rattle.roster_lines.specs.Person.{IsTableOf, lines_at}
 use Rattle.roster_lines.proofs.Numbers.{AreNumbersOf-exist}
-use Rattle.roster_branchtree.specs.Spans.{LiesIn, Span}
+use Rattle.roster_spans.specs.Spans.{LiesIn, Span}
 use Rattle.roster_branchtree.proofs.SpanLemmas.{sets_at}
 use Rattle.roster_subtreepool.specs.Coverage.{IsInWidths}
 use Rattle.roster_subtreepool.specs.States.{Ended, Part}

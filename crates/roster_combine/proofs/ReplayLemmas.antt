@@ -7,7 +7,7 @@ use Rattle.std.proofs.lemmas.List.Elements.{All-from_get_or, All-get_or, All-nil
 use Rattle.roster_model.specs.Problem.{Problem}
 use Rattle.roster_model.specs.Rosters.{Key, key_le}
 use Rattle.roster_model.specs.Settled.{IsHeld}
-use Rattle.roster_branchtree.specs.Spans.{Span}
+use Rattle.roster_spans.specs.Spans.{Span}
 use Rattle.roster_subtreepool.specs.States.{IsAtRest, Part, State, held, opening, step}
 use Rattle.roster_subtreepool.specs.declared.event.Event.TheVariants.{Finish}
 use Rattle.roster_subtreepool.proofs.StepLemmas.{finish-is, step-keeps}

@@ -12,7 +12,8 @@ use Rattle.roster_model.proofs.RosterLemmas.{all_open_legal}
 use Rattle.roster_lines.specs.Entries.{Entry, sets_of}
 use Rattle.roster_lines.specs.Person.{lines_at, IsTableOf}
 use Rattle.roster_lines.proofs.Numbers.{AreNumbersOf-exist}
-use Rattle.roster_branchtree.specs.Spans.{IsInSpan, Span}
+use Rattle.roster_branchtree.specs.Spans.{IsInSpan}
+use Rattle.roster_spans.specs.Spans.{Span}
 use Rattle.roster_branchtree.proofs.SpanLemmas.{sets_at}
 
 -- ---- somebody is there

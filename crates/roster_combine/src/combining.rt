@@ -4,7 +4,7 @@ ghost use Rattle.std.specs.Prelude.{◌≡◌, ◌<◌, ◌↔◌, [], ℕ, All,
 ghost use Rattle.std.specs.Arc.{arc_value};
 ghost use Rattle.roster_lines.specs.Person.{IsTableOf};
 ghost use Rattle.roster_branchtree.specs.Shown.{IsEarlierOf};
-ghost use Rattle.roster_branchtree.specs.Spans.{Span as PlainSpan};
+ghost use Rattle.roster_spans.specs.Spans.{Span as PlainSpan};
 ghost use Rattle.roster_combine.specs.Parts.{Agree, AreSettled, IsBestKey, IsLeastOf, IsLeastOfAll, span_of, spans_by};
 
 use crate::root::{first_known, search_root, widths_of};

@@ -1,7 +1,7 @@
 //! Six persons with 36 lines each, and what is done with their spans.
 
-use roster_branchtree::{Done, Path, Piece, Span};
 use roster_problem::{Places, Roster};
+use roster_spans::{Done, Path, Piece, Span};
 use roster_subtreepool::{PoolFault, Settled};
 use std::alloc::{AllocError, Global};
 use std::sync::Arc;

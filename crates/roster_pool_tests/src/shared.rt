@@ -5,8 +5,8 @@ ghost use Rattle.std.specs.Prelude.{◌≡◌};
 use crate::given::{
     WIDTHS, back_refusal, finish_refusal, no_pairings, piece, refusal, split_refusal,
 };
-use roster_branchtree::{Done, Piece};
 use roster_problem::Roster;
+use roster_spans::{Done, Piece};
 use roster_subtreepool::{Event, Pool, PoolFault, PoolState, Share};
 use std::alloc::{AllocError, Global};
 use std::marker::Brand;

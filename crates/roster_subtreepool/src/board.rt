@@ -5,7 +5,7 @@ ghost use Rattle.roster_subtreepool.specs.Refusals.{descend_fault, halve_fault, 
 ghost use Rattle.roster_subtreepool.specs.States.{IsAtRest, can_descend, descended, held, lower, opening, step};
 
 use crate::event::Event;
-use roster_branchtree::{Path, Piece, Span};
+use roster_spans::{Path, Piece, Span};
 use std::alloc::{AllocError, Global};
 use std::marker::Model;
 

@@ -9,7 +9,7 @@ use crate::event::Event;
 use crate::fault::PoolFault;
 use crate::pool_state::{PoolState, Settled};
 use crate::share::Share;
-use roster_branchtree::{Done, Piece};
+use roster_spans::{Done, Piece};
 use std::sync::ledger::Ledger;
 use std::sync::{Condvar, Mutex, Wait};
 

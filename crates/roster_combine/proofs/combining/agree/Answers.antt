@@ -1,7 +1,7 @@
 use Rattle.std.proofs.Common.{◌<◌, ℕ, List, Vec, Global, length, map, sym, ap, ◌∙◌, subst, arith}
 use Rattle.std.specs.Prelude.{All}
 use Rattle.std.proofs.lemmas.List.{length-map}
-use Rattle.roster_branchtree.specs.Spans.{Span}
+use Rattle.roster_spans.specs.Spans.{Span}
 use Rattle.roster_subtreepool.specs.States.{Part}
 use Rattle.roster_combine.specs.Parts.{spans_by}
 use Rattle.roster_combine.proofs.combining.agree.Goals as goal

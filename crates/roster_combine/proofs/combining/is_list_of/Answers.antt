@@ -1,7 +1,7 @@
 use Rattle.std.proofs.Common.{◌≤◌, length, map, drop, sym, ap, ◌∙◌, arith}
 use Rattle.std.proofs.lemmas.Bool.{eq-eqb, eqb-true}
 use Rattle.std.proofs.lemmas.List.{drop_all, length-drop, length-map}
-use Rattle.roster_branchtree.specs.Spans.{Span}
+use Rattle.roster_spans.specs.Spans.{Span}
 use Rattle.std.proofs.Common.{List}
 use Rattle.roster_combine.specs.Parts.{span_of, spans_by}
 use Rattle.roster_combine.proofs.combining.is_list_of.Goals as goal

@@ -4,7 +4,8 @@ use Rattle.std.proofs.lemmas.Bool.{eqb-true}
 use Rattle.roster_model.specs.Rosters.{Key}
 use Rattle.roster_model.specs.Settled.{Anywhere}
 use Rattle.roster_model.proofs.SettledLemmas.{Settles-least, Settles-within}
-use Rattle.roster_branchtree.specs.Spans.{IsInSpan, Span}
+use Rattle.roster_branchtree.specs.Spans.{IsInSpan}
+use Rattle.roster_spans.specs.Spans.{Span}
 use Rattle.roster_combine.specs.Parts.{IsBestKey}
 use Rattle.roster_combine.proofs.RootLemmas.{nobody_best}
 use Rattle.roster_combine.proofs.root.search_root.Goals as goal

@@ -4,7 +4,7 @@ use Rattle.std.specs.Arc.{arc_value}
 use Rattle.std.proofs.lemmas.List.{get_or-map, get_or-set_same, length-map, length-set, map-set, set-set}
 use Rattle.std.proofs.Math.Seq.{map-set_same}
 use Rattle.roster_model.specs.Rosters.{Key}
-use Rattle.roster_branchtree.specs.Spans.{Span}
+use Rattle.roster_spans.specs.Spans.{Span}
 use Rattle.roster_subtreepool.specs.States.{Part, Played, held}
 use Rattle.roster_subtreepool.proofs.TimesLemmas.{held_within}
 use Rattle.roster_incumbent.specs.Kept.{less_of}

@@ -54,45 +54,9 @@ pub struct Span {
 }
 
 impl Model for Span {
-    ghost use Rattle.roster_branchtree.specs.Spans as model;
+    ghost use Rattle.roster_spans.specs.Spans as model;
 
     ghost Value = { model.Span };
 
     ghost view = { λ s. record { path = s.path; lo = s.lo; hi = s.hi } };
-}
-
-/// A span that someone has to search. It can't be copied, and it must be spent: by the search's `Done`, or
-/// by `forgo`. Contracts see it as its span.
-#[derive(Debug)]
-pub struct Piece {
-    span: Span,
-}
-
-impl Model for Piece {
-    ghost use Rattle.roster_branchtree.specs.Spans as model;
-
-    ghost Value = { model.Span };
-
-    ghost view = { λ p. p.span };
-}
-
-impl Piece {
-    /// The piece with this span.
-    pub fn of(span: Span) -> Piece
-        ensures { result ≡ span }
-    {
-        Piece { span }
-    }
-
-    /// Its span.
-    pub fn span(&self) -> &Span
-        ensures { result.now ≡ self.now }
-    {
-        &self.span
-    }
-
-    /// Spends the piece of a run that has failed.
-    pub fn forgo(self) {
-        let Piece { span: _ } = self;
-    }
 }
