@@ -9,6 +9,7 @@ use Rattle.roster_book.specs.Reading.{OfTold}
 use Rattle.roster_commandline.specs.Line.{command_name, spelling}
 use Rattle.roster_watched.specs.Watch.{inner_of, has_failed}
 use Rattle.roster_watched.specs.declared.watched.Watched.{Watched}
+use Rattle.roster_report.specs.Writing.{AppendsPrefix}
 
 -- the texts of the words
 abbrev pub texts_of : {A B : Type 0} → Vec (String A) B → List (List ℕ)
@@ -28,9 +29,10 @@ OfAsked Says words told = (command : Command) × Asks words command × OfTold (S
 abbrev pub no_text : List ℕ
 no_text = codes "error: a word of the command line is not UTF-8"
 
--- If there is a text, the writer holds what it held, then the text and a line feed, unless it failed. If there
--- is none, the writer is as it was.
+-- If there is a text, the writer holds what it held and then the text and a line feed, or, if it failed, the first
+-- bytes of that. If there is none, the writer is as it was.
 abbrev pub TellsLine : {D : Type 0} → (D → Option (List ℕ)) → Option (List ℕ) → Watched D → Watched D → Type 0
 TellsLine contents None old new = new ≡ old
 TellsLine contents (Some text) old new =
-    has_failed new ≡ false → Appends (contents (inner_of old)) (contents (inner_of new)) (text ++ (10 ∷ []))
+    (has_failed new ≡ false → Appends (contents (inner_of old)) (contents (inner_of new)) (text ++ (10 ∷ [])))
+    × AppendsPrefix (contents (inner_of old)) (contents (inner_of new)) (text ++ (10 ∷ []))

@@ -10,7 +10,7 @@ ghost use Rattle.clap.specs.Words as line;
 ghost use Rattle.roster_model.specs.Answer.{IsAnswer, IsRefusal, IsReport};
 ghost use Rattle.roster_problem.specs.declared.command.Command as asked;
 ghost use Rattle.roster_watched.specs.Watch.{inner_of, has_failed, is_flushed};
-ghost use Rattle.roster_report.specs.Writing.{Writes, WritesPart};
+ghost use Rattle.roster_report.specs.Writing.{AppendsPrefix, Writes, WritesPart};
 ghost use Rattle.roster_run.specs.Run.{exit_number, message_text};
 ghost use Rattle.roster_commandline.specs.Line.{roster_app, command_name, spelling};
 ghost use Rattle.roster_cli.specs.Program.{OfAsked, TellsLine, no_text, texts_of};
@@ -174,15 +174,18 @@ fn tell_line<E: Write>(text: &str, errors: &mut Watched<E>)
     requires { has_failed errors.old ≡ false }
     ensures { TellsLine E.contents (Some text.now) errors.old errors.new }
 {
-    if takes(text.as_bytes(), errors) {
-        takes(b"\n", errors);
+    if !takes(text.as_bytes(), errors) {
+        return;
     }
+    takes(b"\n", errors);
 }
 
 /// Whether the writer took the bytes; an interrupted write is a failure too.
 fn takes<E: Write>(text: &[u8], errors: &mut Watched<E>) -> bool
     requires { has_failed errors.old ≡ false }
     ensures taken { result ≡ true → Appends (E.contents (inner_of errors.old))
+        (E.contents (inner_of errors.new)) text.now }
+    ensures part { AppendsPrefix (E.contents (inner_of errors.old))
         (E.contents (inner_of errors.new)) text.now }
     ensures failed { has_failed errors.new ≡ not result }
 {
