@@ -75,7 +75,10 @@ fn fix(
         (IsNarrowed problem.now (CostsAtMost problem.now most) region.old region.new)
         (IsAllAbove problem.now region.old most)) }
 {
-    if ascent.is_decided() || !ascent.look(problem, region, room)? {
+    if ascent.is_decided() {
+        return Ok(true);
+    }
+    if !ascent.look(problem, region, room)? {
         return Ok(true);
     }
     region.tighten(alloc, problem, ascent.prices(), most)
