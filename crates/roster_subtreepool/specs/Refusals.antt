@@ -1,10 +1,10 @@
 -- What a pool refuses: the first of the faults that a call has, want of memory aside.
-use Rattle.std.specs.Prelude.{ℕ, ◌==◌, ◌&&◌, nat_eq, nat_lt, Bool, true, false, if◌then◌else◌, length, Option, Some, None, slice_get}
+use Rattle.std.specs.Prelude.{ℕ, ◌==◌, ◌&&◌, nat_eq, nat_lt, Bool, true, false, if◌then◌else◌, length, Option, Some, None, slice_get, unwrap_or}
 use Rattle.std.specs.Cmp.Lexicographic.{pointwise}
 use Rattle.roster_spans.specs.Spans.{Span}
 use Rattle.roster_subtreepool.specs.States.{State, can_descend, can_halve, held}
 use Rattle.roster_subtreepool.specs.declared.fault.PoolFault.{PoolFault}
-use Rattle.roster_subtreepool.specs.declared.fault.PoolFault.TheVariants.{NotYours, CannotSplit, Nothing}
+use Rattle.roster_subtreepool.specs.declared.fault.PoolFault.TheVariants.{NotYours, CannotSplit, Nothing, Memory}
 
 -- a hand that is there and empty
 abbrev pub is_free : Option (Option Span) → Bool
@@ -40,3 +40,7 @@ halve_fault state worker piece = split_fault state worker piece (can_halve piece
 
 abbrev pub descend_fault : State → ℕ → Span → Option PoolFault
 descend_fault state worker piece = split_fault state worker piece (can_descend state.widths piece)
+
+-- what a call tells that is refused: its fault, or want of memory if it has none
+abbrev pub told : Option PoolFault → PoolFault
+told fault = unwrap_or fault Memory

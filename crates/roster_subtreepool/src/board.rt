@@ -24,7 +24,12 @@ impl Model for Board {
 
     ghost Value = { State };
 
-    ghost view = { λ b. record { widths = b.widths.items; pending = b.pending.items; hands = b.hands.items; finished = b.finished.items } };
+    ghost view = { λ b. record {
+      widths = b.widths.items;
+      pending = b.pending.items;
+      hands = b.hands.items;
+      finished = b.finished.items;
+    } };
 }
 
 impl Board {
@@ -255,7 +260,8 @@ pub(crate) fn copy_of(alloc: Global, span: &Span) -> Result<Span, AllocError>
 
 /// The path with the first line of the range, and so many lines of the next person.
 fn below(alloc: Global, span: &Span, width: usize) -> Result<Span, AllocError>
-    ensures { IfOk result (λ below. below ≡ record { path = span.now.path ++ span.now.lo ∷ []; lo = 0; hi = width }) }
+    ensures { IfOk result (λ below.
+        below ≡ record { path = span.now.path ++ span.now.lo ∷ []; lo = 0; hi = width }) }
 {
     let mut path = Vec::from_slice(alloc, span.path.as_slice())?;
     path.push(span.lo)?;

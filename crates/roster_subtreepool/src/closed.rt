@@ -37,9 +37,11 @@ impl Closed {
     /// one of them.
     pub fn finished(&self) -> &[(usize, Span)]
         ensures value { result.now ≡ self.now.finished }
-        ensures once { (numbers : List ℕ) → IsInWidths self.now.widths numbers → times_finished numbers self.now.finished ≡ 1 }
+        ensures once { (numbers : List ℕ) → IsInWidths self.now.widths numbers
+            → times_finished numbers self.now.finished ≡ 1 }
         ensures found { (numbers : List ℕ) → IsInWidths self.now.widths numbers
-            → (place worker : ℕ) × (span : PlainSpan) × (slice_get self.now.finished place ≡ Some (worker, span)) × LiesIn span numbers }
+            → (place worker : ℕ) × (span : PlainSpan)
+            × (slice_get self.now.finished place ≡ Some (worker, span)) × LiesIn span numbers }
     {
         &self.finished
     }

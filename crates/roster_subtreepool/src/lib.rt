@@ -9,6 +9,7 @@
 //! - `fault`: what a pool refuses
 //! - `board`: where each span is
 //! - `share`: how many spans a worker has finished
+//! - `settled`: a span, and the roster by which it is settled
 //! - `pool_state`: a state, and the events that led to it
 //! - `closed`: what a pool at rest leaves
 //! - `pool`: a state that several workers share
@@ -22,6 +23,7 @@ mod fault;
 mod laws;
 mod pool;
 mod pool_state;
+mod settled;
 mod share;
 
 pub use closed::Closed;
@@ -29,5 +31,6 @@ pub use event::Event;
 pub use fault::PoolFault;
 pub use laws::{counts_what_lies_in, each_list_in_one_span};
 pub use pool::Pool;
-pub use pool_state::{PoolState, Settled};
+pub use pool_state::PoolState;
+pub use settled::Settled;
 pub use share::Share;

@@ -1,13 +1,14 @@
 //! A pool that several workers share.
 
-ghost use Rattle.std.specs.Prelude.{◌≡◌, ◌<◌, ◌+◌, ◌⊎◌, ◌∷◌, ◌++◌, [], false, length, IsTrue, IfErr, IfNone, IfOk, IfSome, None, OnErr, OnOk, Some, slice_get, true, unwrap_or};
+ghost use Rattle.std.specs.Prelude.{◌≡◌, ◌<◌, ◌+◌, ◌⊎◌, ◌∷◌, ◌++◌, [], false, length, IsTrue, IfErr, IfNone, IfOk, IfSome, None, OnErr, OnOk, Some, slice_get, true};
 ghost use Rattle.std.specs.Arc.{arc_value};
-ghost use Rattle.roster_subtreepool.specs.Refusals.{descend_fault, halve_fault, is_free, take_fault};
+ghost use Rattle.roster_subtreepool.specs.Refusals.{descend_fault, halve_fault, is_free, take_fault, told};
 ghost use Rattle.roster_subtreepool.specs.States.{Adds, IsAtRest, State, can_halve, held, lower};
 
 use crate::event::Event;
 use crate::fault::PoolFault;
-use crate::pool_state::{PoolState, Settled};
+use crate::pool_state::PoolState;
+use crate::settled::Settled;
 use crate::share::Share;
 use roster_spans::{Done, Piece};
 use std::sync::ledger::Ledger;
@@ -56,9 +57,10 @@ impl<L: Ledger> Guarded<L> {
             × (held self.new.state.state worker ≡ Some piece))) }
         ensures same { IfOk result (λ got. IfNone got (self.new.state ≡ self.old.state)) }
         ensures none { IfOk result (λ got. IfNone got ((self.old.stopped ≡ true)
-            ⊎ (IsAtRest self.old.state.state × (is_free (slice_get self.old.state.state.hands worker) ≡ true)))) }
+            ⊎ (IsAtRest self.old.state.state
+            × (is_free (slice_get self.old.state.state.hands worker) ≡ true)))) }
         ensures refused { OnErr result (self.new.state ≡ self.old.state) }
-        ensures fault { IfErr result (λ fault. fault ≡ unwrap_or (take_fault self.old.state.state worker 0) PoolFault.Memory) }
+        ensures fault { IfErr result (λ fault. fault ≡ told (take_fault self.old.state.state worker 0)) }
         ensures stopped { self.new.stopped ≡ self.old.stopped }
     {
         if self.stopped {
@@ -108,7 +110,7 @@ impl<L: Ledger> Pool<L> {
         ensures part { IfOk result (λ kept. kept ≡ lower piece) }
         ensures wide { OnOk result (can_halve piece ≡ true) }
         ensures fault { IfErr result (λ refused. (state : State)
-            × (refused.0 ≡ unwrap_or (halve_fault state worker piece) PoolFault.Memory)) }
+            × (refused.0 ≡ told (halve_fault state worker piece))) }
         ensures back { IfErr result (λ refused. refused.1 ≡ piece) }
     {
         let halved = self.guarded.lock(rt).state.halve(worker, piece);
@@ -126,7 +128,7 @@ impl<L: Ledger> Pool<L> {
         ensures path { IfOk result (λ kept. kept.path ≡ piece.path ++ piece.lo ∷ []) }
         ensures first { IfOk result (λ kept. kept.lo ≡ 0) }
         ensures fault { IfErr result (λ refused. (state : State)
-            × (refused.0 ≡ unwrap_or (descend_fault state worker piece) PoolFault.Memory)) }
+            × (refused.0 ≡ told (descend_fault state worker piece))) }
         ensures back { IfErr result (λ refused. refused.1 ≡ piece) }
     {
         self.guarded.lock(rt).state.descend(worker, piece)
@@ -157,7 +159,8 @@ impl<L: Ledger> Pool<L> {
         share: &mut Share<L>,
     ) -> Result<Settled, (PoolFault, Done)>
         ensures counted { OnOk result (share.new ≡ share.old + 1) }
-        ensures settled { IfOk result (λ settled. (settled.span ≡ done.piece) × (settled.best ≡ arc_value done.best)) }
+        ensures settled { IfOk result (λ settled.
+            (settled.span ≡ done.piece) × (settled.best ≡ arc_value done.best)) }
         ensures same { OnErr result (share.new ≡ share.old) }
         ensures fault { IfErr result (λ refused. (refused.0 ≡ PoolFault.NotYours)
             ⊎ (refused.0 ≡ PoolFault.Memory)) }

@@ -1,40 +1,21 @@
 //! A pool, and the events that led to it.
 
-ghost use Rattle.std.specs.Prelude.{◌≡◌, ◌<◌, ◌≤◌, ◌+◌, ◌∷◌, ◌++◌, ◌↔◌, [], ℕ, All, IfErr, IfOk, IsOk, IsTrue, List, None, OnErr, OnOk, Some, length, nat_lt, replicate, slice_get, sum, unwrap_or, vec_capacity, vec_len};
+ghost use Rattle.std.specs.Prelude.{◌≡◌, ◌<◌, ◌≤◌, ◌+◌, ◌↔◌, [], IfErr, IfOk, IsOk, IsTrue, None, OnErr, OnOk, Some, length, replicate, slice_get, sum, vec_capacity, vec_len};
 ghost use Rattle.std.specs.Arc.{arc_value};
-ghost use Rattle.roster_subtreepool.specs.Refusals.{descend_fault, halve_fault, hand_fault, is_free, take_fault};
+ghost use Rattle.roster_subtreepool.specs.Refusals.{descend_fault, halve_fault, hand_fault, is_free, take_fault, told};
 ghost use Rattle.roster_subtreepool.specs.States.{Adds, IsAtRest, IsReplay, can_halve, descended, finishes, held, lower, opening};
 
 use crate::board::Board;
 use crate::closed::Closed;
 use crate::event::Event;
 use crate::fault::PoolFault;
-use crate::share::Share;
-use roster_problem::Roster;
+use crate::settled::Settled;
+use crate::share::{Share, deal, gathered};
 use roster_spans::{Done, Piece, Span};
 use std::alloc::{AllocError, Global};
 use std::marker::Model;
+use std::sync::ledger;
 use std::sync::ledger::{Blank, Book, Ledger};
-use std::sync::{Arc, ledger};
-
-/// A span that is settled, and by which roster. Plain data. Contracts see it as the span and the roster's
-/// key.
-#[derive(Debug, Drop)]
-pub struct Settled {
-    /// The span.
-    pub span: Span,
-    /// The roster.
-    pub best: Arc<Roster>,
-}
-
-impl Model for Settled {
-    ghost use Rattle.std.specs.Arc.{arc_value};
-    ghost use Rattle.roster_subtreepool.specs.States.{Part};
-
-    ghost Value = { Part };
-
-    ghost view = { λ s. record { span = s.span; best = arc_value s.best } };
-}
 
 /// A pool of spans: which are pending, which worker has which, which are finished, and all that happened
 /// to it. Its type keeps that the state is the replay of the events, and that the ledger's total is the
@@ -70,7 +51,8 @@ impl<L: Ledger> PoolState<L> {
         requires name { blank.name ≡ L.name }
         requires parts { blank.parts ≡ L.parts }
         requires one_each { blank.parts ≡ workers }
-        ensures state { IfOk result (λ started. started.0 ≡ record { state = opening widths.now workers; events = [] }) }
+        ensures state { IfOk result (λ started.
+            started.0 ≡ record { state = opening widths.now workers; events = [] }) }
         ensures shares { IfOk result (λ started. started.1.items ≡ replicate workers 0) }
         ensures share_count { IfOk result (λ started. vec_len started.1 ≡ workers) }
         ensures back { IfErr result (λ refused. refused.0 ≡ blank) }
@@ -186,7 +168,7 @@ impl<L: Ledger> PoolState<L> {
         ensures piece { IfOk result (λ piece. held self.new.state worker ≡ Some piece) }
         ensures allowed { OnOk result (take_fault self.old.state worker place ≡ None) }
         ensures same { OnErr result (self.new ≡ self.old) }
-        ensures fault { IfErr result (λ fault. fault ≡ unwrap_or (take_fault self.old.state worker place) PoolFault.Memory) }
+        ensures fault { IfErr result (λ fault. fault ≡ told (take_fault self.old.state worker place)) }
     {
         if !self.board.is_free(worker) {
             return Err(PoolFault::NotYours);
@@ -208,7 +190,8 @@ impl<L: Ledger> PoolState<L> {
         ensures part { IfOk result (λ kept. kept ≡ lower piece) }
         ensures allowed { OnOk result (halve_fault self.old.state worker piece ≡ None) }
         ensures same { OnErr result (self.new ≡ self.old) }
-        ensures fault { IfErr result (λ refused. refused.0 ≡ unwrap_or (halve_fault self.old.state worker piece) PoolFault.Memory) }
+        ensures fault { IfErr result (λ refused.
+            refused.0 ≡ told (halve_fault self.old.state worker piece)) }
         ensures back { IfErr result (λ refused. refused.1 ≡ piece) }
     {
         match self.halved(worker, piece.span()) {
@@ -227,7 +210,7 @@ impl<L: Ledger> PoolState<L> {
         ensures part { IfOk result (λ kept. kept ≡ lower span.now) }
         ensures allowed { OnOk result (halve_fault self.old.state worker span.now ≡ None) }
         ensures same { OnErr result (self.new ≡ self.old) }
-        ensures fault { IfErr result (λ fault. fault ≡ unwrap_or (halve_fault self.old.state worker span.now) PoolFault.Memory) }
+        ensures fault { IfErr result (λ fault. fault ≡ told (halve_fault self.old.state worker span.now)) }
     {
         if !self.board.is_held(worker, span) {
             return Err(PoolFault::NotYours);
@@ -249,7 +232,8 @@ impl<L: Ledger> PoolState<L> {
         ensures part { IfOk result (λ kept. kept ≡ descended self.old.state.widths piece) }
         ensures allowed { OnOk result (descend_fault self.old.state worker piece ≡ None) }
         ensures same { OnErr result (self.new ≡ self.old) }
-        ensures fault { IfErr result (λ refused. refused.0 ≡ unwrap_or (descend_fault self.old.state worker piece) PoolFault.Memory) }
+        ensures fault { IfErr result (λ refused.
+            refused.0 ≡ told (descend_fault self.old.state worker piece)) }
         ensures back { IfErr result (λ refused. refused.1 ≡ piece) }
     {
         match self.descended(worker, piece.span()) {
@@ -268,7 +252,8 @@ impl<L: Ledger> PoolState<L> {
         ensures part { IfOk result (λ kept. kept ≡ descended self.old.state.widths span.now) }
         ensures allowed { OnOk result (descend_fault self.old.state worker span.now ≡ None) }
         ensures same { OnErr result (self.new ≡ self.old) }
-        ensures fault { IfErr result (λ fault. fault ≡ unwrap_or (descend_fault self.old.state worker span.now) PoolFault.Memory) }
+        ensures fault { IfErr result (λ fault.
+            fault ≡ told (descend_fault self.old.state worker span.now)) }
     {
         if !self.board.is_held(worker, span) {
             return Err(PoolFault::NotYours);
@@ -287,7 +272,8 @@ impl<L: Ledger> PoolState<L> {
         ensures adds { OnOk result (Adds (Event.Back worker) self.old self.new) }
         ensures allowed { OnOk result (hand_fault self.old.state worker piece ≡ None) }
         ensures same { OnErr result (self.new ≡ self.old) }
-        ensures fault { IfErr result (λ refused. refused.0 ≡ unwrap_or (hand_fault self.old.state worker piece) PoolFault.Memory) }
+        ensures fault { IfErr result (λ refused.
+            refused.0 ≡ told (hand_fault self.old.state worker piece)) }
         ensures back { IfErr result (λ refused. refused.1 ≡ piece) }
     {
         match self.given_back(worker, piece.span()) {
@@ -304,7 +290,7 @@ impl<L: Ledger> PoolState<L> {
         ensures adds { OnOk result (Adds (Event.Back worker) self.old self.new) }
         ensures allowed { OnOk result (hand_fault self.old.state worker span.now ≡ None) }
         ensures same { OnErr result (self.new ≡ self.old) }
-        ensures fault { IfErr result (λ fault. fault ≡ unwrap_or (hand_fault self.old.state worker span.now) PoolFault.Memory) }
+        ensures fault { IfErr result (λ fault. fault ≡ told (hand_fault self.old.state worker span.now)) }
     {
         if !self.board.is_held(worker, span) {
             return Err(PoolFault::NotYours);
@@ -325,10 +311,12 @@ impl<L: Ledger> PoolState<L> {
     ) -> Result<Settled, (PoolFault, Done)>
         ensures adds { OnOk result (Adds (Event.Finish worker) self.old self.new) }
         ensures counted { OnOk result (share.new ≡ share.old + 1) }
-        ensures settled { IfOk result (λ settled. (settled.span ≡ done.piece) × (settled.best ≡ arc_value done.best)) }
+        ensures settled { IfOk result (λ settled.
+            (settled.span ≡ done.piece) × (settled.best ≡ arc_value done.best)) }
         ensures allowed { OnOk result (hand_fault self.old.state worker done.piece ≡ None) }
         ensures same { OnErr result ((self.new ≡ self.old) × (share.new ≡ share.old)) }
-        ensures fault { IfErr result (λ refused. refused.0 ≡ unwrap_or (hand_fault self.old.state worker done.piece) PoolFault.Memory) }
+        ensures fault { IfErr result (λ refused.
+            refused.0 ≡ told (hand_fault self.old.state worker done.piece)) }
         ensures back { IfErr result (λ refused. refused.1 ≡ done) }
     {
         match self.finished(worker, done.piece.span(), share) {
@@ -353,7 +341,7 @@ impl<L: Ledger> PoolState<L> {
         ensures span { IfOk result (λ copy. copy ≡ span.now) }
         ensures allowed { OnOk result (hand_fault self.old.state worker span.now ≡ None) }
         ensures same { OnErr result ((self.new ≡ self.old) × (share.new ≡ share.old)) }
-        ensures fault { IfErr result (λ fault. fault ≡ unwrap_or (hand_fault self.old.state worker span.now) PoolFault.Memory) }
+        ensures fault { IfErr result (λ fault. fault ≡ told (hand_fault self.old.state worker span.now)) }
     {
         if !self.board.is_held(worker, span) {
             return Err(PoolFault::NotYours);
@@ -375,41 +363,12 @@ fn rooms<L: Ledger>(
 ) -> Result<(Board, Vec<Share<L>>), AllocError>
     requires { 0 < length widths.now }
     ensures board { IfOk result (λ rooms. rooms.0 ≡ opening widths.now workers) }
-    ensures shares { IfOk result (λ rooms. (rooms.1.items ≡ []) × (vec_len rooms.1 ≡ 0) × (workers ≤ vec_capacity rooms.1)) }
+    ensures shares { IfOk result (λ rooms.
+        (rooms.1.items ≡ []) × (vec_len rooms.1 ≡ 0) × (workers ≤ vec_capacity rooms.1)) }
 {
     let board = Board::opening(alloc, widths, workers)?;
     let shares = Vec::with_capacity(alloc, workers)?;
     Ok((board, shares))
-}
-
-/// A share with one part of the ledger for each worker.
-fn deal<L: Ledger>(shares: &mut Vec<Share<L>>, rest: ledger::Share<L>, workers: usize)
-    requires none { (shares.old.items ≡ []) × (vec_len shares.old ≡ 0) }
-    requires room { workers ≤ vec_capacity shares.old }
-    requires parts { rest.parts ≡ workers }
-    requires amount { rest.amount ≡ 0 }
-    ensures shares { shares.new.items ≡ replicate workers 0 }
-    ensures share_count { vec_len shares.new ≡ workers }
-{
-    let mut rest = rest;
-    for _worker in 0..workers {
-        let token = rest.split_off(1, 0);
-        shares.push_reserved(Share { token });
-    }
-}
-
-/// All parts and counts of the shares in one.
-fn gathered<L: Ledger>(shares: Vec<Share<L>>) -> ledger::Share<L>
-    requires { 0 < vec_len shares }
-    ensures parts { result.parts ≡ vec_len shares }
-    ensures amount { result.amount ≡ sum shares.items }
-{
-    let mut shares = shares;
-    let mut all = shares.remove(0).into_token();
-    while !shares.is_empty() {
-        all.merge(shares.remove(0).into_token());
-    }
-    all
 }
 
 /// Whether each half of the span has a line.

@@ -1,6 +1,6 @@
 //! What a worker has finished, as a number that no worker can make up.
 
-ghost use Rattle.std.specs.Prelude.{◌≡◌};
+ghost use Rattle.std.specs.Prelude.{◌≡◌, ◌<◌, ◌≤◌, [], replicate, sum, vec_capacity, vec_len};
 
 use std::marker::Model;
 use std::sync::ledger;
@@ -31,4 +31,34 @@ impl<L: Ledger> Share<L> {
     {
         self.token
     }
+}
+
+/// A share with one part of the ledger for each worker.
+pub(crate) fn deal<L: Ledger>(shares: &mut Vec<Share<L>>, rest: ledger::Share<L>, workers: usize)
+    requires none { (shares.old.items ≡ []) × (vec_len shares.old ≡ 0) }
+    requires room { workers ≤ vec_capacity shares.old }
+    requires parts { rest.parts ≡ workers }
+    requires amount { rest.amount ≡ 0 }
+    ensures shares { shares.new.items ≡ replicate workers 0 }
+    ensures share_count { vec_len shares.new ≡ workers }
+{
+    let mut rest = rest;
+    for _worker in 0..workers {
+        let token = rest.split_off(1, 0);
+        shares.push_reserved(Share { token });
+    }
+}
+
+/// All parts and counts of the shares in one.
+pub(crate) fn gathered<L: Ledger>(shares: Vec<Share<L>>) -> ledger::Share<L>
+    requires { 0 < vec_len shares }
+    ensures parts { result.parts ≡ vec_len shares }
+    ensures amount { result.amount ≡ sum shares.items }
+{
+    let mut shares = shares;
+    let mut all = shares.remove(0).into_token();
+    while !shares.is_empty() {
+        all.merge(shares.remove(0).into_token());
+    }
+    all
 }

@@ -1,6 +1,6 @@
 use Rattle.std.proofs.Common.{◌≡◌, ◌+◌, ◌≤◌, replicate, vec_len}
 use Rattle.std.specs.Prelude.{vec_capacity}
-use Rattle.roster_subtreepool.proofs.pool_state.deal.Given as goal
+use Rattle.roster_subtreepool.proofs.share.deal.Given as goal
 
 -- the shares so far, and what is left of the ledger
 abbrev pub invariant-loop-worker : goal.invariant-loop-worker

@@ -1,6 +1,6 @@
 use Rattle.std.proofs.Common.{◌≡◌, ◌+◌, vec_len}
 use Rattle.std.specs.Prelude.{sum}
-use Rattle.roster_subtreepool.proofs.pool_state.gathered.Given as goal
+use Rattle.roster_subtreepool.proofs.share.gathered.Given as goal
 
 -- what is gathered, and what is left
 abbrev pub invariant-loop-all : goal.invariant-loop-all
