@@ -10,6 +10,7 @@
 //! - `working`: what a worker does
 //! - `combining`: the least of all that workers found
 //! - `threads`: a search by several threads
+//! - `stage`: a pool in which one thread does what a schedule says
 //! - `replaying`: a search under a written schedule
 //! - `laws`: a problem has one best roster; leaving all open is legal
 #![tactic(auto)]
@@ -20,6 +21,7 @@ mod laws;
 mod replaying;
 mod root;
 mod search;
+mod stage;
 mod threads;
 mod working;
 

@@ -1,6 +1,6 @@
 //! One search of all rosters.
 
-ghost use Rattle.std.specs.Prelude.{◌≡◌, ◌<◌, ℕ, IfOk, List, length, map, replicate};
+ghost use Rattle.std.specs.Prelude.{◌≡◌, ◌<◌, ℕ, IfOk, List, Ok, length, map, replicate};
 ghost use Rattle.std.specs.Arc.{arc_value};
 ghost use Rattle.roster_lines.specs.Person.{IsTableOf};
 ghost use Rattle.roster_model.specs.Rosters.{IsLegalRoster, key_of};
@@ -40,7 +40,7 @@ pub(crate) fn search_root(
     }
     let tables = choose_tables(alloc, problem, table)?;
     let root = Piece::of(root_of(alloc, table));
-    match search(
+    let Done { piece, best } = found(search(
         alloc,
         problem,
         table,
@@ -49,11 +49,17 @@ pub(crate) fn search_root(
         &mut Nothing,
         0,
         &known,
-    ) {
-        Ok(Done { piece, best }) => {
-            piece.forgo();
-            Ok(best)
-        }
+    ))?;
+    piece.forgo();
+    Ok(best)
+}
+
+/// What a search found. If memory ran out, the piece is given up.
+pub(crate) fn found(searched: Result<Done, (Piece, AllocError)>) -> Result<Done, AllocError>
+    ensures { IfOk result (λ done. searched ≡ Ok done) }
+{
+    match searched {
+        Ok(done) => Ok(done),
         Err((piece, refused)) => {
             piece.forgo();
             Err(refused)

@@ -1,13 +1,14 @@
 //! A search by several threads.
 
-ghost use Rattle.std.specs.Prelude.{◌≡◌, ◌+◌, ◌<◌, ◌≤◌, [], All, IfErr, IfOk, List, length, map, unwrap_or, vec_len};
+ghost use Rattle.std.specs.Prelude.{◌≡◌, ◌+◌, ◌<◌, ◌≤◌, [], All, IfErr, IfNone, IfOk, IfSome, List, length, map, unwrap_or, vec_len};
 ghost use Rattle.std.specs.Arc.{arc_value};
 ghost use Rattle.std.specs.Thread.{IsSync};
 ghost use Rattle.roster_model.specs.Problem.{Problem as PlainProblem};
-ghost use Rattle.roster_model.specs.Settled.{IsHeld};
+ghost use Rattle.roster_model.specs.Settled.{Anywhere, IsHeld, IsNotAfter};
 ghost use Rattle.roster_lines.specs.Entries.{Entry};
 ghost use Rattle.roster_lines.specs.Person.{IsTableOf};
 ghost use Rattle.roster_bounds.specs.Chosen.{priced_table};
+ghost use Rattle.roster_search.specs.Lefts.{IsLeftOf};
 ghost use Rattle.roster_combine.specs.Parts.{AreSettled, IsBestKey};
 
 use crate::combining::{Solved, combine, solved_again};
@@ -18,7 +19,7 @@ use roster_bounds::{Tables, choose_tables};
 use roster_incumbent::Incumbent;
 use roster_lines::Table;
 use roster_problem::{Problem, Roster};
-use roster_search::search_bases;
+use roster_search::{Left, search_bases};
 use roster_subtreepool::{Pool, PoolState, Settled, Share};
 use std::alloc::{AllocError, Global};
 use std::marker::Brand;
@@ -78,12 +79,28 @@ fn begun<'a, R: Threads + Sync>(
     let known = first_known(alloc, problem)?;
     let (better, left) = search_bases(rt, alloc, problem, table, &known, threads)?;
     let best = better_or(alloc, better, known)?;
-    let tables = choose_tables(alloc, problem, table)?;
-    if let Some(left) = left {
-        return Ok((best, tables.leaving(left)));
-    }
-    let tables = tables.knowing(Arc::try_clone(&best)?);
+    let tables = informed(alloc, problem, table, &best, left)?;
     Ok((best, tables))
+}
+
+/// The tables for the searches of spans. They know what is left to search, or that the roster is the best.
+fn informed<'a>(
+    alloc: Global,
+    problem: &'a Problem,
+    table: &'a Table,
+    best: &Arc<Roster>,
+    left: Option<Left>,
+) -> Result<Tables<'a>, AllocError>
+    requires table { IsTableOf problem.now table.now }
+    requires left { IfSome left (IsLeftOf problem.now) }
+    requires best { IfNone left (IsNotAfter problem.now Anywhere (arc_value best.now)) }
+    ensures { IfOk result (λ tables. tables ≡ priced_table problem.now table.now tables.prices) }
+{
+    let tables = choose_tables(alloc, problem, table)?;
+    match left {
+        Some(left) => Ok(tables.leaving(left)),
+        None => Ok(tables.knowing(Arc::try_clone(best)?)),
+    }
 }
 
 /// The better roster, if there is one, or the known one.

@@ -8,7 +8,7 @@ ghost use Rattle.roster_bounds.specs.Chosen.{priced_table};
 ghost use Rattle.roster_combine.specs.Parts.{AreSettled, IsSettled};
 
 use crate::gate::{Gate, Point, Watcher};
-use crate::root::first_known;
+use crate::root::{first_known, found};
 use roster_bounds::Tables;
 use roster_branchtree::{Done, Piece, search};
 use roster_incumbent::Incumbent;
@@ -177,7 +177,7 @@ impl<'a, R: Wait, L: Ledger, G: Gate> Worker<'a, R, L, G> {
             gate: self.gate,
             worker: self.number,
         };
-        match search(
+        found(search(
             self.alloc,
             self.problem,
             self.table,
@@ -186,13 +186,7 @@ impl<'a, R: Wait, L: Ledger, G: Gate> Worker<'a, R, L, G> {
             &mut sight,
             1,
             known,
-        ) {
-            Ok(done) => Ok(done),
-            Err((piece, refused)) => {
-                piece.forgo();
-                Err(refused)
-            }
-        }
+        ))
     }
 
     /// Raises the incumbent to what was found, and finishes the span. None if the pool refuses that.

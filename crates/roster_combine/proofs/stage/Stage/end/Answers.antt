@@ -1,7 +1,7 @@
 use Rattle.std.proofs.Common.{◌≡◌, [], sym, subst}
 use Rattle.roster_combine.specs.Replays.{IsIdle, Replay}
 use Rattle.roster_combine.proofs.ReplayLemmas.{at_rest}
-use Rattle.roster_combine.proofs.replaying.Stage.end.Goals as goal
+use Rattle.roster_combine.proofs.stage.Stage.end.Goals as goal
 
 pub returns-in-Err-clause-once : goal.returns-in-Err-clause-once
 returns-in-Err-clause-once g c =

@@ -11,7 +11,7 @@ use Rattle.roster_incumbent.specs.Kept.{less_of}
 use Rattle.roster_combine.specs.Parts.{IsSettled, Task}
 use Rattle.roster_combine.specs.Replays.{IsReplaying, Replay}
 use Rattle.roster_combine.proofs.ReplayLemmas.{replays-finish}
-use Rattle.roster_combine.proofs.replaying.Stage.finish.Goals as goal
+use Rattle.roster_combine.proofs.stage.Stage.finish.Goals as goal
 
 abbrev items : Vec Part Global → List Part
 items list = list.items

@@ -1,5 +1,5 @@
 use Rattle.std.proofs.Common.{◌≡◌, [], map, replicate}
-use Rattle.roster_combine.proofs.replaying.no_lists.Given as goal
+use Rattle.roster_combine.proofs.stage.no_lists.Given as goal
 
 -- the lists so far
 abbrev pub invariant-loop-worker : goal.invariant-loop-worker

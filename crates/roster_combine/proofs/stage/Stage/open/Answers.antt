@@ -5,7 +5,7 @@ use Rattle.roster_subtreepool.specs.States.{Part, Played}
 use Rattle.roster_combine.specs.Parts.{Task}
 use Rattle.roster_combine.specs.Replays.{IsReplaying}
 use Rattle.roster_combine.proofs.ReplayLemmas.{replays-opening}
-use Rattle.roster_combine.proofs.replaying.Stage.open.Goals as goal
+use Rattle.roster_combine.proofs.stage.Stage.open.Goals as goal
 
 pub invariant_of-result : goal.invariant_of-result
 invariant_of-result g c =

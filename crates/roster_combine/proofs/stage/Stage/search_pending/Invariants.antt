@@ -1,6 +1,6 @@
 use Rattle.std.proofs.Common.{◌≡◌, length}
 use Rattle.roster_combine.specs.Replays.{IsIdle}
-use Rattle.roster_combine.proofs.replaying.Stage.search_pending.Given as goal
+use Rattle.roster_combine.proofs.stage.Stage.search_pending.Given as goal
 
 -- nobody has a span
 abbrev pub invariant-loop-self : goal.invariant-loop-self

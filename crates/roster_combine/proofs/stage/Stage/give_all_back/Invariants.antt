@@ -1,6 +1,6 @@
 use Rattle.std.proofs.Common.{◌≡◌, ◌<◌, ℕ, None, length}
 use Rattle.roster_subtreepool.specs.States.{held}
-use Rattle.roster_combine.proofs.replaying.Stage.give_all_back.Given as goal
+use Rattle.roster_combine.proofs.stage.Stage.give_all_back.Given as goal
 
 -- the first workers have nothing
 abbrev pub invariant-loop-worker : goal.invariant-loop-worker
