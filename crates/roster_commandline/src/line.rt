@@ -68,14 +68,12 @@ fn roster<'a>(alloc: Global) -> Result<clap::Command<'a>, AllocError>
     ensures app { IfOk result (λ c. app_of c ≡ roster_app) }
     ensures local { IfOk result (λ c. (views.out-Command c).has_globals ≡ false) }
 {
-    let check = clap::Command::new(alloc, "check").about(
+    let roster = solver(alloc)?.subcommand(clap::Command::new(alloc, "check").about(
         "Judges the roster that the book on standard input gives",
-    );
-    let replay = clap::Command::new(alloc, "replay").about(
+    ))?;
+    roster.subcommand(clap::Command::new(alloc, "replay").about(
         "Writes the best roster of the book on standard input, which may give steps of a search",
-    );
-    let roster = solver(alloc)?;
-    roster.subcommand(check)?.subcommand(replay)
+    ))
 }
 
 /// The number of workers in the matches of `solve`.
