@@ -5,6 +5,7 @@ ghost use Rattle.std.specs.Prelude.{◌≡◌};
 use crate::given::{
     WIDTHS, back_refusal, finish_refusal, no_pairings, piece, refusal, split_refusal,
 };
+use roster_problem::Roster;
 use roster_spans::Done;
 use roster_subtreepool::{
     Event, PoolFault, PoolState, Share, counts_what_lies_in, each_list_in_one_span,
@@ -12,19 +13,12 @@ use roster_subtreepool::{
 use std::alloc::{AllocError, Global};
 use std::marker::Brand;
 use std::process::Abort;
+use std::sync::Arc;
 use std::sync::ledger::{Blank, Ledger};
 use std::test::Fail;
 
-/// With 64 workers: who may take, and that a pool isn't closed while a worker has a span.
-fn takes<L: Ledger>(rt: &impl Abort, alloc: Global, blank: Blank) -> Result<(), AllocError>
-    requires name { blank.name ≡ L.name }
-    requires parts { blank.parts ≡ L.parts }
-    requires one_each { blank.parts ≡ 64 }
-{
-    let (mut state, shares) = match PoolState::<L>::start(alloc, &WIDTHS, 64, blank) {
-        Ok(started) => started,
-        Err((_, refused)) => return Err(refused),
-    };
+/// With 64 workers: who may take.
+fn takes<L: Ledger>(rt: &impl Abort, alloc: Global, state: &mut PoolState<L>) {
     assert_eq!(rt; state.workers(), 64);
     assert_eq!(rt; refusal(state.take(64, 0)), Some(PoolFault::NotYours));
     assert_eq!(rt; refusal(state.take(0, 0)), None);
@@ -35,6 +29,19 @@ fn takes<L: Ledger>(rt: &impl Abort, alloc: Global, blank: Blank) -> Result<(), 
         split_refusal(state.descend(0, root)),
         (Some(PoolFault::CannotSplit), 0, 36)
     );
+}
+
+/// A pool isn't closed while a worker has a span.
+fn stays_open<L: Ledger>(rt: &impl Abort, alloc: Global, blank: Blank) -> Result<(), AllocError>
+    requires name { blank.name ≡ L.name }
+    requires parts { blank.parts ≡ L.parts }
+    requires one_each { blank.parts ≡ 64 }
+{
+    let (mut state, shares) = match PoolState::<L>::start(alloc, &WIDTHS, 64, blank) {
+        Ok(started) => started,
+        Err((_, refused)) => return Err(refused),
+    };
+    takes(rt, alloc, &mut state);
     let refused = state.close(shares).err();
     assert!(rt; has_taken_once(&refused));
     Ok(())
@@ -50,18 +57,14 @@ fn has_taken_once<L: Ledger>(refused: &Option<(PoolState<L>, Vec<Share<L>>)>) ->
     }
 }
 
-/// Each call with what isn't the worker's and with what is, and the end.
-fn goes_on<L: Ledger>(rt: &impl Abort, alloc: Global, blank: Blank) -> Result<(), AllocError>
-    requires name { blank.name ≡ L.name }
-    requires parts { blank.parts ≡ L.parts }
-    requires one_each { blank.parts ≡ 2 }
-{
-    let (mut state, mut shares) = match PoolState::<L>::start(alloc, &WIDTHS, 2, blank) {
-        Ok(started) => started,
-        Err((_, refused)) => return Err(refused),
-    };
-    let best = no_pairings(alloc)?;
-    let other = no_pairings(alloc)?;
+/// Each call with what isn't the worker's.
+fn refuses<L: Ledger>(
+    rt: &impl Abort,
+    alloc: Global,
+    state: &mut PoolState<L>,
+    share: &mut Share<L>,
+    best: Arc<Roster>,
+) {
     assert_eq!(rt; refusal(state.take(0, 0)), None);
     let whole = piece(alloc, 0, 36);
     assert_eq!(rt; split_refusal(state.halve(0, whole)), (None, 0, 18));
@@ -77,10 +80,10 @@ fn goes_on<L: Ledger>(rt: &impl Abort, alloc: Global, blank: Blank) -> Result<()
     );
     let done = Done {
         piece: piece(alloc, 0, 36),
-        best: other,
+        best,
     };
     assert_eq!(rt;
-        finish_refusal(state.finish(0, done, &mut shares[0])),
+        finish_refusal(state.finish(0, done, share)),
         Some(PoolFault::NotYours)
     );
     let half = piece(alloc, 0, 18);
@@ -89,15 +92,43 @@ fn goes_on<L: Ledger>(rt: &impl Abort, alloc: Global, blank: Blank) -> Result<()
         Some(PoolFault::NotYours)
     );
     assert_eq!(rt; state.pending(), 1);
+}
+
+/// Each call with what is the worker's.
+fn goes_on<L: Ledger>(
+    rt: &impl Abort,
+    alloc: Global,
+    state: &mut PoolState<L>,
+    share: &mut Share<L>,
+    best: Arc<Roster>,
+) {
     let done = Done {
         piece: piece(alloc, 0, 18),
         best,
     };
-    assert_eq!(rt; finish_refusal(state.finish(0, done, &mut shares[0])), None);
+    assert_eq!(rt; finish_refusal(state.finish(0, done, share)), None);
     assert_eq!(rt; refusal(state.take(1, 0)), None);
     let rest = piece(alloc, 18, 36);
     assert_eq!(rt; back_refusal(state.back(1, rest)), None);
     assert!(rt; !state.at_rest());
+}
+
+/// What isn't the worker's, then what is, and the end.
+fn refuses_and_goes_on<L: Ledger>(
+    rt: &impl Abort,
+    alloc: Global,
+    blank: Blank,
+) -> Result<(), AllocError>
+    requires name { blank.name ≡ L.name }
+    requires parts { blank.parts ≡ L.parts }
+    requires one_each { blank.parts ≡ 2 }
+{
+    let (mut state, mut shares) = match PoolState::<L>::start(alloc, &WIDTHS, 2, blank) {
+        Ok(started) => started,
+        Err((_, refused)) => return Err(refused),
+    };
+    refuses(rt, alloc, &mut state, &mut shares[0], no_pairings(alloc)?);
+    goes_on(rt, alloc, &mut state, &mut shares[0], no_pairings(alloc)?);
     assert!(rt;
         state.history()
             == [
@@ -114,7 +145,7 @@ fn goes_on<L: Ledger>(rt: &impl Abort, alloc: Global, blank: Blank) -> Result<()
 
 #[test]
 fn tells_who_may_take(rt: HostRuntime) -> Result<(), Fail> {
-    takes::<Brand>(&rt, rt.alloc(), Blank::new(64))?;
+    stays_open::<Brand>(&rt, rt.alloc(), Blank::new(64))?;
     Ok(())
 }
 
@@ -122,6 +153,6 @@ fn tells_who_may_take(rt: HostRuntime) -> Result<(), Fail> {
 fn tells_whose_a_piece_is(rt: HostRuntime) -> Result<(), Fail> {
     each_list_in_one_span();
     counts_what_lies_in();
-    goes_on::<Brand>(&rt, rt.alloc(), Blank::new(2))?;
+    refuses_and_goes_on::<Brand>(&rt, rt.alloc(), Blank::new(2))?;
     Ok(())
 }

@@ -7,7 +7,7 @@ use crate::given::{
 };
 use roster_problem::Roster;
 use roster_spans::{Done, Piece};
-use roster_subtreepool::{Event, Pool, PoolFault, PoolState, Share};
+use roster_subtreepool::{Closed, Event, Pool, PoolFault, PoolState, Share};
 use std::alloc::{AllocError, Global};
 use std::marker::Brand;
 use std::process::Abort;
@@ -28,6 +28,40 @@ fn has_given(given: Result<Option<Piece>, PoolFault>) -> Result<bool, PoolFault>
     }
 }
 
+/// Worker 0 takes the root and gives it back, and worker 1 takes it.
+fn changes_hands<L: Ledger, R: Wait + Abort>(rt: &R, alloc: Global, pool: &Pool<L>) {
+    assert_eq!(rt; has_given(pool.wait_take(rt, 0)), Ok(true));
+    let root = piece(alloc, 0, 36);
+    assert_eq!(rt; back_refusal(pool.back(rt, 0, root)), None);
+    assert_eq!(rt; has_given(pool.wait_take(rt, 1)), Ok(true));
+}
+
+/// Worker 1 finishes it, and nothing is left.
+fn ends<L: Ledger, R: Wait + Abort>(
+    rt: &R,
+    alloc: Global,
+    pool: &Pool<L>,
+    share: &mut Share<L>,
+    best: Arc<Roster>,
+) {
+    let done = Done {
+        piece: piece(alloc, 0, 36),
+        best,
+    };
+    assert_eq!(rt; finish_refusal(pool.finish(rt, 1, done, share)), None);
+    assert_eq!(rt; has_given(pool.wait_take(rt, 0)), Ok(false));
+    assert_eq!(rt; has_given(pool.wait_take(rt, 2)), Err(PoolFault::NotYours));
+}
+
+/// What is finished is the root, by worker 1.
+fn is_finished_by_1(rt: &impl Abort, closed: &Closed) {
+    assert_eq!(rt; closed.count(), 1);
+    assert!(rt; closed.widths() == WIDTHS.as_slice());
+    for (worker, span) in closed.finished() {
+        assert_eq!(rt; (*worker, span.lo, span.hi), (1, 0, 36));
+    }
+}
+
 /// One thread as two workers: the span comes back, the other finishes it, and nothing is left.
 fn takes_turns<L: Ledger, R: Wait + Abort>(
     rt: &R,
@@ -42,22 +76,9 @@ fn takes_turns<L: Ledger, R: Wait + Abort>(
         Ok(started) => started,
         Err((_, refused)) => return Err(refused),
     };
-    let best = no_pairings(alloc)?;
     let pool = Pool::new(state);
-    assert_eq!(rt; has_given(pool.wait_take(rt, 0)), Ok(true));
-    let root = piece(alloc, 0, 36);
-    assert_eq!(rt; back_refusal(pool.back(rt, 0, root)), None);
-    assert_eq!(rt; has_given(pool.wait_take(rt, 1)), Ok(true));
-    let done = Done {
-        piece: piece(alloc, 0, 36),
-        best,
-    };
-    assert_eq!(rt;
-        finish_refusal(pool.finish(rt, 1, done, &mut shares[1])),
-        None
-    );
-    assert_eq!(rt; has_given(pool.wait_take(rt, 0)), Ok(false));
-    assert_eq!(rt; has_given(pool.wait_take(rt, 2)), Err(PoolFault::NotYours));
+    changes_hands(rt, alloc, &pool);
+    ends(rt, alloc, &pool, &mut shares[1], no_pairings(alloc)?);
     let state = pool.into_state();
     assert!(rt;
         state.history()
@@ -70,29 +91,14 @@ fn takes_turns<L: Ledger, R: Wait + Abort>(
             .as_slice()
     );
     match state.close(shares) {
-        Ok(closed) => {
-            assert_eq!(rt; closed.count(), 1);
-            assert!(rt; closed.widths() == WIDTHS.as_slice());
-            for (worker, span) in closed.finished() {
-                assert_eq!(rt; (*worker, span.lo, span.hi), (1, 0, 36));
-            }
-        }
+        Ok(closed) => is_finished_by_1(rt, &closed),
         Err(_) => assert!(rt; false, "not closed at rest"),
     }
     Ok(())
 }
 
-/// One worker splits its span as far as it goes, and forgoes it.
-fn splits<L: Ledger, R: Wait + Abort>(rt: &R, alloc: Global, blank: Blank) -> Result<(), AllocError>
-    requires name { blank.name ≡ L.name }
-    requires parts { blank.parts ≡ L.parts }
-    requires one_each { blank.parts ≡ 1 }
-{
-    let (state, shares) = match PoolState::<L>::start(alloc, &WIDTHS, 1, blank) {
-        Ok(started) => started,
-        Err((_, refused)) => return Err(refused),
-    };
-    let pool = Pool::new(state);
+/// Worker 0 takes the root, splits it as far as it goes, and forgoes it.
+fn splits<L: Ledger, R: Wait + Abort>(rt: &R, alloc: Global, pool: &Pool<L>) {
     assert_eq!(rt; has_given(pool.wait_take(rt, 0)), Ok(true));
     assert!(rt; pool.short(rt));
     for (hi, middle) in [(36, 18), (18, 9), (9, 4), (4, 2), (2, 1)] {
@@ -102,6 +108,24 @@ fn splits<L: Ledger, R: Wait + Abort>(rt: &R, alloc: Global, blank: Blank) -> Re
     let line = piece(alloc, 0, 1);
     assert_eq!(rt; split_refusal(pool.descend(rt, 0, line)), (None, 0, 36));
     assert!(rt; !pool.short(rt));
+}
+
+/// One worker splits its span, and the pool isn't closed.
+fn is_split<L: Ledger, R: Wait + Abort>(
+    rt: &R,
+    alloc: Global,
+    blank: Blank,
+) -> Result<(), AllocError>
+    requires name { blank.name ≡ L.name }
+    requires parts { blank.parts ≡ L.parts }
+    requires one_each { blank.parts ≡ 1 }
+{
+    let (state, shares) = match PoolState::<L>::start(alloc, &WIDTHS, 1, blank) {
+        Ok(started) => started,
+        Err((_, refused)) => return Err(refused),
+    };
+    let pool = Pool::new(state);
+    splits(rt, alloc, &pool);
     let state = pool.into_state();
     assert!(rt;
         state.history()
@@ -189,7 +213,36 @@ fn split(split: Result<Piece, (PoolFault, Piece)>) -> Piece {
     }
 }
 
-/// Two threads share the pool until all is finished.
+/// Two threads share the pool until all is finished, and give their shares back.
+fn work_together<L: Ledger + Send + Sync, R: Threads + Wait + Abort + Sync>(
+    rt: &R,
+    pool: &Pool<L>,
+    first: Share<L>,
+    second: Share<L>,
+    best: &Arc<Roster>,
+) -> (Share<L>, Share<L>) {
+    let (mine, theirs) = join(
+        rt,
+        || -> (Share<L>, bool) { work_as(rt, pool, 0, first, best) },
+        || -> (Share<L>, bool) { work_as(rt, pool, 1, second, best) },
+    );
+    assert!(rt; mine.1 && theirs.1);
+    (mine.0, theirs.0)
+}
+
+/// What is finished are all lines of the root, in several spans.
+fn has_all_lines(rt: &impl Abort, closed: &Closed) {
+    let mut lines = 0;
+    for (_, span) in closed.finished() {
+        if span.lo < span.hi && lines < 36 {
+            lines += (span.hi - span.lo).min(36);
+        }
+    }
+    assert_eq!(rt; lines, 36);
+    assert!(rt; closed.count() > 1);
+}
+
+/// What two threads finish is all.
 fn shares_out<L: Ledger + Send + Sync, R: Threads + Wait + Abort + Sync>(
     rt: &R,
     alloc: Global,
@@ -199,34 +252,19 @@ fn shares_out<L: Ledger + Send + Sync, R: Threads + Wait + Abort + Sync>(
     requires parts { blank.parts ≡ L.parts }
     requires one_each { blank.parts ≡ 2 }
 {
-    let (state, shares) = match PoolState::<L>::start(alloc, &WIDTHS, 2, blank) {
+    let (state, mut shares) = match PoolState::<L>::start(alloc, &WIDTHS, 2, blank) {
         Ok(started) => started,
         Err((_, refused)) => return Err(refused),
     };
     let best = no_pairings(alloc)?;
-    let mut shares = shares;
     let second = shares.remove(1);
     let first = shares.remove(0);
     let pool = Pool::new(state);
-    let (mine, theirs) = join(
-        rt,
-        || -> (Share<L>, bool) { work_as(rt, &pool, 0, first, &best) },
-        || -> (Share<L>, bool) { work_as(rt, &pool, 1, second, &best) },
-    );
-    assert!(rt; mine.1 && theirs.1);
-    shares.push(mine.0)?;
-    shares.push(theirs.0)?;
+    let (first, second) = work_together(rt, &pool, first, second, &best);
+    shares.push(first)?;
+    shares.push(second)?;
     match pool.into_state().close(shares) {
-        Ok(closed) => {
-            let mut lines = 0;
-            for (_, span) in closed.finished() {
-                if span.lo < span.hi && lines < 36 {
-                    lines += (span.hi - span.lo).min(36);
-                }
-            }
-            assert_eq!(rt; lines, 36);
-            assert!(rt; closed.count() > 1);
-        }
+        Ok(closed) => has_all_lines(rt, &closed),
         Err(_) => assert!(rt; false, "not closed at rest"),
     }
     Ok(())
@@ -259,7 +297,7 @@ fn takes_turns_in_one_thread(rt: HostRuntime) -> Result<(), Fail> {
 
 #[test]
 fn splits_as_far_as_it_goes(rt: HostRuntime) -> Result<(), Fail> {
-    splits::<Brand, HostRuntime>(&rt, rt.alloc(), Blank::new(1))?;
+    is_split::<Brand, HostRuntime>(&rt, rt.alloc(), Blank::new(1))?;
     Ok(())
 }
 
