@@ -36,6 +36,17 @@ pub fn duty<R: Abort + AllocGlobal>(rt: &R, station: &str, report: &str, release
     }
 }
 
+/// Such duties, by station, report and release.
+pub fn duties<R: Abort + AllocGlobal>(rt: &R, rows: &[(&str, &str, &str)]) -> Vec<Duty> {
+    let mut duties = Vec::new(rt.alloc());
+    for (station, report, release) in rows {
+        duties
+            .push(duty(rt, station, report, release))
+            .expect(rt, "memory");
+    }
+    duties
+}
+
 /// The list of the duties at the positions.
 pub fn list_of<'a, R: Abort + AllocGlobal>(
     rt: &R,

@@ -1,7 +1,7 @@
 //! The rules of rest.
 
-use crate::given::{duty, list_of, march, minute, name};
-use roster_problem::Base;
+use crate::given::{duties, duty, list_of, march, minute, name};
+use roster_problem::{Base, Duty};
 use roster_restrules::{is_recurrent, rest_needed, rest_ok};
 use std::process::Abort;
 
@@ -13,41 +13,61 @@ fn ams<R: Abort + AllocGlobal>(rt: &R) -> Base {
     }
 }
 
+// The rest that is needed between a duty at home with this release and the next one, at this station.
+fn rest_before<R: Abort + AllocGlobal>(rt: &R, home: &Base, release: &str, station: &str) -> i64 {
+    let prev = duty(rt, "AMS", "2024-03-04T06:00Z", release);
+    let next = duty(rt, station, "2024-03-05T06:00Z", "2024-03-05T14:00Z");
+    rest_needed(&prev, &next, home)
+}
+
 #[test]
 fn the_rest_needed_is_the_greater(rt: HostRuntime) {
     let home = ams(&rt);
-    let short = duty(&rt, "AMS", "2024-03-04T06:00Z", "2024-03-04T14:00Z");
-    let long = duty(&rt, "AMS", "2024-03-04T06:00Z", "2024-03-04T19:00Z");
-    let middle = duty(&rt, "AMS", "2024-03-04T06:00Z", "2024-03-04T17:00Z");
-    let at_home = duty(&rt, "AMS", "2024-03-05T06:00Z", "2024-03-05T14:00Z");
-    let away = duty(&rt, "BER", "2024-03-05T06:00Z", "2024-03-05T14:00Z");
-    for (prev, next, minutes) in [
-        (&short, &at_home, 720),
-        (&short, &away, 600),
-        (&middle, &away, 660),
-        (&middle, &at_home, 720),
-        (&long, &at_home, 780),
-        (&long, &away, 780),
+    let (short, middle, long) = (
+        "2024-03-04T14:00Z",
+        "2024-03-04T17:00Z",
+        "2024-03-04T19:00Z",
+    );
+    let (at_home, away) = ("AMS", "BER");
+    for (release, station, minutes) in [
+        (short, at_home, 720),
+        (short, away, 600),
+        (middle, away, 660),
+        (middle, at_home, 720),
+        (long, at_home, 780),
+        (long, away, 780),
     ] {
-        assert!(rt; rest_needed(prev, next, &home) == minutes);
+        assert!(rt; rest_before(&rt, &home, release, station) == minutes);
     }
+}
+
+// Whether the list of the duties at the positions keeps the rest between neighbours.
+fn keeps_rest<R: Abort + AllocGlobal>(
+    rt: &R,
+    home: &Base,
+    duties: &[Duty],
+    positions: &[u16],
+) -> bool {
+    rest_ok(&list_of(rt, duties, positions), home)
 }
 
 #[test]
 fn neighbours_keep_their_rest(rt: HostRuntime) {
     let home = ams(&rt);
-    let duties = [
-        duty(&rt, "AMS", "2024-03-04T06:00Z", "2024-03-04T14:00Z"),
-        // Twelve hours after the first, and a minute less.
-        duty(&rt, "AMS", "2024-03-05T02:00Z", "2024-03-05T10:00Z"),
-        duty(&rt, "AMS", "2024-03-05T01:59Z", "2024-03-05T10:00Z"),
-        // Ten hours after the second, away from home, and a minute less.
-        duty(&rt, "BER", "2024-03-05T20:00Z", "2024-03-06T04:00Z"),
-        duty(&rt, "BER", "2024-03-05T19:59Z", "2024-03-06T04:00Z"),
-        // Ten hours after the fourth, at home.
-        duty(&rt, "AMS", "2024-03-06T14:00Z", "2024-03-06T16:00Z"),
-    ];
-    let duties = duties.as_slice();
+    let duties = duties(
+        &rt,
+        &[
+            ("AMS", "2024-03-04T06:00Z", "2024-03-04T14:00Z"),
+            // Twelve hours after the first, and a minute less.
+            ("AMS", "2024-03-05T02:00Z", "2024-03-05T10:00Z"),
+            ("AMS", "2024-03-05T01:59Z", "2024-03-05T10:00Z"),
+            // Ten hours after the second, away from home, and a minute less.
+            ("BER", "2024-03-05T20:00Z", "2024-03-06T04:00Z"),
+            ("BER", "2024-03-05T19:59Z", "2024-03-06T04:00Z"),
+            // Ten hours after the fourth, at home.
+            ("AMS", "2024-03-06T14:00Z", "2024-03-06T16:00Z"),
+        ],
+    );
     let lists: [(&[u16], bool); 8] = [
         (&[], true),
         (&[4], true),
@@ -59,8 +79,7 @@ fn neighbours_keep_their_rest(rt: HostRuntime) {
         (&[1, 3, 5], false),
     ];
     for (positions, is_kept) in lists {
-        let list = list_of(&rt, duties, positions);
-        assert!(rt; rest_ok(&list, &home) == is_kept);
+        assert!(rt; keeps_rest(&rt, &home, &duties, positions) == is_kept);
     }
 }
 

@@ -1,6 +1,6 @@
 //! Names, rules, sets, duty lists and places.
 
-use crate::given::{duty, list_of, minute, name};
+use crate::given::{duties, duty, list_of, minute, name};
 use roster_model::limits::{MOST_PAIRINGS, MOST_PERSONS};
 use roster_problem::{Cost, Costs, DutyList, Name, Places, Rule, Sector, Set};
 use std::process::Abort;
@@ -117,19 +117,27 @@ fn a_set_is_read_off_the_list_of_places(rt: HostRuntime) {
     assert!(rt; Set::of_places(&places, 4).is_empty());
 }
 
-#[test]
-fn a_duty_list_has_the_duties_at_its_positions(rt: HostRuntime) {
-    let duties = [
-        duty(&rt, "AMS", "2024-03-04T06:00Z", "2024-03-04T14:00Z"),
-        duty(&rt, "BER", "2024-03-05T06:00Z", "2024-03-05T14:00Z"),
-        duty(&rt, "CPH", "2024-03-06T06:00Z", "2024-03-06T14:00Z"),
-    ];
-    let list = list_of(&rt, &duties, &[0, 2]);
+// The list has the duties at AMS and at CPH.
+fn has_two_duties(rt: &impl Abort, list: &DutyList<'_>) {
     assert!(rt; list.len() == 2);
     assert!(rt; !list.is_empty());
     assert!(rt; list.duty(0).station.as_bytes() == b"AMS".as_slice());
     assert!(rt; list.duty(1).station.as_bytes() == b"CPH".as_slice());
-    assert!(rt; DutyList::new(&duties, Vec::new(rt.alloc())).is_empty());
+}
+
+#[test]
+fn a_duty_list_has_the_duties_at_its_positions(rt: HostRuntime) {
+    let duties = duties(
+        &rt,
+        &[
+            ("AMS", "2024-03-04T06:00Z", "2024-03-04T14:00Z"),
+            ("BER", "2024-03-05T06:00Z", "2024-03-05T14:00Z"),
+            ("CPH", "2024-03-06T06:00Z", "2024-03-06T14:00Z"),
+        ],
+    );
+    has_two_duties(&rt, &list_of(&rt, &duties, &[0, 2]));
+    let no_duty = DutyList::new(&duties, Vec::new(rt.alloc()));
+    assert!(rt; no_duty.is_empty());
 }
 
 #[test]
