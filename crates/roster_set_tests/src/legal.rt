@@ -7,6 +7,7 @@ use roster_legal::{Judge, first_broken, is_legal, locked, merge};
 use roster_model::limits::MOST_PAIRINGS;
 use roster_problem::{Problem, Rule, Set};
 use std::alloc::{AllocError, Global};
+use std::process::Abort;
 use std::test::Fail;
 
 const DUTY: &[u8] = b",BAS,2024-03-04T06:00Z,2024-03-04T14:00Z\n";
@@ -62,17 +63,22 @@ pub fn set_of(problem: &Problem, places: &[u16]) -> Option<Set>
     Some(Set::of_places(places, 0))
 }
 
+/// Judges the set of all pairings.
+fn all_overlap(rt: &impl Abort, alloc: Global, problem: &Problem) -> Result<(), Fail> {
+    let set = set_of(problem, &[0; MOST_PAIRINGS]).ok_or("a set")?;
+    assert!(rt; problem.persons().len() == 1);
+    assert!(rt; merge(alloc, problem, 0, &set)?.len() == MOST_PAIRINGS);
+    let broken = first_broken(alloc, problem, 0, &set)?;
+    assert!(rt; matches!(broken, Some(Rule::Overlap)));
+    assert!(rt; !is_legal(alloc, problem, 0, &set)?);
+    Ok(())
+}
+
 #[test]
 fn as_many_duties_as_pairings(rt: HostRuntime) -> Result<(), Fail> {
     let book = long_book(rt.alloc())?;
     let problem = problem_of(rt.alloc(), &book)?;
-    let set = set_of(&problem, &[0; MOST_PAIRINGS]).ok_or("a set")?;
-    assert!(rt; problem.persons().len() == 1);
-    assert!(rt; merge(rt.alloc(), &problem, 0, &set)?.len() == MOST_PAIRINGS);
-    let broken = first_broken(rt.alloc(), &problem, 0, &set)?;
-    assert!(rt; matches!(broken, Some(Rule::Overlap)));
-    assert!(rt; !is_legal(rt.alloc(), &problem, 0, &set)?);
-    Ok(())
+    all_overlap(&rt, rt.alloc(), &problem)
 }
 
 // A has a fixed duty on 4 March, and P1 at the same time; P2 is two days later. B is of another base,
@@ -89,12 +95,11 @@ duty,Q2,P,P2,BAS,2024-03-06T06:00Z,2024-03-06T14:00Z
 duty,Q3,C,A,BAS,2024-03-04T08:00Z,2024-03-04T10:00Z
 ";
 
-#[test]
-fn a_judge_judges_sets_one_after_another(rt: HostRuntime) -> Result<(), Fail> {
-    let problem = problem_of(rt.alloc(), LOCKED)?;
+/// Judges P1 and P2 for A and then for B.
+fn both_are_judged(rt: &impl Abort, alloc: Global, problem: &Problem) -> Result<(), Fail> {
     assert!(rt; problem.persons().len() == 2);
-    let both = set_of(&problem, &[0, 0]).ok_or("a set")?;
-    let mut judge = Judge::new(rt.alloc(), &problem);
+    let both = set_of(problem, &[0, 0]).ok_or("a set")?;
+    let mut judge = Judge::new(alloc, problem);
     let first = judge.first_broken(0, &both)?;
     let second = judge.first_broken(1, &both)?;
     assert!(rt; first == Some(Rule::Overlap));
@@ -103,10 +108,21 @@ fn a_judge_judges_sets_one_after_another(rt: HostRuntime) -> Result<(), Fail> {
 }
 
 #[test]
+fn a_judge_judges_sets_one_after_another(rt: HostRuntime) -> Result<(), Fail> {
+    let problem = problem_of(rt.alloc(), LOCKED)?;
+    both_are_judged(&rt, rt.alloc(), &problem)
+}
+
+/// Asks what locks A and B.
+fn second_is_locked(rt: &impl Abort, alloc: Global, problem: &Problem) -> Result<(), Fail> {
+    assert!(rt; problem.persons().len() == 2);
+    assert!(rt; locked(alloc, problem, 0)?.is_none());
+    assert!(rt; locked(alloc, problem, 1)? == Some(Rule::FlightYear));
+    Ok(())
+}
+
+#[test]
 fn carried_minutes_lock(rt: HostRuntime) -> Result<(), Fail> {
     let problem = problem_of(rt.alloc(), LOCKED)?;
-    assert!(rt; problem.persons().len() == 2);
-    assert!(rt; locked(rt.alloc(), &problem, 0)?.is_none());
-    assert!(rt; locked(rt.alloc(), &problem, 1)? == Some(Rule::FlightYear));
-    Ok(())
+    second_is_locked(&rt, rt.alloc(), &problem)
 }
