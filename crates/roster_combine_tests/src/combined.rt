@@ -4,10 +4,11 @@ ghost use Rattle.std.specs.Prelude.{◌≡◌, All, IfOk, IfSome, List, map};
 ghost use Rattle.roster_model.specs.Problem.{Problem as PlainProblem};
 ghost use Rattle.roster_lines.specs.Entries.{Entry};
 ghost use Rattle.roster_lines.specs.Person.{IsTableOf};
+ghost use Rattle.roster_bounds.specs.Chosen.{priced_table};
 ghost use Rattle.roster_combine.specs.Parts.{AreSettled};
 
 use crate::books::{BEST, TWO_DAYS, is, problem_of};
-use roster_bounds::choose_tables;
+use roster_bounds::{Tables, choose_tables};
 use roster_branchtree::{Span, all_left};
 use roster_combine::{Open, Solved, combine, work};
 use roster_incumbent::Incumbent;
@@ -38,22 +39,42 @@ fn worked<L: Ledger, R: Wait>(
     ensures { IfOk result (λ worked. IfSome worked (λ worked.
         AreSettled problem.now table.now worked.0.items)) }
 {
+    let incumbent = Incumbent::new(Arc::new(alloc, all_left(alloc, problem)?)?);
     let tables = choose_tables(alloc, problem, table)?;
-    let known = Arc::new(alloc, all_left(alloc, problem)?)?;
+    worked_with::<L, R>(rt, alloc, problem, table, &tables, &incumbent, blank)
+}
+
+/// The same with these tables and this incumbent.
+fn worked_with<L: Ledger, R: Wait>(
+    rt: &R,
+    alloc: Global,
+    problem: &Problem,
+    table: &Table,
+    tables: &Tables<'_>,
+    incumbent: &Incumbent,
+    blank: Blank,
+) -> Result<Option<(Vec<Settled>, Closed)>, AllocError>
+    requires table { IsTableOf problem.now table.now }
+    requires tables { tables.now ≡ priced_table problem.now table.now tables.now.prices }
+    requires name { blank.name ≡ L.name }
+    requires parts { blank.parts ≡ L.parts }
+    requires one_each { blank.parts ≡ 1 }
+    ensures { IfOk result (λ worked. IfSome worked (λ worked.
+        AreSettled problem.now table.now worked.0.items)) }
+{
     let (state, mut shares) = match PoolState::<L>::start(alloc, &WIDTHS, 1, blank) {
         Ok(started) => started,
         Err((_, refused)) => return Err(refused),
     };
     let pool = Pool::new(state);
-    let incumbent = Incumbent::new(known);
     let list = work(
         rt,
         alloc,
         problem,
         table,
-        &tables,
+        tables,
         &pool,
-        &incumbent,
+        incumbent,
         0,
         &mut shares[0],
         &Open,
@@ -87,6 +108,25 @@ fn has_spans(list: &[Settled], closed: &Closed) -> bool {
 }
 
 /// Whether a lone worker hands in just what the pool lists.
+fn are_listed<L: Ledger, R: Wait>(
+    rt: &R,
+    alloc: Global,
+    problem: &Problem,
+    table: &Table,
+    blank: Blank,
+) -> Result<bool, AllocError>
+    requires table { IsTableOf problem.now table.now }
+    requires name { blank.name ≡ L.name }
+    requires parts { blank.parts ≡ L.parts }
+    requires one_each { blank.parts ≡ 1 }
+{
+    match worked::<L, R>(rt, alloc, problem, table, blank)? {
+        Some((list, closed)) => Ok(has_spans(&list, &closed)),
+        None => Ok(false),
+    }
+}
+
+/// The same in the book of two days.
 fn hands_in_what_is_listed<L: Ledger, R: Wait>(
     rt: &R,
     alloc: Global,
@@ -98,10 +138,7 @@ fn hands_in_what_is_listed<L: Ledger, R: Wait>(
 {
     let problem = problem_of(alloc, TWO_DAYS)?;
     let table = table_of(alloc, &problem)?;
-    match worked::<L, R>(rt, alloc, &problem, &table, blank)? {
-        Some((list, closed)) => Ok(has_spans(&list, &closed)),
-        None => Ok(false),
-    }
+    Ok(are_listed::<L, R>(rt, alloc, &problem, &table, blank)?)
 }
 
 /// For whom worker 0's list is handed in.
@@ -153,26 +190,40 @@ fn put_together(
     combine(alloc, problem, table, lists, closed)
 }
 
-/// What the list of a lone worker comes to. None if its pool isn't at rest.
+/// What the list of a lone worker comes to, if its pool is at rest.
+fn combined_over<L: Ledger, R: Wait>(
+    rt: &R,
+    alloc: Global,
+    problem: &Problem,
+    table: &Table,
+    handed: Handed,
+    blank: Blank,
+) -> Result<Solved, Fail>
+    requires table { IsTableOf problem.now table.now }
+    requires name { blank.name ≡ L.name }
+    requires parts { blank.parts ≡ L.parts }
+    requires one_each { blank.parts ≡ 1 }
+{
+    match worked::<L, R>(rt, alloc, problem, table, blank)? {
+        Some((list, closed)) => Ok(put_together(alloc, problem, table, handed, list, closed)?),
+        None => Err("a pool at rest")?,
+    }
+}
+
+/// The same in the book of two days.
 fn combined<L: Ledger, R: Wait>(
     rt: &R,
     alloc: Global,
     handed: Handed,
     blank: Blank,
-) -> Result<Option<Solved>, Fail>
+) -> Result<Solved, Fail>
     requires name { blank.name ≡ L.name }
     requires parts { blank.parts ≡ L.parts }
     requires one_each { blank.parts ≡ 1 }
 {
     let problem = problem_of(alloc, TWO_DAYS)?;
     let table = table_of(alloc, &problem)?;
-    match worked::<L, R>(rt, alloc, &problem, &table, blank)? {
-        Some((list, closed)) => {
-            let solved = put_together(alloc, &problem, &table, handed, list, closed)?;
-            Ok(Some(solved))
-        }
-        None => Ok(None),
-    }
+    combined_over::<L, R>(rt, alloc, &problem, &table, handed, blank)
 }
 
 #[test]
@@ -184,20 +235,20 @@ fn a_lone_worker_hands_in_what_the_pool_lists(rt: HostRuntime) -> Result<(), Fai
 #[test]
 fn what_is_listed_is_combined(rt: HostRuntime) -> Result<(), Fail> {
     let solved = combined::<Brand, HostRuntime>(&rt, rt.alloc(), Handed::First, Blank::new(1))?;
-    assert!(rt; is(&solved.ok_or("a pool at rest")?, BEST, 0));
+    assert!(rt; is(&solved, BEST, 0));
     Ok(())
 }
 
 #[test]
 fn a_list_for_another_worker_is_searched_again(rt: HostRuntime) -> Result<(), Fail> {
     let solved = combined::<Brand, HostRuntime>(&rt, rt.alloc(), Handed::Second, Blank::new(1))?;
-    assert!(rt; is(&solved.ok_or("a pool at rest")?, BEST, 1));
+    assert!(rt; is(&solved, BEST, 1));
     Ok(())
 }
 
 #[test]
 fn without_a_list_all_is_searched_again(rt: HostRuntime) -> Result<(), Fail> {
     let solved = combined::<Brand, HostRuntime>(&rt, rt.alloc(), Handed::Nobody, Blank::new(1))?;
-    assert!(rt; is(&solved.ok_or("a pool at rest")?, BEST, 1));
+    assert!(rt; is(&solved, BEST, 1));
     Ok(())
 }

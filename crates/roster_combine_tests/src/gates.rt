@@ -4,6 +4,7 @@ use crate::books::{BEST, TWO_DAYS, is};
 use crate::threads::solved;
 use roster_combine::{Gate, Point};
 use std::alloc::Global;
+use std::process::Abort;
 use std::sync::Wait;
 use std::sync::atomic::{AtomicBool, AtomicUsize, Ordering};
 use std::test::Fail;
@@ -105,6 +106,15 @@ impl Gate for Counting {
     }
 }
 
+/// Several parts were begun, workers looked in them, and all of them are finished.
+fn are_finished(rt: &impl Abort, counting: &Counting) {
+    let ready = counting.ready.load(Ordering::SeqCst);
+    // Who comes first splits the root. The others may come when all is done.
+    assert!(rt; ready >= 2);
+    assert!(rt; counting.looks.load(Ordering::SeqCst) > 0);
+    assert!(rt; counting.finished.load(Ordering::SeqCst) == ready);
+}
+
 #[test]
 fn each_part_begun_is_finished(rt: HostRuntime) -> Result<(), Fail> {
     let counting = Counting {
@@ -112,12 +122,7 @@ fn each_part_begun_is_finished(rt: HostRuntime) -> Result<(), Fail> {
         looks: AtomicUsize::new(0),
         finished: AtomicUsize::new(0),
     };
-    let solved = solved(&rt, rt.alloc(), TWO_DAYS, 3, &counting)?;
-    assert!(rt; is(&solved, BEST, 0));
-    let ready = counting.ready.load(Ordering::SeqCst);
-    // Who comes first splits the root. The others may come when all is done.
-    assert!(rt; ready >= 2);
-    assert!(rt; counting.looks.load(Ordering::SeqCst) > 0);
-    assert!(rt; counting.finished.load(Ordering::SeqCst) == ready);
+    assert!(rt; is(&solved(&rt, rt.alloc(), TWO_DAYS, 3, &counting)?, BEST, 0));
+    are_finished(&rt, &counting);
     Ok(())
 }

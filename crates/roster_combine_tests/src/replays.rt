@@ -4,7 +4,7 @@ ghost use Rattle.std.specs.Prelude.{◌<◌};
 
 use crate::books::{BEST, NOBODY, TWO_DAYS, is, problem_of};
 use roster_combine::replay;
-use roster_problem::{Problem, Step};
+use roster_problem::Step;
 use std::alloc::{AllocError, Global};
 use std::test::Fail;
 
@@ -40,14 +40,20 @@ fn search(worker: usize, every: usize) -> Step {
 }
 
 /// Whether the search of the problem of six persons finds its best roster under this schedule.
-fn finds(alloc: Global, problem: &Problem, steps: &[Step]) -> Result<bool, Fail> {
-    Ok(is(&replay(alloc, problem, steps)?, BEST, 0))
+fn finds(alloc: Global, steps: &[Step]) -> Result<bool, Fail> {
+    let problem = problem_of(alloc, TWO_DAYS)?;
+    Ok(is(&replay(alloc, &problem, steps)?, BEST, 0))
+}
+
+/// Whether the search of the problem of nobody finds its only roster under this schedule.
+fn finds_nobody(alloc: Global, steps: &[Step]) -> Result<bool, Fail> {
+    let problem = problem_of(alloc, NOBODY)?;
+    Ok(is(&replay(alloc, &problem, steps)?, &[], 0))
 }
 
 #[test]
 fn each_schedule_leads_to_the_best_roster(rt: HostRuntime) -> Result<(), Fail> {
-    let problem = problem_of(rt.alloc(), TWO_DAYS)?;
-    assert!(rt; finds(rt.alloc(), &problem, &[])?);
+    assert!(rt; finds(rt.alloc(), &[])?);
     let shared = [
         take(0, 0),
         halve(0),
@@ -58,7 +64,7 @@ fn each_schedule_leads_to_the_best_roster(rt: HostRuntime) -> Result<(), Fail> {
         search(1, 1),
         search(0, 2),
     ];
-    assert!(rt; finds(rt.alloc(), &problem, &shared)?);
+    assert!(rt; finds(rt.alloc(), &shared)?);
     let deep = [
         take(0, 0),
         halve(0),
@@ -70,21 +76,19 @@ fn each_schedule_leads_to_the_best_roster(rt: HostRuntime) -> Result<(), Fail> {
         halve(0),
         search(0, 1),
     ];
-    assert!(rt; finds(rt.alloc(), &problem, &deep)?);
+    assert!(rt; finds(rt.alloc(), &deep)?);
     Ok(())
 }
 
 #[test]
 fn spans_given_back_are_searched(rt: HostRuntime) -> Result<(), Fail> {
-    let problem = problem_of(rt.alloc(), TWO_DAYS)?;
     let steps = [take(0, 0), halve(0), back(0), take(0, 1), search(0, 0)];
-    assert!(rt; finds(rt.alloc(), &problem, &steps)?);
+    assert!(rt; finds(rt.alloc(), &steps)?);
     Ok(())
 }
 
 #[test]
 fn refused_steps_change_nothing(rt: HostRuntime) -> Result<(), Fail> {
-    let problem = problem_of(rt.alloc(), TWO_DAYS)?;
     let steps = [
         halve(3),
         take(0, 5),
@@ -97,15 +101,14 @@ fn refused_steps_change_nothing(rt: HostRuntime) -> Result<(), Fail> {
         take(64, 0),
         search(1_000_000, 1),
     ];
-    assert!(rt; finds(rt.alloc(), &problem, &steps)?);
+    assert!(rt; finds(rt.alloc(), &steps)?);
     Ok(())
 }
 
 #[test]
 fn steps_of_nobody_are_refused(rt: HostRuntime) -> Result<(), Fail> {
-    let problem = problem_of(rt.alloc(), NOBODY)?;
     let steps = [take(0, 0), halve(0), descend(0), search(0, 1), back(0)];
-    assert!(rt; is(&replay(rt.alloc(), &problem, &steps)?, &[], 0));
+    assert!(rt; finds_nobody(rt.alloc(), &steps)?);
     Ok(())
 }
 
@@ -160,12 +163,16 @@ fn random_steps(alloc: Global, seed: u64) -> Result<Vec<Step>, AllocError> {
     Ok(steps)
 }
 
+/// Whether it finds it under a schedule that is put together at random.
+fn finds_at_random(alloc: Global, seed: u64) -> Result<bool, Fail> {
+    let steps = random_steps(alloc, seed)?;
+    finds(alloc, &steps)
+}
+
 #[test]
 fn random_schedules_lead_to_the_best_roster(rt: HostRuntime) -> Result<(), Fail> {
-    let problem = problem_of(rt.alloc(), TWO_DAYS)?;
     for seed in 0..SCHEDULES {
-        let steps = random_steps(rt.alloc(), seed)?;
-        assert!(rt; finds(rt.alloc(), &problem, &steps)?, "schedule {seed}");
+        assert!(rt; finds_at_random(rt.alloc(), seed)?, "schedule {seed}");
     }
     Ok(())
 }
