@@ -2,10 +2,9 @@
 
 ghost use Rattle.std.specs.Prelude.{◌≡◌, ◌<◌, All, IfOk, length};
 
-use crate::random::random_book;
-use roster_book::{Command, Watched, read_book};
+use crate::random::random_problem;
 use roster_legal::Judge;
-use roster_lines::lines_of;
+use roster_lines::{Lines, lines_of};
 use roster_problem::{Problem, Set};
 use std::alloc::{AllocError, Global};
 use std::test::Fail;
@@ -26,10 +25,14 @@ fn set_of(alloc: Global, problem: &Problem, bits: usize) -> Result<Set, AllocErr
 }
 
 /// How many sets of person `k` are legal, if the lines are just those.
-fn legal_sets(alloc: Global, problem: &Problem, k: usize) -> Result<Option<usize>, Fail>
+fn legal_sets(
+    alloc: Global,
+    problem: &Problem,
+    k: usize,
+    lines: &Lines,
+) -> Result<Option<usize>, AllocError>
     requires { k < length problem.now.persons }
 {
-    let lines = lines_of(alloc, problem, k)?;
     let mut judge = Judge::new(alloc, problem);
     let mut legal = 0usize;
     for bits in 0..1 << (problem.pairings().len() % 8) {
@@ -47,19 +50,23 @@ fn legal_sets(alloc: Global, problem: &Problem, k: usize) -> Result<Option<usize
     })
 }
 
-/// How many legal sets there are in the book of this number, if the lines of each person are just those.
-fn in_book(alloc: Global, seed: u64) -> Result<Option<usize>, Fail> {
-    let book = random_book(alloc, seed)?;
-    let mut reader = Watched::new(book.as_bytes());
-    let problem = read_book(alloc, &mut reader, Command::Solve)?.problem;
+/// How many legal sets the persons have, if the lines of each person are just those.
+fn all_legal_sets(alloc: Global, problem: &Problem) -> Result<Option<usize>, Fail> {
     let mut all = 0usize;
     for k in 0..problem.persons().len() {
-        match legal_sets(alloc, &problem, k)? {
+        let lines = lines_of(alloc, problem, k)?;
+        match legal_sets(alloc, problem, k, &lines)? {
             Some(legal) => all = all.saturating_add(legal),
             None => return Ok(None),
         }
     }
     Ok(Some(all))
+}
+
+/// The same of the book of this number.
+fn in_book(alloc: Global, seed: u64) -> Result<Option<usize>, Fail> {
+    let problem = random_problem(alloc, seed)?;
+    all_legal_sets(alloc, &problem)
 }
 
 #[test]

@@ -2,14 +2,15 @@
 
 ghost use Rattle.roster_lines.specs.Person.{IsTableOf};
 
-use roster_book::{Command, Watched, read_book};
+use crate::books::{problem_of, problem_with, read};
 use roster_lines::{
-    Lines, Table, TableFault, all_lines, few_are_not_crowded, has_numbers, lines_of,
+    Lines, LinesFault, Table, TableFault, all_lines, few_are_not_crowded, has_numbers, lines_of,
     nobody_is_crowded, one_list_of_lines, one_list_of_numbers, table_of,
 };
 use roster_model::limits::MOST_PAIRINGS;
 use roster_problem::{Problem, Set};
-use std::alloc::{AllocError, Global};
+use std::alloc::Global;
+use std::process::Abort;
 use std::test::Fail;
 use std::thread::Threads;
 
@@ -18,10 +19,6 @@ const TWO_DAYS: [u8; 10] = [4, 4, 4, 4, 4, 5, 5, 5, 5, 5];
 
 /// Pairings any of which go together: more than 60000 sets.
 const MANY: [u8; 16] = [1, 3, 5, 7, 9, 11, 13, 15, 17, 19, 21, 23, 25, 27, 29, 31];
-
-/// One person.
-const ONE: &[u8] = b"crew,A,BAS,0,0,0
-";
 
 /// On those two days B is away on the first, and C on the second.
 const THREE: &[u8] = b"crew,A,BAS,0,0,0
@@ -58,50 +55,6 @@ sector,Q3,O,2024-03-20T07:00Z,2024-03-20T08:00Z
 cost,A,P1,7
 cost,A,P2,-30
 ";
-
-/// The last digit of a number.
-fn digit(n: usize) -> u8 {
-    b'0' + (n % 10) as u8
-}
-
-/// A book of this crew, and a pairing with one duty on each of these days of March, at the same hours.
-pub fn book_of(alloc: Global, crew: &[u8], days: &[u8]) -> Result<Vec<u8>, AllocError> {
-    let mut book = b"period,2024-03\nbase,BAS,UTC0\n".to_vec(alloc)?;
-    book.extend_from_slice(crew)?;
-    for (p, day) in days.iter().enumerate() {
-        let name = [digit(p / 100), digit(p / 10), digit(p)];
-        let day = [digit(usize::from(*day / 10)), digit(usize::from(*day))];
-        let parts: [&[u8]; 11] = [
-            b"pairing,P",
-            &name,
-            b",BAS,1\nduty,D",
-            &name,
-            b",P,P",
-            &name,
-            b",BAS,2024-03-",
-            &day,
-            b"T06:00Z,2024-03-",
-            &day,
-            b"T14:00Z\n",
-        ];
-        for part in parts {
-            book.extend_from_slice(part)?;
-        }
-    }
-    Ok(book)
-}
-
-/// The problem of that book.
-fn problem_with(alloc: Global, crew: &[u8], days: &[u8]) -> Result<Problem, Fail> {
-    let book = book_of(alloc, crew, days)?;
-    let mut reader = Watched::new(book.as_slice());
-    Ok(read_book(alloc, &mut reader, Command::Solve)?.problem)
-}
-
-/// The problem of that book with one person.
-pub fn problem_of(alloc: Global, days: &[u8]) -> Result<Problem, Fail> {
-    problem_with(alloc, ONE, days)
-}
 
 /// The set of these pairings.
 fn set_of(pairings: &[usize]) -> Set {
@@ -154,56 +107,69 @@ fn are_same(problem: &Problem, a: &Table, b: &Table) -> bool
     true
 }
 
-#[test]
-fn pairings_of_one_day_are_lines_alone(rt: HostRuntime) -> Result<(), Fail> {
-    let problem = problem_of(rt.alloc(), &[4; MOST_PAIRINGS])?;
+/// The lines of the first person, who is the only one.
+fn first_lines(rt: &impl Abort, alloc: Global, problem: &Problem) -> Result<Lines, LinesFault> {
     assert!(rt; problem.persons().len() == 1);
-    let lines = lines_of(rt.alloc(), &problem, 0)?;
+    lines_of(alloc, problem, 0)
+}
+
+/// The lines of the one person of the book with pairings on these days.
+fn lines_with(rt: &impl Abort, alloc: Global, days: &[u8]) -> Result<Lines, Fail> {
+    let problem = problem_of(alloc, days)?;
+    Ok(first_lines(rt, alloc, &problem)?)
+}
+
+/// Checks that the lines are the one without a pairing, and each pairing alone.
+fn are_alone(rt: &impl Abort, lines: &Lines) {
     assert!(rt; lines.width() == MOST_PAIRINGS + 1);
     assert!(rt; lines.set(0).is_empty());
     for i in 1..MOST_PAIRINGS + 1 {
         assert!(rt; lines.set(i) == set_of(&[i - 1]));
     }
-    Ok(())
 }
 
 #[test]
-fn lines_of_two_days(rt: HostRuntime) -> Result<(), Fail> {
-    let problem = problem_of(rt.alloc(), &TWO_DAYS)?;
-    assert!(rt; problem.persons().len() == 1);
-    let lines = lines_of(rt.alloc(), &problem, 0)?;
+fn pairings_of_one_day_are_lines_alone(rt: HostRuntime) -> Result<(), Fail> {
+    let lines = lines_with(&rt, rt.alloc(), &[4; MOST_PAIRINGS])?;
+    are_alone(&rt, &lines);
+    Ok(())
+}
+
+/// Checks the numbers of all lines of the two days.
+fn are_in_order(rt: &impl Abort, lines: &Lines) {
     assert!(rt; lines.width() == 36);
     for i in 0..36 {
         assert!(rt; lines.find(&lines.set(i)) == Some(i));
     }
     for first in 0..5 {
-        assert!(rt; stands(&lines, &[first], 6 * first + 1));
+        assert!(rt; stands(lines, &[first], 6 * first + 1));
         for second in 5..10 {
-            assert!(rt; stands(&lines, &[first, second], 6 * first + second - 3));
+            assert!(rt; stands(lines, &[first, second], 6 * first + second - 3));
         }
     }
     for second in 5..10 {
-        assert!(rt; stands(&lines, &[second], second + 26));
+        assert!(rt; stands(lines, &[second], second + 26));
     }
+}
+
+#[test]
+fn lines_of_two_days(rt: HostRuntime) -> Result<(), Fail> {
+    let lines = lines_with(&rt, rt.alloc(), &TWO_DAYS)?;
+    are_in_order(&rt, &lines);
     Ok(())
 }
 
 #[test]
 fn sets_that_are_no_lines_are_not_found(rt: HostRuntime) -> Result<(), Fail> {
-    let problem = problem_of(rt.alloc(), &TWO_DAYS)?;
-    assert!(rt; problem.persons().len() == 1);
-    let lines = lines_of(rt.alloc(), &problem, 0)?;
+    let lines = lines_with(&rt, rt.alloc(), &TWO_DAYS)?;
     assert!(rt; lines.find(&set_of(&[0, 1])).is_none());
     assert!(rt; lines.find(&set_of(&[0, 5, 6])).is_none());
     assert!(rt; lines.find(&set_of(&[10])).is_none());
     Ok(())
 }
 
-#[test]
-fn lines_of_a_least_pairing_stand_together(rt: HostRuntime) -> Result<(), Fail> {
-    let problem = problem_of(rt.alloc(), &TWO_DAYS)?;
-    assert!(rt; problem.persons().len() == 1);
-    let lines = lines_of(rt.alloc(), &problem, 0)?;
+/// Checks where the lines of each least pairing of the two days stand.
+fn stand_together(rt: &impl Abort, lines: &Lines) {
     for p in 0..5 {
         assert!(rt; lines.run_of(p) == (6 * p + 1, 6 * p + 7));
     }
@@ -211,15 +177,20 @@ fn lines_of_a_least_pairing_stand_together(rt: HostRuntime) -> Result<(), Fail> 
         assert!(rt; lines.run_of(p) == (p + 26, p + 27));
     }
     assert!(rt; lines.run_of(10) == (36, 36));
-    Ok(())
 }
 
 #[test]
-fn lines_cost_their_units_and_the_missed_target(rt: HostRuntime) -> Result<(), Fail> {
-    let mut reader = Watched::new(COSTS);
-    let problem = read_book(rt.alloc(), &mut reader, Command::Solve)?.problem;
+fn lines_of_a_least_pairing_stand_together(rt: HostRuntime) -> Result<(), Fail> {
+    let lines = lines_with(&rt, rt.alloc(), &TWO_DAYS)?;
+    stand_together(&rt, &lines);
+    Ok(())
+}
+
+/// Checks what the lines of A and of B cost.
+fn table_costs(rt: &impl Abort, problem: &Problem, table: &Table)
+    requires table { IsTableOf problem.now table.now }
+{
     assert!(rt; problem.persons().len() == 2);
-    let table = table_of(rt.alloc(), &problem)?;
     let costs = [1000, 47, 417, 490, 120, 1080, 1560, 600];
     for k in 0..2 {
         assert!(rt; table.width(k) == 4);
@@ -227,32 +198,49 @@ fn lines_cost_their_units_and_the_missed_target(rt: HostRuntime) -> Result<(), F
             assert!(rt; table.cost(k, i) == costs[4 * k + i]);
         }
     }
-    Ok(())
 }
 
 #[test]
-fn lines_go_on_from_earlier_ones(rt: HostRuntime) -> Result<(), Fail> {
-    let problem = problem_of(rt.alloc(), &TWO_DAYS)?;
-    assert!(rt; problem.persons().len() == 1);
-    let lines = lines_of(rt.alloc(), &problem, 0)?;
+fn lines_cost_their_units_and_the_missed_target(rt: HostRuntime) -> Result<(), Fail> {
+    let problem = read(rt.alloc(), COSTS)?;
+    let table = table_of(rt.alloc(), &problem)?;
+    table_costs(&rt, &problem, &table);
+    Ok(())
+}
+
+/// Checks which lines of the two days some of them go on from.
+fn go_on(rt: &impl Abort, lines: &Lines) {
     assert!(rt; lines.width() == 36);
     assert!(rt; lines.cost(35) == 0);
     assert!(rt; lines.parent_and_last(1) == (0, 0));
     assert!(rt; lines.parent_and_last(2) == (1, 5));
     assert!(rt; lines.parent_and_last(35) == (0, 9));
-    Ok(())
 }
 
 #[test]
-fn a_table_has_the_lines_of_each_person(rt: HostRuntime) -> Result<(), Fail> {
-    let problem = problem_of(rt.alloc(), &TWO_DAYS)?;
+fn lines_go_on_from_earlier_ones(rt: HostRuntime) -> Result<(), Fail> {
+    let lines = lines_with(&rt, rt.alloc(), &TWO_DAYS)?;
+    go_on(&rt, &lines);
+    Ok(())
+}
+
+/// Checks the table of the one person of the two days.
+fn has_lines(rt: &impl Abort, problem: &Problem, table: &Table)
+    requires table { IsTableOf problem.now table.now }
+{
     assert!(rt; problem.persons().len() == 1);
-    let table = table_of(rt.alloc(), &problem)?;
     assert!(rt; table.width(0) == 36);
     assert!(rt; table.lines(0).width() == 36);
     assert!(rt; table.set(0, 2) == set_of(&[0, 5]));
     assert!(rt; table.find(0, &set_of(&[9])) == Some(35));
     assert!(rt; table.run_of(0, 4) == (25, 31));
+}
+
+#[test]
+fn a_table_has_the_lines_of_each_person(rt: HostRuntime) -> Result<(), Fail> {
+    let problem = problem_of(rt.alloc(), &TWO_DAYS)?;
+    let table = table_of(rt.alloc(), &problem)?;
+    has_lines(&rt, &problem, &table);
     Ok(())
 }
 
@@ -264,32 +252,46 @@ fn a_person_may_have_too_many_lines(rt: HostRuntime) -> Result<(), Fail> {
     Ok(())
 }
 
+/// Checks how many lines A, B and C have on the two days, by two threads.
+fn have_widths<R: Abort + Threads + Sync>(
+    rt: &R,
+    alloc: Global,
+    problem: &Problem,
+) -> Result<(), TableFault> {
+    assert!(rt; problem.persons().len() == 3);
+    let table = all_lines(rt, alloc, problem, 2)?;
+    assert!(rt; table.width(0) == 36 && table.width(1) == 6 && table.width(2) == 6);
+    Ok(())
+}
+
 #[test]
 fn threads_make_the_same_table(rt: HostRuntime) -> Result<(), Fail> {
     let problem = problem_with(rt.alloc(), THREE, &TWO_DAYS)?;
-    assert!(rt; problem.persons().len() == 3);
-    let table = all_lines(&rt, rt.alloc(), &problem, 2)?;
-    assert!(rt; table.width(0) == 36 && table.width(1) == 6 && table.width(2) == 6);
+    have_widths(&rt, rt.alloc(), &problem)?;
     assert!(rt; do_threads_agree(&rt, rt.alloc(), &problem)?);
     Ok(())
 }
 
 #[test]
 fn threads_find_the_same_costs(rt: HostRuntime) -> Result<(), Fail> {
-    let mut reader = Watched::new(COSTS);
-    let problem = read_book(rt.alloc(), &mut reader, Command::Solve)?.problem;
+    let problem = read(rt.alloc(), COSTS)?;
     assert!(rt; do_threads_agree(&rt, rt.alloc(), &problem)?);
     Ok(())
+}
+
+/// Checks that B is told, whatever the number of threads.
+fn second_is_told<R: Abort + Threads + Sync>(rt: &R, alloc: Global, problem: &Problem) {
+    assert!(rt; problem.persons().len() == 4);
+    for workers in [1, 3, 64] {
+        let shared = all_lines(rt, alloc, problem, workers);
+        assert!(rt; matches!(shared, Err(TableFault::TooMany(1))));
+    }
 }
 
 #[test]
 fn the_first_person_with_too_many_lines_is_told(rt: HostRuntime) -> Result<(), Fail> {
     let problem = problem_with(rt.alloc(), FOUR, &MANY)?;
-    assert!(rt; problem.persons().len() == 4);
-    for workers in [1, 3, 64] {
-        let shared = all_lines(&rt, rt.alloc(), &problem, workers);
-        assert!(rt; matches!(shared, Err(TableFault::TooMany(1))));
-    }
+    second_is_told(&rt, rt.alloc(), &problem);
     Ok(())
 }
 

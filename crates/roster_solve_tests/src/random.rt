@@ -2,7 +2,10 @@
 
 ghost use Rattle.std.specs.Prelude.{◌<◌};
 
+use crate::books::read;
+use roster_problem::Problem;
 use std::alloc::{AllocError, Global};
+use std::test::Fail;
 
 /// Numbers that look random, by a linear congruential generator.
 #[derive(Drop)]
@@ -77,6 +80,23 @@ fn push_duty(
     Ok(())
 }
 
+/// What a pairing costs with some of the persons.
+fn push_costs(
+    alloc: Global,
+    book: &mut String,
+    numbers: &mut Numbers,
+    p: u32,
+    persons: u32,
+) -> Result<(), AllocError> {
+    for k in 0..persons {
+        if numbers.below(3) == 0 {
+            let units = numbers.one_of([-7, 0, 1, 2]);
+            book.push_str(&format!(in alloc; "cost,C{k},P{p},{units}\n")?)?;
+        }
+    }
+    Ok(())
+}
+
 /// A pairing of one duty, and what it costs with some of the persons.
 fn push_pairing(
     alloc: Global,
@@ -89,17 +109,11 @@ fn push_pairing(
     let penalty = numbers.one_of([0, 1, 1, 100]);
     book.push_str(&format!(in alloc; "pairing,P{p},{base},{penalty}\n")?)?;
     push_duty(alloc, book, numbers, p, base)?;
-    for k in 0..persons {
-        if numbers.below(3) == 0 {
-            let units = numbers.one_of([-7, 0, 1, 2]);
-            book.push_str(&format!(in alloc; "cost,C{k},P{p},{units}\n")?)?;
-        }
-    }
-    Ok(())
+    push_costs(alloc, book, numbers, p, persons)
 }
 
 /// A book without a fault, of one to three persons and one to five pairings.
-pub fn random_book(alloc: Global, seed: u64) -> Result<String, AllocError> {
+fn random_book(alloc: Global, seed: u64) -> Result<String, AllocError> {
     let mut numbers = Numbers { state: seed };
     let mut book = String::from_str(alloc, "period,2024-03\nbase,BAS,UTC0\nbase,GVA,UTC0\n")?;
     let weight = numbers.one_of([0, 0, 1, 3]);
@@ -113,4 +127,10 @@ pub fn random_book(alloc: Global, seed: u64) -> Result<String, AllocError> {
         push_pairing(alloc, &mut book, &mut numbers, p, persons)?;
     }
     Ok(book)
+}
+
+/// The problem of such a book.
+pub fn random_problem(alloc: Global, seed: u64) -> Result<Problem, Fail> {
+    let book = random_book(alloc, seed)?;
+    read(alloc, book.as_bytes())
 }

@@ -1,9 +1,8 @@
 //! The search beside the walk of lines and the plain search.
 
-use crate::lines::{book_of, problem_of};
-use crate::random::random_book;
-use roster_book::{Command, Watched, read_book};
-use roster_combine::{Open, SolveFault, solve};
+use crate::books::{book_of, problem_of, read};
+use crate::random::random_problem;
+use roster_combine::{Open, solve};
 use roster_lines::table_of;
 use roster_model::limits::MOST_PAIRINGS;
 use roster_problem::{Problem, Roster, open_number};
@@ -43,7 +42,7 @@ fn is_solved<R: Threads + Wait + Sync>(
     problem: &Problem,
     places: &[u16],
     cost: i64,
-) -> Result<bool, SolveFault> {
+) -> Result<bool, Fail> {
     let solved = solve(rt, alloc, problem, 1, &Open)?;
     Ok(is(&solved.roster, places, cost))
 }
@@ -83,8 +82,7 @@ fn find<R: Threads + Wait + Sync>(
     places: &[u16],
     cost: i64,
 ) -> Result<bool, Fail> {
-    let mut reader = Watched::new(book);
-    let problem = read_book(alloc, &mut reader, Command::Solve)?.problem;
+    let problem = read(alloc, book)?;
     all_find(rt, alloc, &problem, places, cost)
 }
 
@@ -108,7 +106,7 @@ fn flies_the_first<R: Threads + Wait + Sync>(rt: &R, alloc: Global) -> Result<bo
     let problem = problem_of(alloc, &[4; MOST_PAIRINGS])?;
     let mut places = [1; MOST_PAIRINGS];
     places[0] = 0;
-    Ok(is_solved(rt, alloc, &problem, &places, MOST_PAIRINGS as i64 - 1)?)
+    is_solved(rt, alloc, &problem, &places, MOST_PAIRINGS as i64 - 1)
 }
 
 #[test]
@@ -116,13 +114,6 @@ fn searches_of_as_many_pairings_as_may_be(rt: HostRuntime) -> Result<(), Fail> {
     assert!(rt; leave_all_open(&rt, rt.alloc())?);
     assert!(rt; flies_the_first(&rt, rt.alloc())?);
     Ok(())
-}
-
-/// The problem of a random book.
-fn random_problem(alloc: Global, seed: u64) -> Result<Problem, Fail> {
-    let book = random_book(alloc, seed)?;
-    let mut reader = Watched::new(book.as_bytes());
-    Ok(read_book(alloc, &mut reader, Command::Solve)?.problem)
 }
 
 /// Whether all searches find the same roster.
@@ -154,11 +145,7 @@ fn all_searches_agree_on_random_books(rt: HostRuntime) -> Result<(), Fail> {
 }
 
 /// Whether the best roster flies a pairing and leaves one open.
-fn mixes<R: Threads + Wait + Sync>(
-    rt: &R,
-    alloc: Global,
-    problem: &Problem,
-) -> Result<bool, SolveFault> {
+fn mixes<R: Threads + Wait + Sync>(rt: &R, alloc: Global, problem: &Problem) -> Result<bool, Fail> {
     let nobody = open_number(problem);
     let solved = solve(rt, alloc, problem, 1, &Open)?;
     let places = solved.roster.places.as_slice();
@@ -168,7 +155,7 @@ fn mixes<R: Threads + Wait + Sync>(
 /// The same of the random book with this seed.
 fn is_mixed<R: Threads + Wait + Sync>(rt: &R, alloc: Global, seed: u64) -> Result<bool, Fail> {
     let problem = random_problem(alloc, seed)?;
-    Ok(mixes(rt, alloc, &problem)?)
+    mixes(rt, alloc, &problem)
 }
 
 #[test]
