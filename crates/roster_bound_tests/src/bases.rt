@@ -1,9 +1,10 @@
 //! Bases that threads settle before spans are searched, or leave to them.
 
-ghost use Rattle.std.specs.Prelude.{◌≡◌, ◌<◌, IfOk, unwrap_or};
+ghost use Rattle.std.specs.Prelude.{◌≡◌, ◌<◌, IfOk, MatchOption, unwrap_or};
 ghost use Rattle.std.specs.Arc.{arc_value};
 ghost use Rattle.roster_lines.specs.Person.{IsTableOf};
-ghost use Rattle.roster_model.specs.Settled.{IsHeld};
+ghost use Rattle.roster_model.specs.Settled.{Anywhere, IsHeld, IsNotAfter};
+ghost use Rattle.roster_search.specs.Lefts.{IsLeftOf};
 ghost use Rattle.roster_bounds.specs.Chosen.{priced_table};
 
 use crate::books::{AS_EQUAL, EQUAL_SHARES, problem_of};
@@ -12,7 +13,7 @@ use roster_bounds::{Tables, choose_tables};
 use roster_branchtree::{Path, Sight, Span};
 use roster_lines::{Table, table_of};
 use roster_problem::{Problem, Roster};
-use roster_search::search_bases;
+use roster_search::{Left, search_bases};
 use std::alloc::{AllocError, Global};
 use std::sync::Arc;
 use std::test::Fail;
@@ -32,14 +33,14 @@ impl Sight for Looks {
 }
 
 /// What threads did before spans are searched, and what a search of all that is left then does.
-#[derive(Drop)]
+#[derive(Clone, Copy)]
 struct Seen {
     // Whether a base is left.
     left: bool,
     // Whether the tables know that nothing comes before what is answered, and before leaving all open.
     none_before: [bool; 2],
-    // What the search of all lists of line numbers answers, and its nodes.
-    best: Arc<Roster>,
+    // Whether the search of all lists of line numbers answers the best roster, and its nodes.
+    finds_best: bool,
     nodes: usize,
 }
 
@@ -62,67 +63,91 @@ fn searched_by<R: Threads + Sync>(rt: &R, alloc: Global, threads: usize) -> Resu
     requires { 0 < threads }
 {
     let problem = problem_of(alloc, EQUAL_SHARES)?;
-    let table = table_of(alloc, &problem)?;
-    searched_over(rt, alloc, &problem, &table, threads)
+    searched_over(rt, alloc, &problem, threads)
 }
 
-/// What so many threads do, and what a search of all that they leave then does.
+/// The problem whose bases so many threads search.
 fn searched_over<R: Threads + Sync>(
     rt: &R,
     alloc: Global,
     problem: &Problem,
+    threads: usize,
+) -> Result<Seen, Fail>
+    requires { 0 < threads }
+{
+    let table = table_of(alloc, problem)?;
+    let open = all_open(alloc, problem, &table)?;
+    searched_under(rt, alloc, problem, &table, &open, threads)
+}
+
+/// What so many threads do, and what a search of all that they leave then does.
+fn searched_under<R: Threads + Sync>(
+    rt: &R,
+    alloc: Global,
+    problem: &Problem,
     table: &Table,
+    open: &Arc<Roster>,
     threads: usize,
 ) -> Result<Seen, Fail>
     requires table { IsTableOf problem.now table.now }
+    requires open { IsHeld problem.now (arc_value open.now) }
     requires threads { 0 < threads }
 {
-    let open = all_open(alloc, problem, table)?;
-    let (best, tables, left) = begun(rt, alloc, problem, table, &open, threads)?;
-    let none_before = [tables.none_before(&best), tables.none_before(&open)];
-    let (best, nodes) = looked(alloc, problem, table, &tables, &best)?;
-    Ok(Seen {
-        left,
-        none_before,
-        best,
-        nodes,
-    })
+    let (best, tables) = informed(rt, alloc, problem, table, open, threads)?;
+    looked(alloc, problem, table, &tables, &best, open)
 }
 
-/// The best roster that the threads know, tables that know it or what is left, and whether a base is left.
-fn begun<'a, R: Threads + Sync>(
+/// The best roster that the threads know, and tables that know it or what is left.
+fn informed<'a, R: Threads + Sync>(
     rt: &R,
     alloc: Global,
     problem: &'a Problem,
     table: &'a Table,
     open: &Arc<Roster>,
     threads: usize,
-) -> Result<(Arc<Roster>, Tables<'a>, bool), AllocError>
+) -> Result<(Arc<Roster>, Tables<'a>), AllocError>
     requires table { IsTableOf problem.now table.now }
     requires open { IsHeld problem.now (arc_value open.now) }
     requires threads { 0 < threads }
-    ensures held { IfOk result (λ begun. IsHeld problem.now (arc_value begun.0)) }
-    ensures tables { IfOk result (λ begun.
-        begun.1 ≡ priced_table problem.now table.now begun.1.prices) }
+    ensures held { IfOk result (λ informed. IsHeld problem.now (arc_value informed.0)) }
+    ensures tables { IfOk result (λ informed.
+        informed.1 ≡ priced_table problem.now table.now informed.1.prices) }
 {
     let (better, left) = search_bases(rt, alloc, problem, table, open, threads)?;
     let best = better_or(alloc, better, open)?;
-    let tables = choose_tables(alloc, problem, table)?;
-    if let Some(left) = left {
-        return Ok((best, tables.leaving(left), true));
-    }
-    let tables = tables.knowing(Arc::try_clone(&best)?);
-    Ok((best, tables, false))
+    let tables = told(alloc, problem, table, &best, left)?;
+    Ok((best, tables))
 }
 
-/// What the search of all lists of line numbers answers, and how many nodes it has.
+/// Tables that know the best roster, or what is left.
+fn told<'a>(
+    alloc: Global,
+    problem: &'a Problem,
+    table: &'a Table,
+    best: &Arc<Roster>,
+    left: Option<Left>,
+) -> Result<Tables<'a>, AllocError>
+    requires table { IsTableOf problem.now table.now }
+    requires left { MatchOption left (IsNotAfter problem.now Anywhere (arc_value best.now))
+        (IsLeftOf problem.now) }
+    ensures { IfOk result (λ tables. tables ≡ priced_table problem.now table.now tables.prices) }
+{
+    let tables = choose_tables(alloc, problem, table)?;
+    match left {
+        Some(left) => Ok(tables.leaving(left)),
+        None => Ok(tables.knowing(Arc::try_clone(best)?)),
+    }
+}
+
+/// What these tables know, and what the search of all lists of line numbers then does.
 fn looked(
     alloc: Global,
     problem: &Problem,
     table: &Table,
     tables: &Tables<'_>,
     known: &Arc<Roster>,
-) -> Result<(Arc<Roster>, usize), AllocError>
+    open: &Arc<Roster>,
+) -> Result<Seen, Fail>
     requires table { IsTableOf problem.now table.now }
     requires tables { tables.now ≡ priced_table problem.now table.now tables.now.prices }
     requires known { IsHeld problem.now (arc_value known.now) }
@@ -134,14 +159,19 @@ fn looked(
     };
     let mut looks = Looks { count: 0 };
     let best = searched(alloc, problem, table, tables, span, &mut looks, 1, known)?;
-    Ok((best, looks.count))
+    Ok(Seen {
+        left: tables.left().is_some(),
+        none_before: [tables.none_before(known), tables.none_before(open)],
+        finds_best: is(&best, AS_EQUAL, 4),
+        nodes: looks.count,
+    })
 }
 
 #[test]
 fn one_thread_settles_all_bases(rt: HostRuntime) -> Result<(), Fail> {
     let seen = searched_by(&rt, rt.alloc(), 1)?;
     assert!(rt; !seen.left && seen.none_before == [true, false]);
-    assert!(rt; is(&seen.best, AS_EQUAL, 4) && seen.nodes == 1);
+    assert!(rt; seen.finds_best && seen.nodes == 1);
     Ok(())
 }
 
@@ -149,6 +179,6 @@ fn one_thread_settles_all_bases(rt: HostRuntime) -> Result<(), Fail> {
 fn two_threads_leave_a_base(rt: HostRuntime) -> Result<(), Fail> {
     let seen = searched_by(&rt, rt.alloc(), 2)?;
     assert!(rt; seen.left && seen.none_before == [false, false]);
-    assert!(rt; is(&seen.best, AS_EQUAL, 4) && seen.nodes > 1);
+    assert!(rt; seen.finds_best && seen.nodes > 1);
     Ok(())
 }

@@ -47,9 +47,9 @@ pub(crate) fn all_open(alloc: Global, problem: &Problem, table: &Table) -> Resul
     requires { IsTableOf problem.now table.now }
     ensures { IfOk result (λ known. IsHeld problem.now (arc_value known)) }
 {
-    let known = Arc::new(alloc, all_left(alloc, problem)?)?;
+    let known = all_left(alloc, problem)?;
     if check(problem, table, &known)? {
-        return Ok(known);
+        return Ok(Arc::new(alloc, known)?);
     }
     Err("leaving all open is legal")?
 }
@@ -82,20 +82,57 @@ pub(crate) fn searched<S: Sight>(
     }
 }
 
-/// The search over this table.
-fn over<S: Sight>(
+/// The search over these tables, which knows the roster that leaves all open.
+fn found_under<S: Sight>(
     alloc: Global,
     problem: &Problem,
     table: &Table,
-    span: Span,
+    tables: &Tables<'_>,
+    path: &[usize],
+    lo: usize,
+    hi: usize,
     sight: &mut S,
     every: usize,
 ) -> Result<Arc<Roster>, Fail>
-    requires { IsTableOf problem.now table.now }
+    requires table { IsTableOf problem.now table.now }
+    requires tables { tables.now ≡ priced_table problem.now table.now tables.now.prices }
 {
-    let tables = choose_tables(alloc, problem, table)?;
     let known = all_open(alloc, problem, table)?;
-    Ok(searched(alloc, problem, table, &tables, span, sight, every, &known)?)
+    let span = Span {
+        path: Path::new(path.to_vec(alloc)?),
+        lo,
+        hi,
+    };
+    Ok(searched(alloc, problem, table, tables, span, sight, every, &known)?)
+}
+
+/// The search in this problem.
+fn found_over<S: Sight>(
+    alloc: Global,
+    problem: &Problem,
+    path: &[usize],
+    lo: usize,
+    hi: usize,
+    sight: &mut S,
+    every: usize,
+) -> Result<Arc<Roster>, Fail> {
+    let table = table_of(alloc, problem)?;
+    let tables = choose_tables(alloc, problem, &table)?;
+    found_under(alloc, problem, &table, &tables, path, lo, hi, sight, every)
+}
+
+/// The search of a span of this book.
+fn found_in<S: Sight>(
+    alloc: Global,
+    book: &[u8],
+    path: &[usize],
+    lo: usize,
+    hi: usize,
+    sight: &mut S,
+    every: usize,
+) -> Result<Arc<Roster>, Fail> {
+    let problem = problem_of(alloc, book)?;
+    found_over(alloc, &problem, path, lo, hi, sight, every)
 }
 
 /// What the search of this span answers with so many nodes from look to look, if a roster is shown
@@ -109,19 +146,12 @@ fn found(
     places: [u16; 2],
     cost: i64,
 ) -> Result<Arc<Roster>, Fail> {
-    let span = Span {
-        path: Path::new(path.to_vec(alloc)?),
-        lo,
-        hi,
-    };
     let mut sight = Shows {
         alloc,
         places: &places,
         cost,
     };
-    let problem = problem_of(alloc, ONE_OF_TWO)?;
-    let table = table_of(alloc, &problem)?;
-    over(alloc, &problem, &table, span, &mut sight, every)
+    found_in(alloc, ONE_OF_TWO, path, lo, hi, &mut sight, every)
 }
 
 /// Whether the roster has these places and this cost.
@@ -165,8 +195,12 @@ fn spans_without_rosters(rt: HostRuntime) -> Result<(), Fail> {
 #[test]
 fn the_first_node_is_the_span_s_own(rt: HostRuntime) -> Result<(), Fail> {
     for (every, places, cost) in [(1, [0, 1], 100), (2, [1, 1], 200)] {
-        let best = found(rt.alloc(), &[99], 5, 2, every, [0, 1], 100)?;
-        assert!(rt; is(&best, &places, cost), "every {every}");
+        let found = is(
+            &found(rt.alloc(), &[99], 5, 2, every, [0, 1], 100)?,
+            &places,
+            cost,
+        );
+        assert!(rt; found, "every {every}");
     }
     Ok(())
 }
@@ -176,14 +210,7 @@ pub(crate) fn found_in_two_days<S: Sight>(
     alloc: Global,
     sight: &mut S,
 ) -> Result<Arc<Roster>, Fail> {
-    let span = Span {
-        path: Path::new(Vec::new(alloc)),
-        lo: 0,
-        hi: 36,
-    };
-    let problem = problem_of(alloc, TWO_DAYS)?;
-    let table = table_of(alloc, &problem)?;
-    over(alloc, &problem, &table, span, sight, 1)
+    found_in(alloc, TWO_DAYS, &[], 0, 36, sight, 1)
 }
 
 #[test]
@@ -200,18 +227,23 @@ fn rosters_of_no_use_are_shown(rt: HostRuntime) -> Result<(), Fail> {
                 places,
                 cost,
             };
-            let best = found_in_two_days(alloc, &mut sight)?;
-            assert!(rt; is(&best, BEST, 0));
+            assert!(rt; is(&found_in_two_days(alloc, &mut sight)?, BEST, 0));
         }
     }
     Ok(())
 }
 
 /// Whether `check` takes these places at this cost.
+fn is_taken(alloc: Global, problem: &Problem, places: &[u16], cost: i64) -> Result<bool, Fail> {
+    let roster = roster(alloc, places, cost)?;
+    let table = table_of(alloc, problem)?;
+    Ok(check(problem, &table, &roster)?)
+}
+
+/// The same in the book of one person.
 fn are_taken(alloc: Global, places: &[u16], cost: i64) -> Result<bool, Fail> {
     let problem = problem_of(alloc, ONE_OF_TWO)?;
-    let table = table_of(alloc, &problem)?;
-    Ok(check(&problem, &table, &roster(alloc, places, cost)?)?)
+    is_taken(alloc, &problem, places, cost)
 }
 
 /// Whether `check` takes them at one of these costs, least and greatest numbers among them.
