@@ -59,8 +59,8 @@ impl<'a, L: Ledger> Model for Stage<'a, L> {
     ghost Value = { Replay };
 
     ghost view = { λ s. record {
-        task = record { problem = s.problem.now; table = s.table.now };
-        state = s.pool.state
+      task = record { problem = s.problem.now; table = s.table.now };
+      state = s.pool.state;
     } };
 
     ghost invariant = { λ s. IsTableOf s.problem.now s.table.now
