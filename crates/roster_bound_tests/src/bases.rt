@@ -66,7 +66,7 @@ fn searched_by<R: Threads + Sync>(rt: &R, alloc: Global, threads: usize) -> Resu
     searched_over(rt, alloc, &problem, threads)
 }
 
-/// The problem whose bases so many threads search.
+/// What so many threads do in this problem, and what a search of all that they leave then does.
 fn searched_over<R: Threads + Sync>(
     rt: &R,
     alloc: Global,
@@ -76,25 +76,25 @@ fn searched_over<R: Threads + Sync>(
     requires { 0 < threads }
 {
     let table = table_of(alloc, problem)?;
-    let open = all_open(alloc, problem, &table)?;
-    searched_under(rt, alloc, problem, &table, &open, threads)
+    let opening = all_open(alloc, problem, &table)?;
+    searched_under(rt, alloc, problem, &table, &opening, threads)
 }
 
-/// What so many threads do, and what a search of all that they leave then does.
+/// The same from the roster that leaves all open.
 fn searched_under<R: Threads + Sync>(
     rt: &R,
     alloc: Global,
     problem: &Problem,
     table: &Table,
-    open: &Arc<Roster>,
+    opening: &Arc<Roster>,
     threads: usize,
 ) -> Result<Seen, Fail>
     requires table { IsTableOf problem.now table.now }
-    requires open { IsHeld problem.now (arc_value open.now) }
+    requires opening { IsHeld problem.now (arc_value opening.now) }
     requires threads { 0 < threads }
 {
-    let (best, tables) = informed(rt, alloc, problem, table, open, threads)?;
-    looked(alloc, problem, table, &tables, &best, open)
+    let (best, tables) = informed(rt, alloc, problem, table, opening, threads)?;
+    looked(alloc, problem, table, &tables, &best, opening)
 }
 
 /// The best roster that the threads know, and tables that know it or what is left.
@@ -103,18 +103,18 @@ fn informed<'a, R: Threads + Sync>(
     alloc: Global,
     problem: &'a Problem,
     table: &'a Table,
-    open: &Arc<Roster>,
+    opening: &Arc<Roster>,
     threads: usize,
 ) -> Result<(Arc<Roster>, Tables<'a>), AllocError>
     requires table { IsTableOf problem.now table.now }
-    requires open { IsHeld problem.now (arc_value open.now) }
+    requires opening { IsHeld problem.now (arc_value opening.now) }
     requires threads { 0 < threads }
     ensures held { IfOk result (λ informed. IsHeld problem.now (arc_value informed.0)) }
     ensures tables { IfOk result (λ informed.
         informed.1 ≡ priced_table problem.now table.now informed.1.prices) }
 {
-    let (better, left) = search_bases(rt, alloc, problem, table, open, threads)?;
-    let best = better_or(alloc, better, open)?;
+    let (better, left) = search_bases(rt, alloc, problem, table, opening, threads)?;
+    let best = better_or(alloc, better, opening)?;
     let tables = told(alloc, problem, table, &best, left)?;
     Ok((best, tables))
 }
@@ -128,8 +128,8 @@ fn told<'a>(
     left: Option<Left>,
 ) -> Result<Tables<'a>, AllocError>
     requires table { IsTableOf problem.now table.now }
-    requires left { MatchOption left (IsNotAfter problem.now Anywhere (arc_value best.now))
-        (IsLeftOf problem.now) }
+    requires left { MatchOption left
+        (IsNotAfter problem.now Anywhere (arc_value best.now)) (IsLeftOf problem.now) }
     ensures { IfOk result (λ tables. tables ≡ priced_table problem.now table.now tables.prices) }
 {
     let tables = choose_tables(alloc, problem, table)?;
@@ -146,7 +146,7 @@ fn looked(
     table: &Table,
     tables: &Tables<'_>,
     known: &Arc<Roster>,
-    open: &Arc<Roster>,
+    opening: &Arc<Roster>,
 ) -> Result<Seen, Fail>
     requires table { IsTableOf problem.now table.now }
     requires tables { tables.now ≡ priced_table problem.now table.now tables.now.prices }
@@ -161,7 +161,7 @@ fn looked(
     let best = searched(alloc, problem, table, tables, span, &mut looks, 1, known)?;
     Ok(Seen {
         left: tables.left().is_some(),
-        none_before: [tables.none_before(known), tables.none_before(open)],
+        none_before: [tables.none_before(known), tables.none_before(opening)],
         finds_best: is(&best, AS_EQUAL, 4),
         nodes: looks.count,
     })

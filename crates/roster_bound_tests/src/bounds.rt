@@ -49,11 +49,10 @@ fn priced<'a>(
     if prices.len() != problem.pairings().len() {
         return Err("another book")?;
     }
-    Ok(
-        Tables::build(alloc, problem, table, prices)
-            .ok()
-            .ok_or("memory")?,
-    )
+    let tables = Tables::build(alloc, problem, table, prices)
+        .ok()
+        .ok_or("memory")?;
+    Ok(tables)
 }
 
 /// The bound at the root if both pairings have this price.
@@ -85,11 +84,11 @@ struct NodeSeen {
     // Of the node of the person's line 1 the bound, and the least places of the pairings.
     bound: i64,
     places: (u16, u16),
-    // Whether it may be skipped for a roster.
+    // Whether that node may be skipped for the roster that was named.
     skipped: bool,
 }
 
-/// What these tables show if that roster has these places and this cost.
+/// What these tables show if a roster with these places and this cost is named.
 fn node_under(
     alloc: Global,
     problem: &Problem,

@@ -12,7 +12,8 @@ fn the_earliest_roster_is_shown(rt: HostRuntime) -> Result<(), Fail> {
     incumbent.raise(&rt, shared(rt.alloc(), &[1, 0], 100)?);
     incumbent.raise(&rt, shared(rt.alloc(), &[0, 1], 100)?);
     incumbent.raise(&rt, shared(rt.alloc(), &[1, 0], 100)?);
-    assert!(rt; is(&incumbent.look(&rt).ok_or("a roster")?, &[0, 1], 100));
+    let shown = incumbent.look(&rt).ok_or("a roster")?;
+    assert!(rt; is(&shown, &[0, 1], 100));
     Ok(())
 }
 
@@ -22,7 +23,9 @@ fn a_sight_shows_what_was_raised_meanwhile(rt: HostRuntime) -> Result<(), Fail> 
     let incumbent = Incumbent::new(shared(rt.alloc(), BEST, 0)?);
     let mut sight = Looker::new(&rt, &incumbent);
     incumbent.raise(&rt, shared(rt.alloc(), BEST, i64::MIN)?);
-    assert!(rt; is(&sight.look().ok_or("a roster")?, BEST, i64::MIN));
-    assert!(rt; is(&found_in_two_days(rt.alloc(), &mut sight)?, BEST, 0));
+    let shown = sight.look().ok_or("a roster")?;
+    assert!(rt; is(&shown, BEST, i64::MIN));
+    let best = found_in_two_days(rt.alloc(), &mut sight)?;
+    assert!(rt; is(&best, BEST, 0));
     Ok(())
 }

@@ -195,12 +195,8 @@ fn spans_without_rosters(rt: HostRuntime) -> Result<(), Fail> {
 #[test]
 fn the_first_node_is_the_span_s_own(rt: HostRuntime) -> Result<(), Fail> {
     for (every, places, cost) in [(1, [0, 1], 100), (2, [1, 1], 200)] {
-        let found = is(
-            &found(rt.alloc(), &[99], 5, 2, every, [0, 1], 100)?,
-            &places,
-            cost,
-        );
-        assert!(rt; found, "every {every}");
+        let best = found(rt.alloc(), &[99], 5, 2, every, [0, 1], 100)?;
+        assert!(rt; is(&best, &places, cost), "every {every}");
     }
     Ok(())
 }
@@ -227,7 +223,8 @@ fn rosters_of_no_use_are_shown(rt: HostRuntime) -> Result<(), Fail> {
                 places,
                 cost,
             };
-            assert!(rt; is(&found_in_two_days(alloc, &mut sight)?, BEST, 0));
+            let best = found_in_two_days(alloc, &mut sight)?;
+            assert!(rt; is(&best, BEST, 0));
         }
     }
     Ok(())
