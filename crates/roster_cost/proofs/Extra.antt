@@ -9,7 +9,7 @@ use Rattle.roster_model.specs.declared.profile.TheConstants.{MOST_FLIGHT_IN_A_YE
 use Rattle.roster_model.specs.Costs.{distance, flight_of, line_cost, missed_target, total}
 use Rattle.roster_model.specs.Lines.{IsLine}
 use Rattle.roster_model.specs.Problem.{Problem, home_of, target_of, units_of, weight_of}
-use Rattle.roster_model.specs.Rules.{FlightYearRule}
+use Rattle.roster_model.specs.Rules.{LimitRule, FlightYear}
 use Rattle.roster_model.specs.Sums.{month_flight}
 use Rattle.roster_model.proofs.CostLemmas.{total-nil, total-pos}
 use Rattle.roster_problem.specs.Duties.{is_of_person}
@@ -71,7 +71,7 @@ line-near problem k set parts sound line =
       | inl none ↦ subst (λ s. IsWithin most_extra (line_cost problem k s -ℤ line_cost problem k [])) (sym none) (no_difference (line_cost problem k []))
       | inr holds ↦
           let most : ℕ = MOST_FLIGHT_IN_A_YEAR in
-          let flown : flight_of problem k set ≤ most = omega (arith, holds FlightYearRule) in
+          let flown : flight_of problem k set ≤ most = omega (arith, holds (LimitRule FlightYear)) in
           let fixed : flight_of problem k [] ≤ most = omega (arith, flown, fixed_in_set problem k set parts) in
           let weight = weight_of problem in
           let target = target_of problem k in

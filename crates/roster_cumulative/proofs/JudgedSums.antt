@@ -11,7 +11,8 @@ use Rattle.roster_model.specs.Problem.{Problem}
 use Rattle.roster_model.specs.declared.limits.TheConstants.{DAYS_BEFORE}
 use Rattle.roster_model.specs.declared.profile.TheConstants.{SHORT_RUN, MIDDLE_RUN, LONG_RUN, MOST_DUTY_IN_7_DAYS, MOST_DUTY_IN_14_DAYS, MOST_DUTY_IN_28_DAYS, MOST_FLIGHT_IN_28_DAYS, MOST_FLIGHT_IN_A_YEAR, MOST_FLIGHT_IN_12_MONTHS}
 use Rattle.roster_model.specs.records.Duty.{Duty}
-use Rattle.roster_model.specs.Rules.{Rule, BaseRule, OverlapRule, LeaveRule, RestRule, RecoveryRule, Duty7Rule, Duty14Rule, Duty28Rule, Flight28Rule, FlightYearRule, Flight12Rule, HoldsLimit, duty_list, is_among}
+use Rattle.roster_model.specs.Rules as rules
+use Rattle.roster_model.specs.Rules.{HoldsLimit, duty_list, is_among}
 use Rattle.roster_model.specs.Rules.Limits.{KeepsDuty7, KeepsDuty14, KeepsDuty28, KeepsFlight28, KeepsFlightYear, KeepsFlight12}
 use Rattle.roster_model.specs.Sums.{duty_between, duty_on, flight_between, flight_on, in_run, judged_days, month_flight}
 use Rattle.roster_problem.specs.Duties.{is_of_pairing}
@@ -109,21 +110,16 @@ sum_of-one_more problem days k p set sum new =
       listed-one_more (part_of days sum) problem k p set new,
     )
 
-by_rule : (days : Days) (list : List Duty) (year eleven : ℕ) → KeepsDuty7 days list → KeepsDuty14 days list → KeepsDuty28 days list → KeepsFlight28 days list → KeepsFlightYear days list year → KeepsFlight12 days list eleven → (rule : Rule) → HoldsLimit days list year eleven rule
-by_rule days list year eleven a b c d e f BaseRule = tt
-by_rule days list year eleven a b c d e f OverlapRule = tt
-by_rule days list year eleven a b c d e f LeaveRule = tt
-by_rule days list year eleven a b c d e f RestRule = tt
-by_rule days list year eleven a b c d e f RecoveryRule = tt
-by_rule days list year eleven a b c d e f Duty7Rule = a
-by_rule days list year eleven a b c d e f Duty14Rule = b
-by_rule days list year eleven a b c d e f Duty28Rule = c
-by_rule days list year eleven a b c d e f Flight28Rule = d
-by_rule days list year eleven a b c d e f FlightYearRule = e
-by_rule days list year eleven a b c d e f Flight12Rule = f
+by_limit : (days : Days) (list : List Duty) (year eleven : ℕ) → KeepsDuty7 days list → KeepsDuty14 days list → KeepsDuty28 days list → KeepsFlight28 days list → KeepsFlightYear days list year → KeepsFlight12 days list eleven → (limit : rules.Limit) → HoldsLimit days list year eleven limit
+by_limit days list year eleven a b c d e f rules.Duty7 = a
+by_limit days list year eleven a b c d e f rules.Duty14 = b
+by_limit days list year eleven a b c d e f rules.Duty28 = c
+by_limit days list year eleven a b c d e f rules.Flight28 = d
+by_limit days list year eleven a b c d e f rules.FlightYear = e
+by_limit days list year eleven a b c d e f rules.Flight12 = f
 
-pub limits-by_sums : (days : Days) (list : List Duty) (year eleven : ℕ) → year ≤ MOST_FLIGHT_IN_A_YEAR → eleven ≤ MOST_FLIGHT_IN_12_MONTHS → AreWithin days list year eleven → (rule : Rule) → HoldsLimit days list year eleven rule
-limits-by_sums days list year eleven few fewer all rule =
+pub limits-by_sums : (days : Days) (list : List Duty) (year eleven : ℕ) → year ≤ MOST_FLIGHT_IN_A_YEAR → eleven ≤ MOST_FLIGHT_IN_12_MONTHS → AreWithin days list year eleven → (limit : rules.Limit) → HoldsLimit days list year eleven limit
+limits-by_sums days list year eleven few fewer all limit =
     let Within : Sum → Type 0 = λ sum. sum_of days list sum ≤ most_of year eleven sum in
     let J : List ℕ = judged_days days in
     let five = all_parts Within (map Duty7 J ++ map Duty14 J ++ map Duty28 J ++ map Flight28 J) (MonthFlight ∷ []) all in
@@ -131,19 +127,19 @@ limits-by_sums days list year eleven few fewer all rule =
     let four = all_parts Within (map Duty7 J ++ map Duty14 J ++ map Duty28 J) (map Flight28 J) five.0 in
     let three = all_parts Within (map Duty7 J ++ map Duty14 J) (map Duty28 J) four.0 in
     let two = all_parts Within (map Duty7 J) (map Duty14 J) three.0 in
-    by_rule days list year eleven (all_mapped Within Duty7 J two.0) (all_mapped Within Duty14 J two.1) (all_mapped Within Duty28 J three.1) (all_mapped Within Flight28 J four.1) (omega arith) (omega arith) rule
+    by_limit days list year eleven (all_mapped Within Duty7 J two.0) (all_mapped Within Duty14 J two.1) (all_mapped Within Duty28 J three.1) (all_mapped Within Flight28 J four.1) (omega arith) (omega arith) limit
 
-pub sums-by_limits : (days : Days) (list : List Duty) (year eleven : ℕ) → ((rule : Rule) → HoldsLimit days list year eleven rule) → AreWithin days list year eleven
+pub sums-by_limits : (days : Days) (list : List Duty) (year eleven : ℕ) → ((limit : rules.Limit) → HoldsLimit days list year eleven limit) → AreWithin days list year eleven
 sums-by_limits days list year eleven holds =
     let Within : Sum → Type 0 = λ sum. sum_of days list sum ≤ most_of year eleven sum in
     let J : List ℕ = judged_days days in
-    let in_year : year + month_flight days list ≤ MOST_FLIGHT_IN_A_YEAR = holds FlightYearRule in
-    let in_twelve : eleven + month_flight days list ≤ MOST_FLIGHT_IN_12_MONTHS = holds Flight12Rule in
+    let in_year : year + month_flight days list ≤ MOST_FLIGHT_IN_A_YEAR = holds rules.FlightYear in
+    let in_twelve : eleven + month_flight days list ≤ MOST_FLIGHT_IN_12_MONTHS = holds rules.Flight12 in
     let month : month_flight days list ≤ min (MOST_FLIGHT_IN_A_YEAR - year) (MOST_FLIGHT_IN_12_MONTHS - eleven) = omega arith in
     All-append Within (map Duty7 J ++ map Duty14 J ++ map Duty28 J ++ map Flight28 J) (MonthFlight ∷ [])
     (All-append Within (map Duty7 J ++ map Duty14 J ++ map Duty28 J) (map Flight28 J)
     (All-append Within (map Duty7 J ++ map Duty14 J) (map Duty28 J)
-    (All-append Within (map Duty7 J) (map Duty14 J) (All-map Within Duty7 J (holds Duty7Rule)) (All-map Within Duty14 J (holds Duty14Rule)))
-    (All-map Within Duty28 J (holds Duty28Rule)))
-    (All-map Within Flight28 J (holds Flight28Rule)))
+    (All-append Within (map Duty7 J) (map Duty14 J) (All-map Within Duty7 J (holds rules.Duty7)) (All-map Within Duty14 J (holds rules.Duty14)))
+    (All-map Within Duty28 J (holds rules.Duty28)))
+    (All-map Within Flight28 J (holds rules.Flight28)))
     (All-cons Within MonthFlight [] month (All-nil Within))

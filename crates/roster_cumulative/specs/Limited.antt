@@ -3,7 +3,7 @@ use Rattle.std.specs.Prelude.{List}
 use Rattle.roster_model.specs.Calendar.{Days}
 use Rattle.roster_model.specs.records.Crew.{Person}
 use Rattle.roster_model.specs.records.Duty.{Duty}
-use Rattle.roster_model.specs.Rules.{Rule, HoldsLimit}
+use Rattle.roster_model.specs.Rules.{Limit, HoldsLimit}
 
 -- a duty list, with the days of a base, and the person who has flown so much before the month
 pub record Limited : Type 0 where
@@ -11,6 +11,6 @@ pub record Limited : Type 0 where
   pub list : List Duty
   pub carried : Person
 
--- what the rule, if it is a limit, says of it
-abbrev pub IsKept : Limited → Rule → Type 0
-IsKept l rule = HoldsLimit l.days l.list l.carried.year l.carried.eleven rule
+-- what the limit says of it
+abbrev pub IsKept : Limited → Limit → Type 0
+IsKept l limit = HoldsLimit l.days l.list l.carried.year l.carried.eleven limit

@@ -6,7 +6,7 @@ ghost use Rattle.std.specs.List.Sorted.{IsStrictlyIncreasing};
 ghost use Rattle.roster_model.specs.Calendar.{Days, IsTable};
 ghost use Rattle.roster_model.specs.Problem.{Problem};
 ghost use Rattle.roster_model.specs.Places.{set_of};
-ghost use Rattle.roster_model.specs.Rules.{duty_list, is_among, is_listed, HoldsLimit, Rule};
+ghost use Rattle.roster_model.specs.Rules.{duty_list, is_among, is_listed, HoldsLimit, Limit};
 ghost use Rattle.roster_model.specs.Sums.{duty_flight, month_flight};
 ghost use Rattle.roster_model.specs.records.Duty.{Duty};
 ghost use Rattle.roster_problem.specs.Duties.{AreFlown, is_of_pairing, is_of_person};
@@ -59,7 +59,7 @@ pub fn one_list_of_each_duty()
 /// before the month that is so if neither is too much by itself.
 pub fn limits_are_sums()
     ensures { (days : Days) (list : List Duty) (year eleven : ℕ)
-        → ((rule : Rule) → HoldsLimit days list year eleven rule)
+        → ((limit : Limit) → HoldsLimit days list year eleven limit)
         ↔ ((year ≤ MOST_FLIGHT_IN_A_YEAR) × (eleven ≤ MOST_FLIGHT_IN_12_MONTHS)
         × AreWithin days list year eleven) }
 {}

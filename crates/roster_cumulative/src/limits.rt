@@ -1,11 +1,11 @@
 //! The limits of duty and flight.
 
 ghost use Rattle.std.specs.Prelude.{◌≡◌, ◌+◌, ◌≤◌, ◌↔◌, IsTrue, IfSome, option_map, slice_index};
-ghost use Rattle.roster_model.specs.Rules.{HoldsLimit, IsFirstFailing};
+ghost use Rattle.roster_model.specs.Rules.{IsFirstLimit};
 ghost use Rattle.roster_model.specs.Rules.Limits.{KeepsLimit};
 ghost use Rattle.roster_model.specs.Sums as sums;
 ghost use Rattle.roster_model.specs.Sums.{on_day};
-ghost use Rattle.roster_problem.specs.View.{rule_of};
+ghost use Rattle.roster_problem.specs.View.{limit_of, rule_of};
 ghost use Rattle.roster_cumulative.specs.Limited.{IsKept};
 ghost use Rattle.roster_cumulative.specs.Table.{IsLight, AreMinutesByDay, minutes_of};
 
@@ -19,7 +19,7 @@ use roster_model::profile::{
     LONG_RUN, MIDDLE_RUN, MOST_DUTY_IN_7_DAYS, MOST_DUTY_IN_14_DAYS, MOST_DUTY_IN_28_DAYS,
     MOST_FLIGHT_IN_12_MONTHS, MOST_FLIGHT_IN_28_DAYS, MOST_FLIGHT_IN_A_YEAR, SHORT_RUN,
 };
-use roster_problem::{DutyList, Person, Rule};
+use roster_problem::{DutyList, Limit, Person, Rule};
 use std::marker::Model;
 
 /// Whether each judged run of `n` days has at most so many minutes.
@@ -93,20 +93,19 @@ impl<'a> ListLimits<'a> {
         }
     }
 
-    /// Whether the list keeps the rule as a limit. A rule that is no limit says nothing of that.
-    pub fn holds(&mut self, rule: Rule) -> bool
-        ensures value { IsTrue result ↔ IsKept self.old (rule_of rule) }
+    /// Whether the list keeps the limit.
+    pub fn holds(&mut self, limit: Limit) -> bool
+        ensures value { IsTrue result ↔ IsKept self.old (limit_of limit) }
         ensures same { self.new ≡ self.old }
     {
         let carried = self.carried;
-        match rule {
-            Rule::Duty7 => self.keeps_runs(Measure::Duty, SHORT_RUN, MOST_DUTY_IN_7_DAYS),
-            Rule::Duty14 => self.keeps_runs(Measure::Duty, MIDDLE_RUN, MOST_DUTY_IN_14_DAYS),
-            Rule::Duty28 => self.keeps_runs(Measure::Duty, LONG_RUN, MOST_DUTY_IN_28_DAYS),
-            Rule::Flight28 => self.keeps_runs(Measure::Flight, LONG_RUN, MOST_FLIGHT_IN_28_DAYS),
-            Rule::FlightYear => self.keeps_month(carried.year, MOST_FLIGHT_IN_A_YEAR),
-            Rule::Flight12 => self.keeps_month(carried.eleven, MOST_FLIGHT_IN_12_MONTHS),
-            _ => true,
+        match limit {
+            Limit::Duty7 => self.keeps_runs(Measure::Duty, SHORT_RUN, MOST_DUTY_IN_7_DAYS),
+            Limit::Duty14 => self.keeps_runs(Measure::Duty, MIDDLE_RUN, MOST_DUTY_IN_14_DAYS),
+            Limit::Duty28 => self.keeps_runs(Measure::Duty, LONG_RUN, MOST_DUTY_IN_28_DAYS),
+            Limit::Flight28 => self.keeps_runs(Measure::Flight, LONG_RUN, MOST_FLIGHT_IN_28_DAYS),
+            Limit::FlightYear => self.keeps_month(carried.year, MOST_FLIGHT_IN_A_YEAR),
+            Limit::Flight12 => self.keeps_month(carried.eleven, MOST_FLIGHT_IN_12_MONTHS),
         }
     }
 
@@ -141,14 +140,13 @@ impl<'a> ListLimits<'a> {
 /// The first limit that the list breaks, if there is one, with what the person has flown before the
 /// month.
 pub fn cumulative_broken(days: &BaseDays, list: &DutyList, carried: &Person) -> Option<Rule>
-    ensures { IsFirstFailing
-        (HoldsLimit days.now list.now carried.now.year carried.now.eleven)
+    ensures { IsFirstLimit days.now list.now carried.now.year carried.now.eleven
         (option_map rule_of result) }
 {
     let mut limits = ListLimits::new(days, list, carried);
-    for rule in Rule::ALL {
-        if !limits.holds(rule) {
-            return Some(rule);
+    for limit in Limit::ALL {
+        if !limits.holds(limit) {
+            return Some(limit.rule());
         }
     }
     None

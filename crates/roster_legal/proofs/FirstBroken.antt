@@ -1,14 +1,14 @@
 -- The rule that is broken first is only one, that there is none or one can't be refuted, and what the
 -- limits say of a person with a set.
-use Rattle.std.proofs.Common.{◌≡◌, ℕ, zero, suc, ◌<◌, ◌⊎◌, List, Option, Some, None, length, refl, sym, ap, subst, inl, inr, arith}
+use Rattle.std.proofs.Common.{◌≡◌, ℕ, zero, suc, ◌⊎◌, List, Option, Some, None, length, refl, sym, ap, subst, inl, inr, arith}
 use Rattle.std.specs.Prelude.{◌↔◌, IsTrue, Bool, option_map, unwrap_or}
 use Rattle.std.proofs.lemmas.Bool.{cases_lt, cases_order}
-use Rattle.roster_model.proofs.RuleLemmas.{HoldBelow, below-all, one_of_rank}
+use Rattle.roster_model.proofs.RuleLemmas.{HoldBelow, below-all, one_of_rank, rules-ranked}
 use Rattle.roster_model.specs.Calendar.{Days}
 use Rattle.roster_model.specs.Problem.{Problem, home_of, year_of, eleven_of}
 use Rattle.roster_model.specs.records.Crew.{Person}
 use Rattle.roster_model.specs.records.Duty.{Duty}
-use Rattle.roster_model.specs.Rules.{Rule, BaseRule, OverlapRule, LeaveRule, RestRule, RecoveryRule, Duty7Rule, Duty14Rule, Duty28Rule, Flight28Rule, FlightYearRule, Flight12Rule, by_rank, duty_list, rank_of, Holds, HoldsLimit, IsFirstBroken}
+use Rattle.roster_model.specs.Rules.{Limit, LimitRule, Rule, by_rank, duty_list, rank_of, Holds, HoldsLimit, IsFirstBroken}
 use Rattle.roster_cumulative.specs.Limited.{Limited, IsKept}
 use Rattle.roster_legal.specs.Looks.{LookAt}
 
@@ -18,7 +18,7 @@ IsFirstBroken-one problem k set None (Some b) first second = absurd (second.0 (f
 IsFirstBroken-one problem k set (Some a) None first second = absurd (first.0 (second a))
 IsFirstBroken-one problem k set (Some a) (Some b) first second =
     elim (cases_order (rank_of a) (rank_of b)) [
-      | inl same ↦ ap Some (one_of_rank a b same)
+      | inl same ↦ ap Some (one_of_rank rank_of by_rank rules-ranked a b same)
       | inr apart ↦ elim apart [
         | inl before ↦ absurd (first.0 (second.1 a before))
         | inr after ↦ absurd (second.0 (first.1 b after))
@@ -28,17 +28,17 @@ IsFirstBroken-one problem k set (Some a) (Some b) first second =
 -- the rules up to the n-th hold, or one of all is broken first
 abbrev Judged : Problem → ℕ → List ℕ → ℕ → Type 0
 Judged problem k set n =
-    HoldBelow (Holds problem k set) n ⊎ ((broken : Rule) × IsFirstBroken problem k set (Some broken))
+    HoldBelow rank_of (Holds problem k set) n ⊎ ((broken : Rule) × IsFirstBroken problem k set (Some broken))
 
 -- with the n-th rule, if there is one
-judged_more : (problem : Problem) (k : ℕ) (set : List ℕ) (n : ℕ) → HoldBelow (Holds problem k set) n → ¬ ¬ (Judged problem k set (suc n))
+judged_more : (problem : Problem) (k : ℕ) (set : List ℕ) (n : ℕ) → HoldBelow rank_of (Holds problem k set) n → ¬ ¬ (Judged problem k set (suc n))
 judged_more problem k set n held none =
     let no_rule : (rule : Rule) → rank_of rule ≡ n → ⊥ = λ rule at.
     let kept : Holds problem k set rule → ⊥ = λ h. none (inl (λ other within. elim (cases_lt (rank_of other) n) [
       | inl before ↦ held other before
       | inr on ↦
           let same : rank_of rule ≡ rank_of other = omega arith in
-          subst (Holds problem k set) (one_of_rank rule other same) h
+          subst (Holds problem k set) (one_of_rank rank_of by_rank rules-ranked rule other same) h
     ])) in
     none (inr (rule, (kept, λ other before. held other (omega arith)))) in
     none (inl (λ rule within. elim (cases_lt (rank_of rule) n) [
@@ -57,39 +57,21 @@ judged problem k set (suc n) none =
 pub has_first_broken : (problem : Problem) (k : ℕ) (set : List ℕ) → ¬ ¬ ((broken : Option Rule) × IsFirstBroken problem k set broken)
 has_first_broken problem k set none =
     judged problem k set (length by_rank) (λ all. elim all [
-      | inl held ↦ none (None, below-all (Holds problem k set) held)
+      | inl held ↦ none (None, below-all rank_of by_rank rules-ranked (Holds problem k set) held)
       | inr found ↦ none (Some found.0, found.1)
     ])
 
 -- ---- limits
 
--- what the limits say of person k with the set
-abbrev pub HoldsAsLimit : Problem → ℕ → List ℕ → Rule → Type 0
-HoldsAsLimit problem k set rule =
-    HoldsLimit (home_of problem k).days (duty_list problem k set) (year_of problem k) (eleven_of problem k) rule
-
-as_limit : (problem : Problem) (k : ℕ) (set : List ℕ) (limits : Limited) (rule : Rule) (test : Bool) → LookAt problem k set limits → (IsTrue test ↔ IsKept limits rule) → (IsTrue test ↔ HoldsAsLimit problem k set rule)
-as_limit problem k set limits rule test look is =
+-- a limit holds of person k with the set exactly if it does of what the limits look at
+pub holds-limit : (problem : Problem) (k : ℕ) (set : List ℕ) (limits : Limited) (limit : Limit) (test : Bool) → LookAt problem k set limits → (IsTrue test ↔ IsKept limits limit) → (IsTrue test ↔ Holds problem k set (LimitRule limit))
+holds-limit problem k set limits limit test look is =
     let home = (home_of problem k).days in
     let duties = duty_list problem k set in
     let person = limits.carried in
     let year : year_of problem k ≡ person.year = ap (λ (o : Option Person). unwrap_or (option_map (λ p. p.year) o) 0) look.person in
     let eleven : eleven_of problem k ≡ person.eleven = ap (λ (o : Option Person). unwrap_or (option_map (λ p. p.eleven) o) 0) look.person in
-    subst (λ n. IsTrue test ↔ HoldsLimit home duties (year_of problem k) n rule) (sym eleven)
-    (subst (λ n. IsTrue test ↔ HoldsLimit home duties n person.eleven rule) (sym year)
-    (subst (λ (l : List Duty). IsTrue test ↔ HoldsLimit home l person.year person.eleven rule) look.list
-    (subst (λ (d : Days). IsTrue test ↔ HoldsLimit d limits.list person.year person.eleven rule) look.days is)))
-
--- a rule after Recovery holds where it does as a limit
-pub holds-limit : (problem : Problem) (k : ℕ) (set : List ℕ) (limits : Limited) (rule : Rule) (test : Bool) → rank_of RecoveryRule < rank_of rule → LookAt problem k set limits → (IsTrue test ↔ IsKept limits rule) → (IsTrue test ↔ Holds problem k set rule)
-holds-limit problem k set limits BaseRule test after look is = absurd (omega arith)
-holds-limit problem k set limits OverlapRule test after look is = absurd (omega arith)
-holds-limit problem k set limits LeaveRule test after look is = absurd (omega arith)
-holds-limit problem k set limits RestRule test after look is = absurd (omega arith)
-holds-limit problem k set limits RecoveryRule test after look is = absurd (omega arith)
-holds-limit problem k set limits Duty7Rule test after look is = as_limit problem k set limits Duty7Rule test look is
-holds-limit problem k set limits Duty14Rule test after look is = as_limit problem k set limits Duty14Rule test look is
-holds-limit problem k set limits Duty28Rule test after look is = as_limit problem k set limits Duty28Rule test look is
-holds-limit problem k set limits Flight28Rule test after look is = as_limit problem k set limits Flight28Rule test look is
-holds-limit problem k set limits FlightYearRule test after look is = as_limit problem k set limits FlightYearRule test look is
-holds-limit problem k set limits Flight12Rule test after look is = as_limit problem k set limits Flight12Rule test look is
+    subst (λ n. IsTrue test ↔ HoldsLimit home duties (year_of problem k) n limit) (sym eleven)
+    (subst (λ n. IsTrue test ↔ HoldsLimit home duties n person.eleven limit) (sym year)
+    (subst (λ (l : List Duty). IsTrue test ↔ HoldsLimit home l person.year person.eleven limit) look.list
+    (subst (λ (d : Days). IsTrue test ↔ HoldsLimit d limits.list person.year person.eleven limit) look.days is)))

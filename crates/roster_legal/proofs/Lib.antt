@@ -1,5 +1,6 @@
 pub mod Gathered
 pub mod Apart
+pub mod BusyDays
 pub mod OffLeave
 pub mod Parts
 pub mod FirstBroken

@@ -6,6 +6,7 @@ pub mod Leave
 pub mod Rest
 pub mod Recovery
 pub mod Limits
+pub mod DaysOff
 use Rattle.std.proofs.Common.{◌≡◌, ℕ, ◌<◌, Bool, true, false, eqb, List, [], refl, sym, ap, ◌∙◌, subst, inl, inr}
 use Rattle.std.specs.Prelude.{All, AllPairs, filter}
 use Rattle.std.proofs.lemmas.Bool.{both_ways, false_from_ne_true}
@@ -13,14 +14,14 @@ use Rattle.std.proofs.lemmas.List.Elements.{All-filter, filter_passes}
 use Rattle.std.proofs.lemmas.List.Kept.{AllPairs-filter}
 use Rattle.roster_model.specs.Problem.{Problem, home_of, leaves_of, precedes, year_of, eleven_of}
 use Rattle.roster_model.specs.records.Duty.{Duty, Holder, OfPairing, OfPerson}
-use Rattle.roster_model.specs.Rules.{duty_list, is_among, is_listed, Rule, BaseRule, OverlapRule, LeaveRule, RestRule, RecoveryRule, Duty7Rule, Duty14Rule, Duty28Rule, Flight28Rule, FlightYearRule, Flight12Rule, Holds, HoldsLimit, IsLegal}
+use Rattle.roster_model.specs.Rules.{duty_list, is_among, is_listed, Rule, BaseRule, OverlapRule, LeaveRule, RestRule, RecoveryRule, LimitRule, DaysOffRule, Holds, HoldsLimit, IsLegal}
 use Rattle.roster_model.specs.Rules.Overlap.{NoOverlap}
 use Rattle.roster_model.specs.Rules.Leave.{KeepsLeave}
 use Rattle.roster_model.specs.Rules.Recovery.{KeepsRecovery}
 use Rattle.roster_model.specs.Rules.Rest.{KeepsRest, is_of_pairing}
+use Rattle.roster_model.specs.Rules.DaysOff.{KeepsDaysOff}
 use Rattle.roster_model.proofs.SetLemmas.{empty_set}
 use Rattle.roster_problem.specs.Duties.{AreTimed, IsInOrder}
-use Rattle.roster_legal.proofs.FirstBroken.{HoldsAsLimit}
 use Rattle.roster_legal.proofs.Parts.Listed.{IsPart, shorter}
 use Rattle.roster_legal.proofs.Parts.Base.{KeepsBase-part}
 use Rattle.roster_legal.proofs.Parts.Overlap.{NoOverlap-filter}
@@ -28,6 +29,7 @@ use Rattle.roster_legal.proofs.Parts.Leave.{KeepsLeave-filter}
 use Rattle.roster_legal.proofs.Parts.Rest.{KeepsRest-filter, LeavesPairings}
 use Rattle.roster_legal.proofs.Parts.Recovery.{KeepsRecovery-filter}
 use Rattle.roster_legal.proofs.Parts.Limits.{HoldsLimit-filter}
+use Rattle.roster_legal.proofs.Parts.DaysOff.{KeepsDaysOff-filter}
 
 of_pairing : (k : ℕ) (set part : List ℕ) (holder : Holder) → is_listed k set holder ≡ true → is_listed k part holder ≡ false → is_of_pairing holder ≡ true
 of_pairing k set part (OfPairing p) listed left = refl
@@ -46,12 +48,6 @@ list_ordered problem k set ordered =
 list_timed : (problem : Problem) (k : ℕ) (set : List ℕ) → AreTimed problem.duties → AreTimed (duty_list problem k set)
 list_timed problem k set timed = All-filter (λ duty. is_listed k set duty.holder) (λ d. d.report < d.release) problem.duties timed
 
-HoldsLimit-part : (problem : Problem) (k : ℕ) (set part : List ℕ) → IsPart part set → (rule : Rule) → HoldsAsLimit problem k set rule → HoldsAsLimit problem k part rule
-HoldsLimit-part problem k set part more rule holds =
-    let home = home_of problem k in
-    subst (λ list. HoldsLimit home.days list (year_of problem k) (eleven_of problem k) rule) (shorter problem k set part more)
-    (HoldsLimit-filter home.days (λ duty. is_listed k part duty.holder) (duty_list problem k set) (year_of problem k) (eleven_of problem k) rule holds)
-
 pub Holds-part : (problem : Problem) (k : ℕ) (set part : List ℕ) → IsInOrder problem.duties → AreTimed problem.duties → IsPart part set → ((rule : Rule) → Holds problem k set rule) → (rule : Rule) → Holds problem k part rule
 Holds-part problem k set part ordered timed more holds BaseRule = KeepsBase-part problem k set part more (holds BaseRule)
 Holds-part problem k set part ordered timed more holds OverlapRule =
@@ -66,12 +62,12 @@ Holds-part problem k set part ordered timed more holds RestRule =
 Holds-part problem k set part ordered timed more holds RecoveryRule =
     subst (KeepsRecovery (home_of problem k).days) (shorter problem k set part more)
     (KeepsRecovery-filter (home_of problem k).days (λ duty. is_listed k part duty.holder) (duty_list problem k set) (list_ordered problem k set ordered) (list_timed problem k set timed) (holds OverlapRule) (holds RecoveryRule))
-Holds-part problem k set part ordered timed more holds Duty7Rule = HoldsLimit-part problem k set part more Duty7Rule (holds Duty7Rule)
-Holds-part problem k set part ordered timed more holds Duty14Rule = HoldsLimit-part problem k set part more Duty14Rule (holds Duty14Rule)
-Holds-part problem k set part ordered timed more holds Duty28Rule = HoldsLimit-part problem k set part more Duty28Rule (holds Duty28Rule)
-Holds-part problem k set part ordered timed more holds Flight28Rule = HoldsLimit-part problem k set part more Flight28Rule (holds Flight28Rule)
-Holds-part problem k set part ordered timed more holds FlightYearRule = HoldsLimit-part problem k set part more FlightYearRule (holds FlightYearRule)
-Holds-part problem k set part ordered timed more holds Flight12Rule = HoldsLimit-part problem k set part more Flight12Rule (holds Flight12Rule)
+Holds-part problem k set part ordered timed more holds (LimitRule limit) =
+    subst (λ list. HoldsLimit (home_of problem k).days list (year_of problem k) (eleven_of problem k) limit) (shorter problem k set part more)
+    (HoldsLimit-filter (home_of problem k).days (λ duty. is_listed k part duty.holder) (duty_list problem k set) (year_of problem k) (eleven_of problem k) limit (holds (LimitRule limit)))
+Holds-part problem k set part ordered timed more holds DaysOffRule =
+    subst (KeepsDaysOff (home_of problem k).days) (shorter problem k set part more)
+    (KeepsDaysOff-filter (home_of problem k).days (λ duty. is_listed k part duty.holder) (duty_list problem k set) (holds DaysOffRule))
 
 pub IsLegal-part : (problem : Problem) (k : ℕ) (set part : List ℕ) → IsInOrder problem.duties → AreTimed problem.duties → IsPart part set → IsLegal problem k set → IsLegal problem k part
 IsLegal-part problem k set part ordered timed more legal =

@@ -12,14 +12,15 @@ use Rattle.roster_model.specs.Calendar.{Days}
 use Rattle.roster_model.specs.Problem.{Problem, home_of, year_of, eleven_of}
 use Rattle.roster_model.specs.records.Crew.{Person}
 use Rattle.roster_model.specs.records.Duty.{Duty, Holder, OfPairing, OfPerson, is_held_by_pairing}
-use Rattle.roster_model.specs.Rules.{Rule, BaseRule, OverlapRule, LeaveRule, RestRule, RecoveryRule, Duty7Rule, Duty14Rule, Duty28Rule, Flight28Rule, FlightYearRule, Flight12Rule, Holds, HoldsLimit, IsLegal, duty_list, is_among, is_listed}
+use Rattle.roster_model.specs.Rules.{Rule, BaseRule, OverlapRule, LeaveRule, RestRule, RecoveryRule, Limit, LimitRule, FlightYear, Flight12, DaysOffRule, Holds, HoldsLimit, IsLegal, duty_list, is_among, is_listed}
 use Rattle.roster_model.specs.Rules.Recovery.{KeepsRecovery}
+use Rattle.roster_model.specs.Rules.DaysOff.{KeepsDaysOff}
 use Rattle.roster_model.proofs.SetLemmas.{Ascends-from_rising, Ascends-push, rising_from_Ascends, All-is_among, is_among-append, is_among-here}
 use Rattle.roster_problem.specs.Duties.{AreTimed, IsInOrder, is_of_pairing, passes_at, picked}
 use Rattle.roster_problem.proofs.PositionLists.{picked-passing}
 use Rattle.roster_cumulative.specs.Judged.{AreWithin, MonthFlight, Sum, judged_sums, load_of, most_load, most_of, room_of, sum_of}
 use Rattle.roster_cumulative.proofs.JudgedSums.{limits-by_sums, most-few, sum_of-one_more, sums-by_limits}
-use Rattle.roster_legal.specs.Stepping.{AreDutiesOf, AreRoomsOf, IsLoadOf, IsNext, IsPlaced, IsStepped, Stepped}
+use Rattle.roster_legal.specs.Stepping.{AreBusyDaysOf, AreDutiesOf, AreRoomsOf, IsLoadOf, IsNext, IsPlaced, IsStepped, Stepped}
 use Rattle.roster_legal.proofs.Gathered.{either, is_of, neither, positions_within}
 use Rattle.roster_legal.proofs.Pairwise.{holds_of, pairs-decide}
 use Rattle.roster_legal.proofs.Parts.{IsLegal-part}
@@ -29,7 +30,7 @@ use Rattle.roster_legal.proofs.Parts.{IsLegal-part}
 same_either_way : (p q : ℕ) → (eqb p q || false) ≡ eqb q p
 same_either_way p q = grind (arith, nat_tests)
 
-listed-next : (k p : ℕ) (set : List ℕ) (holder : Holder) → is_listed k (set ++ p ∷ []) holder ≡ (is_listed k set holder || is_held_by_pairing p holder)
+pub listed-next : (k p : ℕ) (set : List ℕ) (holder : Holder) → is_listed k (set ++ p ∷ []) holder ≡ (is_listed k set holder || is_held_by_pairing p holder)
 listed-next k p set (OfPairing q) = is_among-append set (p ∷ []) q ∙ ap (λ b. is_among set q || b) (same_either_way p q)
 listed-next k p set (OfPerson j) = sym (or-false (eqb j k))
 
@@ -61,20 +62,6 @@ pub duties-picked : (problem : Problem) (k : ℕ) (set positions : List ℕ) →
 duties-picked problem k set positions are = picked-passing (λ duty. is_listed k set duty.holder) problem.duties positions are.rising are.members
 
 -- ---- which parts are legal
-
--- what the limits say where each rule holds
-limits_of : (problem : Problem) (k : ℕ) (set : List ℕ) → ((rule : Rule) → Holds problem k set rule) → (rule : Rule) → HoldsLimit (home_of problem k).days (duty_list problem k set) (year_of problem k) (eleven_of problem k) rule
-limits_of problem k set holds BaseRule = tt
-limits_of problem k set holds OverlapRule = tt
-limits_of problem k set holds LeaveRule = tt
-limits_of problem k set holds RestRule = tt
-limits_of problem k set holds RecoveryRule = tt
-limits_of problem k set holds Duty7Rule = holds Duty7Rule
-limits_of problem k set holds Duty14Rule = holds Duty14Rule
-limits_of problem k set holds Duty28Rule = holds Duty28Rule
-limits_of problem k set holds Flight28Rule = holds Flight28Rule
-limits_of problem k set holds FlightYearRule = holds FlightYearRule
-limits_of problem k set holds Flight12Rule = holds Flight12Rule
 
 among_one : (p q : ℕ) → is_among (p ∷ []) q ≡ true → p ≡ q
 among_one p q h =
@@ -130,24 +117,20 @@ module _ (stepped : Stepped) (p : ℕ) (ordered : IsInOrder stepped.loads.proble
   next-holds [] is rule = holds_of problem k p [] is rule
   next-holds (q ∷ front) is rule = holds_of problem k q (front ++ p ∷ []) is rule
 
-  by_rule : KeepsRecovery (home_of problem k).days (duty_list problem k (set ++ p ∷ [])) → ((rule : Rule) → HoldsLimit (home_of problem k).days (duty_list problem k (set ++ p ∷ [])) (year_of problem k) (eleven_of problem k) rule) → (rule : Rule) → Holds problem k (set ++ p ∷ []) rule
-  by_rule recovers limits BaseRule = pairs-decide problem k (set ++ p ∷ []) p has_next alone_next pairs_next BaseRule (omega arith)
-  by_rule recovers limits OverlapRule = pairs-decide problem k (set ++ p ∷ []) p has_next alone_next pairs_next OverlapRule (omega arith)
-  by_rule recovers limits LeaveRule = pairs-decide problem k (set ++ p ∷ []) p has_next alone_next pairs_next LeaveRule (omega arith)
-  by_rule recovers limits RestRule = pairs-decide problem k (set ++ p ∷ []) p has_next alone_next pairs_next RestRule (omega arith)
-  by_rule recovers limits RecoveryRule = recovers
-  by_rule recovers limits Duty7Rule = limits Duty7Rule
-  by_rule recovers limits Duty14Rule = limits Duty14Rule
-  by_rule recovers limits Duty28Rule = limits Duty28Rule
-  by_rule recovers limits Flight28Rule = limits Flight28Rule
-  by_rule recovers limits FlightYearRule = limits FlightYearRule
-  by_rule recovers limits Flight12Rule = limits Flight12Rule
+  by_rule : KeepsRecovery (home_of problem k).days (duty_list problem k (set ++ p ∷ [])) → ((limit : Limit) → HoldsLimit (home_of problem k).days (duty_list problem k (set ++ p ∷ [])) (year_of problem k) (eleven_of problem k) limit) → KeepsDaysOff (home_of problem k).days (duty_list problem k (set ++ p ∷ [])) → (rule : Rule) → Holds problem k (set ++ p ∷ []) rule
+  by_rule recovers limits off BaseRule = pairs-decide problem k (set ++ p ∷ []) p has_next alone_next pairs_next BaseRule (omega arith)
+  by_rule recovers limits off OverlapRule = pairs-decide problem k (set ++ p ∷ []) p has_next alone_next pairs_next OverlapRule (omega arith)
+  by_rule recovers limits off LeaveRule = pairs-decide problem k (set ++ p ∷ []) p has_next alone_next pairs_next LeaveRule (omega arith)
+  by_rule recovers limits off RestRule = pairs-decide problem k (set ++ p ∷ []) p has_next alone_next pairs_next RestRule (omega arith)
+  by_rule recovers limits off RecoveryRule = recovers
+  by_rule recovers limits off (LimitRule limit) = limits limit
+  by_rule recovers limits off DaysOffRule = off
 
   -- what was flown before the month is not too much, since the pairing is legal alone
   before : (year_of problem k ≤ MOST_FLIGHT_IN_A_YEAR) × (eleven_of problem k ≤ MOST_FLIGHT_IN_12_MONTHS)
   before =
-      let in_year = holds_of problem k p [] next.single FlightYearRule in
-      let in_twelve = holds_of problem k p [] next.single Flight12Rule in
+      let in_year = holds_of problem k p [] next.single (LimitRule FlightYear) in
+      let in_twelve = holds_of problem k p [] next.single (LimitRule Flight12) in
       (omega arith, omega arith)
 
   few_are_legal : (front : List ℕ) → front ≡ set → length front < 2 → IsLegal problem k (set ++ p ∷ [])
@@ -156,12 +139,12 @@ module _ (stepped : Stepped) (p : ℕ) (ordered : IsInOrder stepped.loads.proble
       subst (λ s. IsLegal problem k (s ++ p ∷ [])) is (next.pairs q (subst (λ s. is_among s q ≡ true) is (is_among-here q [])))
   few_are_legal (q ∷ r ∷ front) is few = absurd (omega arith)
 
-  -- it is legal where it is a pair or less, or keeps recovery and the limits
-  pub next-legal : (2 ≤ length set → KeepsRecovery (home_of problem k).days (duty_list problem k (set ++ p ∷ []))) → (2 ≤ length set → AreWithin (home_of problem k).days (duty_list problem k (set ++ p ∷ [])) (year_of problem k) (eleven_of problem k)) → IsLegal problem k (set ++ p ∷ [])
-  next-legal recovers within =
+  -- it is legal where it is a pair or less, or keeps recovery, the limits and the days off
+  pub next-legal : (2 ≤ length set → KeepsRecovery (home_of problem k).days (duty_list problem k (set ++ p ∷ []))) → (2 ≤ length set → AreWithin (home_of problem k).days (duty_list problem k (set ++ p ∷ [])) (year_of problem k) (eleven_of problem k)) → (2 ≤ length set → KeepsDaysOff (home_of problem k).days (duty_list problem k (set ++ p ∷ []))) → IsLegal problem k (set ++ p ∷ [])
+  next-legal recovers within off =
       elim (cases_lt (length set) 2) [
         | inl few ↦ few_are_legal set refl few
-        | inr many ↦ inr (by_rule (recovers many) (limits-by_sums (home_of problem k).days (duty_list problem k (set ++ p ∷ [])) (year_of problem k) (eleven_of problem k) before.0 before.1 (within many)))
+        | inr many ↦ inr (by_rule (recovers many) (limits-by_sums (home_of problem k).days (duty_list problem k (set ++ p ∷ [])) (year_of problem k) (eleven_of problem k) before.0 before.1 (within many)) (off many))
       ]
 
   some_hold : (set : List ℕ) → 2 ≤ length set → IsLegal problem k set → (rule : Rule) → Holds problem k set rule
@@ -233,7 +216,7 @@ module _ (stepped : Stepped) (p : ℕ) (ordered : IsInOrder stepped.loads.proble
             let sum : Sum = get_or sums j MonthFlight in
             let load = ap (λ l. get_or l j 0) is ∙ loads_at j inside in
             let room = ap (λ r. get_or r j 0) are ∙ rooms_at (duty_list problem k set) j inside in
-            let all = sums-by_limits days (duty_list problem k (set ++ p ∷ [])) (year_of problem k) (eleven_of problem k) (limits_of problem k (set ++ p ∷ []) (next-holds set legal_next)) in
+            let all = sums-by_limits days (duty_list problem k (set ++ p ∷ [])) (year_of problem k) (eleven_of problem k) (λ limit. next-holds set legal_next (LimitRule limit)) in
             let kept = All-get_or (λ s. sum_of days (duty_list problem k (set ++ p ∷ [])) s ≤ most_of (year_of problem k) (eleven_of problem k) s) sums j MonthFlight inside all in
             let one = fits (most_of (year_of problem k) (eleven_of problem k) sum) (sum_of days (duty_list problem k set) sum) (sum_of days brought sum) (sum_of days (duty_list problem k (set ++ p ∷ [])) sum) (more sum) kept in
             omega arith
@@ -244,7 +227,7 @@ module _ (stepped : Stepped) (p : ℕ) (ordered : IsInOrder stepped.loads.proble
 
   -- a set with two pairings or more keeps the limits
   pub within-set : 2 ≤ length set → AreWithin days (duty_list problem k set) (year_of problem k) (eleven_of problem k)
-  within-set many = sums-by_limits days (duty_list problem k set) (year_of problem k) (eleven_of problem k) (limits_of problem k set (some_hold set many legal))
+  within-set many = sums-by_limits days (duty_list problem k set) (year_of problem k) (eleven_of problem k) (λ limit. some_hold set many legal (LimitRule limit))
 
 -- what the fixed duties leave
 pub rooms-fixed : (problem : Problem) (k : ℕ) (days : Days) (list : List Duty) (year eleven : ℕ) (rooms : List ℕ) → rooms ≡ map (room_of days list year eleven) (judged_sums days) → days ≡ (home_of problem k).days → list ≡ duty_list problem k [] → year ≡ year_of problem k → eleven ≡ eleven_of problem k → AreRoomsOf problem k [] rooms
@@ -262,16 +245,19 @@ year-of_person problem k person at = (
 )
 
 -- what is known with the pairing behind
-pub stepped-next : (stepped : Stepped) (p depth : ℕ) (old rooms positions left loads : List ℕ) → IsPlaced stepped.loads → IsStepped stepped.loads stepped.set depth old rooms → IsNext stepped p
+pub stepped-next : (stepped : Stepped) (p depth busy word : ℕ) (old rooms positions left loads : List ℕ) → IsPlaced stepped.loads → IsStepped stepped.loads stepped.set depth old rooms busy → IsNext stepped p
     → AreDutiesOf stepped.loads.problem stepped.loads.person (stepped.set ++ p ∷ []) positions
     → IsLoadOf stepped.loads.problem stepped.loads.person p loads → length left ≡ length rooms → ((j : ℕ) → slice_index left j ≡ slice_index rooms j - slice_index loads j)
+    → AreBusyDaysOf stepped.loads.problem stepped.loads.person (stepped.set ++ p ∷ []) word
     → (2 ≤ length stepped.set → KeepsRecovery (home_of stepped.loads.problem stepped.loads.person).days (duty_list stepped.loads.problem stepped.loads.person (stepped.set ++ p ∷ [])))
     → (2 ≤ length stepped.set → AreWithin (home_of stepped.loads.problem stepped.loads.person).days (duty_list stepped.loads.problem stepped.loads.person (stepped.set ++ p ∷ [])) (year_of stepped.loads.problem stepped.loads.person) (eleven_of stepped.loads.problem stepped.loads.person))
-    → IsStepped stepped.loads (stepped.set ++ p ∷ []) (depth + 1) positions left
-stepped-next stepped p depth old rooms positions left loads placed known next duties load long each recovers within = record {
+    → (2 ≤ length stepped.set → KeepsDaysOff (home_of stepped.loads.problem stepped.loads.person).days (duty_list stepped.loads.problem stepped.loads.person (stepped.set ++ p ∷ [])))
+    → IsStepped stepped.loads (stepped.set ++ p ∷ []) (depth + 1) positions left word
+stepped-next stepped p depth busy word old rooms positions left loads placed known next duties load long each busy_now recovers within off = record {
   ascending = rising_from_Ascends _ (Ascends-push stepped.set p (Ascends-from_rising stepped.set known.ascending) next.behind);
-  legal = next-legal stepped p placed.ordered placed.timed known.legal next recovers within;
+  legal = next-legal stepped p placed.ordered placed.timed known.legal next recovers within off;
   depth = ap (λ n. n + 1) known.depth ∙ sym (length_push stepped.set p);
   duties = duties;
   rooms = rooms-next stepped p placed.ordered placed.timed known.legal next rooms loads left known.rooms load long each;
+  busy = busy_now;
 }

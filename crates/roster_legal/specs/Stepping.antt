@@ -5,6 +5,7 @@ use Rattle.roster_model.specs.declared.limits.TheConstants.{MOST_PAIRINGS}
 use Rattle.roster_model.specs.Problem.{Problem, home_of, year_of, eleven_of}
 use Rattle.roster_model.specs.Rules.{duty_list, is_among, is_listed, IsLegal}
 use Rattle.roster_problem.specs.Duties.{AreTimed, IsInOrder, is_of_pairing, passes_at}
+use Rattle.roster_restrules.specs.Busy.{AreBusyDays}
 use Rattle.roster_restrules.specs.Times.{Timed}
 use Rattle.roster_cumulative.specs.Judged.{judged_sums, load_of, room_of}
 use Rattle.roster_legal.specs.declared.loads.Load.{Load}
@@ -20,10 +21,15 @@ abbrev pub IsLoadOf : Problem → ℕ → ℕ → List ℕ → Type 0
 IsLoadOf problem k p minutes =
     minutes ≡ map (load_of (home_of problem k).days (filter (is_of_pairing p) problem.duties)) (judged_sums (home_of problem k).days)
 
+-- and the days of the month that it makes busy
+pub record IsLoad (problem : Problem) (k p : ℕ) (load : Load) : Type 0 where
+  pub minutes : IsLoadOf problem k p load.minutes.items
+  pub busy : AreBusyDays (home_of problem k).days (filter (is_of_pairing p) problem.duties) load.busy
+
 -- what each of these pairings takes; of others nothing is said
 pub record AreLoads (loaded : Loaded) (loads : List Load) : Type 0 where
   pub covers : length loads ≡ length loaded.problem.pairings
-  pub each : (p : ℕ) (load : Load) → slice_get loads p ≡ Some load → is_among loaded.alone p ≡ true → IsLoadOf loaded.problem loaded.person p load.minutes.items
+  pub each : (p : ℕ) (load : Load) → slice_get loads p ≡ Some load → is_among loaded.alone p ≡ true → IsLoad loaded.problem loaded.person p load
 
 -- the person is one of a problem's, whose duties are in order
 pub record IsPlaced (loaded : Loaded) : Type 0 where
@@ -54,13 +60,18 @@ abbrev pub AreRoomsOf : Problem → ℕ → List ℕ → List ℕ → Type 0
 AreRoomsOf problem k set rooms =
     rooms ≡ map (room_of (home_of problem k).days (duty_list problem k set) (year_of problem k) (eleven_of problem k)) (judged_sums (home_of problem k).days)
 
+-- the days of the month that they make busy
+abbrev pub AreBusyDaysOf : Problem → ℕ → List ℕ → ℕ → Type 0
+AreBusyDaysOf problem k set word = AreBusyDays (home_of problem k).days (duty_list problem k set) word
+
 -- what is known of a legal set
-pub record IsStepped (loaded : Loaded) (set : List ℕ) (pairings : ℕ) (positions left : List ℕ) : Type 0 where
+pub record IsStepped (loaded : Loaded) (set : List ℕ) (pairings : ℕ) (positions left : List ℕ) (word : ℕ) : Type 0 where
   pub ascending : IsStrictlyIncreasing set
   pub legal : IsLegal loaded.problem loaded.person set
   pub depth : pairings ≡ length set
   pub duties : AreDutiesOf loaded.problem loaded.person set positions
   pub rooms : AreRoomsOf loaded.problem loaded.person set left
+  pub busy : AreBusyDaysOf loaded.problem loaded.person set word
 
 -- The pairing comes behind those of the set, and is known to be legal alone and with each of them.
 pub record IsNext (stepped : Stepped) (p : ℕ) : Type 0 where

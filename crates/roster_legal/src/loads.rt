@@ -1,23 +1,26 @@
 //! What a person's rules see of each duty and of each pairing.
 
-ghost use Rattle.std.specs.Prelude.{◌≡◌, ◌<◌, ◌↔◌, true, All, IfOk, IsTrue, length};
+ghost use Rattle.std.specs.Prelude.{◌≡◌, ◌<◌, ◌↔◌, true, All, IfOk, IsTrue, filter, length};
 ghost use Rattle.roster_model.specs.Problem.{home_of};
 ghost use Rattle.roster_model.specs.Rules.{is_among};
 ghost use Rattle.roster_model.specs.Rules.Recovery.{KeepsRecovery};
-ghost use Rattle.roster_problem.specs.Duties.{picked, IsInOrder};
-ghost use Rattle.roster_legal.specs.Stepping.{AreLoads, IsLoadOf, IsPlaced};
+ghost use Rattle.roster_problem.specs.Duties.{is_of_pairing, picked, IsInOrder};
+ghost use Rattle.roster_restrules.specs.Busy.{AreBusyDays};
+ghost use Rattle.roster_legal.specs.Stepping.{AreLoads, IsLoad, IsLoadOf, IsPlaced};
 
 use roster_cumulative::loads_of;
 use roster_model::limits::MOST_PAIRINGS;
 use roster_problem::{DutyList, Problem, Set};
-use roster_restrules::Times;
+use roster_restrules::{Times, busy_days};
 use std::alloc::{AllocError, Global};
 use std::marker::Model;
 
-/// What a pairing takes of each judged sum, in minutes; nothing is said of one that isn't looked at.
+/// What a pairing takes of each judged sum, in minutes, and the days of the month that it makes busy, as
+/// the bits of a word; nothing is said of one that isn't looked at.
 #[derive(Debug, Drop)]
 pub(crate) struct Load {
     pub(crate) minutes: Vec<u16>,
+    pub(crate) busy: u32,
 }
 
 /// What the rules of a person see of the problem's duties, and of some pairings: each is looked at once.
@@ -91,6 +94,16 @@ impl<'a> Loads<'a> {
         self.loads[p].minutes.as_slice()
     }
 
+    /// The days of the month that a pairing makes busy, if it is one of these.
+    pub(crate) fn busy(&self, p: usize) -> u32
+        requires { p < length self.now.problem.pairings }
+        ensures { is_among self.now.alone p ≡ true
+            → AreBusyDays (home_of self.now.problem self.now.person).days
+            (filter (is_of_pairing p) self.now.problem.duties) result }
+    {
+        self.loads[p].busy
+    }
+
     /// Whether recurrent rests follow one another soon enough on the list of the duties at the
     /// positions, which are those of a set.
     pub(crate) fn keep_recovery(&self, positions: &[u16]) -> bool
@@ -132,11 +145,12 @@ fn load_if(
 ) -> Result<Load, AllocError>
     requires person { k < length problem.now.persons }
     requires place { p < length problem.now.pairings }
-    ensures { IfOk result (λ load. is_wanted ≡ true → IsLoadOf problem.now k p load.minutes.items) }
+    ensures { IfOk result (λ load. is_wanted ≡ true → IsLoad problem.now k p load) }
 {
     if !is_wanted {
         return Ok(Load {
             minutes: Vec::new(alloc),
+            busy: 0,
         });
     }
     let load = load_of(alloc, problem, k, p)?;
@@ -147,11 +161,13 @@ fn load_if(
 fn load_of(alloc: Global, problem: &Problem, k: usize, p: usize) -> Result<Load, AllocError>
     requires person { k < length problem.now.persons }
     requires place { p < length problem.now.pairings }
-    ensures { IfOk result (λ load. IsLoadOf problem.now k p load.minutes.items) }
+    ensures { IfOk result (IsLoad problem.now k p) }
 {
     let mut positions = Vec::new(alloc);
     positions.extend_from_slice(problem.duties_of(p))?;
     let list = DutyList::new(problem.duties(), positions);
-    let minutes = loads_of(alloc, problem.days_of(k), &list)?;
-    Ok(Load { minutes })
+    let days = problem.days_of(k);
+    let minutes = loads_of(alloc, days, &list)?;
+    let busy = busy_days(days, &list);
+    Ok(Load { minutes, busy })
 }

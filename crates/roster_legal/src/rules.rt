@@ -10,8 +10,8 @@ use crate::base::keeps_base;
 use crate::leave::keeps_leave;
 use crate::overlap::no_overlap;
 use roster_cumulative::ListLimits;
-use roster_problem::{DutyList, Problem, Rule, Set};
-use roster_restrules::{recovery_ok, rest_ok};
+use roster_problem::{DutyList, Limit, Problem, Rule, Set};
+use roster_restrules::{days_ok, recovery_ok, rest_ok};
 
 /// Whether person `k` keeps the rule with the set, whose duty list is `list`.
 fn holds(
@@ -37,7 +37,13 @@ fn holds(
         Rule::Leave => keeps_leave(problem, k, list),
         Rule::Rest => rest_ok(list, problem.home(k)),
         Rule::Recovery => recovery_ok(problem.days_of(k), list),
-        _ => limits.holds(rule),
+        Rule::Duty7 => limits.holds(Limit::Duty7),
+        Rule::Duty14 => limits.holds(Limit::Duty14),
+        Rule::Duty28 => limits.holds(Limit::Duty28),
+        Rule::Flight28 => limits.holds(Limit::Flight28),
+        Rule::FlightYear => limits.holds(Limit::FlightYear),
+        Rule::Flight12 => limits.holds(Limit::Flight12),
+        Rule::Days2 => days_ok(problem.days_of(k), list),
     }
 }
 

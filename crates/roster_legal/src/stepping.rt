@@ -4,14 +4,16 @@ ghost use Rattle.std.specs.Prelude.{◌≡◌, ◌<◌, ◌≤◌, ◌-◌, ◌|
 ghost use Rattle.std.specs.List.Sorted.{IsStrictlyIncreasing};
 ghost use Rattle.roster_model.specs.Problem.{home_of, year_of, eleven_of};
 ghost use Rattle.roster_model.specs.Rules.{duty_list, is_among};
+ghost use Rattle.roster_model.specs.Rules.DaysOff.{KeepsDaysOff};
 ghost use Rattle.roster_model.specs.Rules.Recovery.{KeepsRecovery};
 ghost use Rattle.roster_cumulative.specs.Judged.{AreWithin};
-ghost use Rattle.roster_legal.specs.Stepping.{with_next, AreDutiesOf, AreRoomsOf, IsLegalNext, IsNext};
+ghost use Rattle.roster_legal.specs.Stepping.{with_next, AreBusyDaysOf, AreDutiesOf, AreRoomsOf, IsLegalNext, IsNext};
 
 use crate::listing::merge;
 use crate::loads::Loads;
 use roster_cumulative::{have_room, rooms_of, take_room};
-use roster_problem::{Problem, Set};
+use roster_problem::{DutyList, Problem, Set};
+use roster_restrules::{busy_days, has_days_off};
 use std::alloc::{AllocError, Global};
 use std::marker::Model;
 
@@ -50,8 +52,8 @@ impl Spare {
     }
 }
 
-/// A legal set of a person, with its duties and what they leave of the judged sums. Contracts see the
-/// set, and what stands behind it.
+/// A legal set of a person, with its duties, what they leave of the judged sums, and the days of the
+/// month that they make busy, as the bits of a word. Contracts see the set, and what stands behind it.
 #[derive(Debug, Drop)]
 pub struct JudgedSet<'a> {
     loads: &'a Loads<'a>,
@@ -59,6 +61,7 @@ pub struct JudgedSet<'a> {
     depth: usize,
     positions: Vec<u16>,
     rooms: Vec<u16>,
+    busy: u32,
 }
 
 impl<'a> Model for JudgedSet<'a> {
@@ -68,7 +71,8 @@ impl<'a> Model for JudgedSet<'a> {
 
     ghost view = { λ j. record { loads = j.loads.now; set = j.set } };
 
-    ghost invariant = { λ j. IsStepped j.loads.now j.set j.depth j.positions.items j.rooms.items };
+    ghost invariant = { λ j. IsStepped j.loads.now j.set j.depth j.positions.items j.rooms.items
+        j.busy };
 }
 
 impl<'a> JudgedSet<'a> {
@@ -76,29 +80,36 @@ impl<'a> JudgedSet<'a> {
     pub fn empty(alloc: Global, loads: &'a Loads<'a>) -> Result<JudgedSet<'a>, AllocError>
         ensures { IfOk result (λ judged. judged ≡ record { loads = loads.now; set = [] }) }
     {
+        let (problem, k) = (loads.problem(), loads.person());
         let positions = fixed_positions(alloc, loads)?;
-        let rooms = fixed_rooms(alloc, loads.problem(), loads.person())?;
+        let fixed = merge(alloc, problem, k, &Set::empty())?;
+        let rooms = fixed_rooms(alloc, problem, k, &fixed)?;
         Ok(JudgedSet {
             loads,
             set: Set::empty(),
             depth: 0,
             positions,
             rooms,
+            busy: busy_days(problem.days_of(k), &fixed),
         })
     }
 
     /// The set with the pairing at place `p` behind, if that is legal. The rules that speak of one duty
     /// or of two are known, since each two pairings are legal together; so it judges no more than
-    /// Recovery and the limits, and these of three pairings or more.
+    /// Recovery, the limits and the days off, and these of three pairings or more.
     pub fn with(&self, p: usize, spare: &mut Spare) -> Result<Option<JudgedSet<'a>>, AllocError>
         requires { IsNext self.now p }
         ensures { IfOk result (λ judged. MatchOption judged (¬ IsLegalNext self.now p)
             (λ longer. (longer ≡ with_next self.now p) × IsLegalNext self.now p)) }
     {
+        let loads = self.loads;
+        let busy = self.busy | loads.busy(p);
+        if !self.has_days_off_with(p, busy) {
+            return Ok(None);
+        }
         if !self.has_room_for(p) {
             return Ok(None);
         }
-        let loads = self.loads;
         let more = loads.problem().duties_of(p);
         let positions = joined(spare.take(), &self.positions, more)?;
         if !self.keeps_recovery_with(p, &positions) {
@@ -113,6 +124,7 @@ impl<'a> JudgedSet<'a> {
             depth: self.depth + 1,
             positions,
             rooms,
+            busy,
         }))
     }
 
@@ -128,6 +140,23 @@ impl<'a> JudgedSet<'a> {
         let loads = self.loads;
         let _ = loads.problem();
         self.depth < 2 || have_room(&self.rooms, loads.load(p))
+    }
+
+    /// Whether there are days off twice in the month with the pairing at place `p`, which makes the busy
+    /// days those of the word; of a pair or less that is known.
+    fn has_days_off_with(&self, p: usize, busy: u32) -> bool
+        requires next { IsNext self.now p }
+        requires busy { AreBusyDaysOf self.now.loads.problem self.now.loads.person
+            (with_next self.now p).set busy }
+        ensures yes { let problem = self.now.loads.problem in let k = self.now.loads.person in
+            IsTrue result → 2 ≤ length self.now.set
+            → KeepsDaysOff (home_of problem k).days
+            (duty_list problem k (with_next self.now p).set) }
+        ensures no { result ≡ false → ¬ IsLegalNext self.now p }
+    {
+        let loads = self.loads;
+        let problem = loads.problem();
+        self.depth < 2 || has_days_off(problem.days_of(loads.person()), busy)
     }
 
     /// Whether recurrent rests follow one another soon enough with the pairing at place `p`, which makes
@@ -164,14 +193,19 @@ fn fixed_positions(alloc: Global, loads: &Loads<'_>) -> Result<Vec<u16>, AllocEr
     Ok(positions)
 }
 
-// What the fixed duties of person k leave of the judged sums.
-fn fixed_rooms(alloc: Global, problem: &Problem, k: usize) -> Result<Vec<u16>, AllocError>
-    requires { k < length problem.now.persons }
+// What the fixed duties of person k, which are the list, leave of the judged sums.
+fn fixed_rooms(
+    alloc: Global,
+    problem: &Problem,
+    k: usize,
+    list: &DutyList,
+) -> Result<Vec<u16>, AllocError>
+    requires person { k < length problem.now.persons }
+    requires list { list.now ≡ duty_list problem.now k [] }
     ensures { IfOk result (λ rooms. AreRoomsOf problem.now k [] rooms.items) }
 {
-    let list = merge(alloc, problem, k, &Set::empty())?;
     let person = problem.person(k);
-    let rooms = rooms_of(alloc, problem.days_of(k), &list, person.year, person.eleven)?;
+    let rooms = rooms_of(alloc, problem.days_of(k), list, person.year, person.eleven)?;
     Ok(rooms)
 }
 

@@ -1,58 +1,81 @@
--- Which rules come before one.
-use Rattle.std.proofs.Common.{◌≡◌, ℕ, suc, ◌+◌, ◌<◌, List, Some, length, get_or, refl, sym, ap, ◌∙◌, subst, inl, inr, arith}
+-- Which rules come before one, and which limits.
+use Rattle.std.proofs.Common.{◌≡◌, ℕ, suc, ◌+◌, ◌<◌, List, map, Some, length, get_or, refl, sym, ap, ◌∙◌, subst, inl, inr, arith}
 use Rattle.std.specs.Prelude.{slice_get}
+use Rattle.std.specs.List.{range_with_len}
 use Rattle.std.proofs.lemmas.Bool.{cases_eq}
 use Rattle.std.proofs.lemmas.List.{get_or-map, length-map}
 use Rattle.std.proofs.lemmas.List.FromFn.{get_or-range_with_len}
 use Rattle.std.proofs.lemmas.Option.{same_Some, slice_get_within}
-use Rattle.roster_model.specs.Rules.{Rule, BaseRule, OverlapRule, LeaveRule, RestRule, RecoveryRule, Duty7Rule, Duty14Rule, Duty28Rule, Flight28Rule, FlightYearRule, Flight12Rule, rank_of, by_rank, AreByRank, IsFirstFailing}
+use Rattle.roster_model.specs.Rules.{Rule, BaseRule, OverlapRule, LeaveRule, RestRule, RecoveryRule, LimitRule, DaysOffRule, Limit, Duty7, Duty14, Duty28, Flight28, FlightYear, Flight12, rank_of, rank_of_limit, by_rank, limits_by_rank, AreByRank, IsFirstFailing}
 
-at_rank : (rule : Rule) → slice_get by_rank (rank_of rule) ≡ Some rule
-at_rank BaseRule = refl
-at_rank OverlapRule = refl
-at_rank LeaveRule = refl
-at_rank RestRule = refl
-at_rank RecoveryRule = refl
-at_rank Duty7Rule = refl
-at_rank Duty14Rule = refl
-at_rank Duty28Rule = refl
-at_rank Flight28Rule = refl
-at_rank FlightYearRule = refl
-at_rank Flight12Rule = refl
+-- the list has each of what is ranked, in the order of the ranks
+pub record IsRanking {R : Type 0} (rank : R → ℕ) (ranked : List R) : Type 0 where
+  pub at : (r : R) → slice_get ranked (rank r) ≡ Some r
+  pub counts : map rank ranked ≡ range_with_len 0 (length ranked)
 
-pub one_of_rank : (a b : Rule) → rank_of a ≡ rank_of b → a ≡ b
-one_of_rank a b same = same_Some a b (sym (at_rank a) ∙ ap (slice_get by_rank) same ∙ at_rank b)
+limit_at : (limit : Limit) → slice_get limits_by_rank (rank_of_limit limit) ≡ Some limit
+limit_at Duty7 = refl
+limit_at Duty14 = refl
+limit_at Duty28 = refl
+limit_at Flight28 = refl
+limit_at FlightYear = refl
+limit_at Flight12 = refl
 
--- of what each rule says, what those before rank n say is so
-abbrev pub HoldBelow : (Rule → Type 0) → ℕ → Type 0
-HoldBelow Says n = (rule : Rule) → rank_of rule < n → Says rule
+pub limits-ranked : IsRanking rank_of_limit limits_by_rank
+limits-ranked = record { at = limit_at; counts = refl }
 
-pub below-more : (Says : Rule → Type 0) (a : Rule) → HoldBelow Says (rank_of a) → Says a → HoldBelow Says (suc (rank_of a))
-below-more Says a below here rule before =
-    elim (cases_eq (rank_of rule) (rank_of a)) [
-      | inl same ↦ subst Says (sym (one_of_rank rule a same)) here
-      | inr other ↦ below rule (omega arith)
-    ]
+rule_at : (rule : Rule) → slice_get by_rank (rank_of rule) ≡ Some rule
+rule_at BaseRule = refl
+rule_at OverlapRule = refl
+rule_at LeaveRule = refl
+rule_at RestRule = refl
+rule_at RecoveryRule = refl
+rule_at (LimitRule Duty7) = refl
+rule_at (LimitRule Duty14) = refl
+rule_at (LimitRule Duty28) = refl
+rule_at (LimitRule Flight28) = refl
+rule_at (LimitRule FlightYear) = refl
+rule_at (LimitRule Flight12) = refl
+rule_at DaysOffRule = refl
 
-pub below-all : (Says : Rule → Type 0) → HoldBelow Says (length by_rank) → (rule : Rule) → Says rule
-below-all Says below rule = below rule (slice_get_within by_rank (rank_of rule) rule (at_rank rule))
+pub rules-ranked : IsRanking rank_of by_rank
+rules-ranked = record { at = rule_at; counts = refl }
 
--- ---- the rules in their order, by other names
+pub one_of_rank : {R : Type 0} (rank : R → ℕ) (ranked : List R) → IsRanking rank ranked → (a b : R) → rank a ≡ rank b → a ≡ b
+one_of_rank rank ranked ranking a b same =
+    same_Some a b (sym (ranking.at a) ∙ ap (slice_get ranked) same ∙ ranking.at b)
 
-rank_at : {X : Type 0} (rule_of : X → Rule) (names : List X) (i : ℕ) (d : X) → AreByRank rule_of names → i < length names → rank_of (rule_of (get_or names i d)) ≡ i
-rank_at rule_of names i d all inside =
-    let long : length by_rank ≡ length names = ap length (sym all) ∙ length-map names rule_of in
-    let name : rule_of (get_or names i d) ≡ get_or by_rank i (rule_of d) =
-    sym (get_or-map rule_of names i d (rule_of d) inside) ∙ ap (λ rules. get_or rules i (rule_of d)) all in
-    ap rank_of name ∙ sym (get_or-map rank_of by_rank i (rule_of d) 0 (omega arith)) ∙ get_or-range_with_len 0 (length by_rank) i 0 (omega arith) ∙ omega arith
+-- of what each says, what those before rank n say is so
+abbrev pub HoldBelow : {R : Type 0} → (R → ℕ) → (R → Type 0) → ℕ → Type 0
+HoldBelow {R} rank Says n = (r : R) → rank r < n → Says r
 
--- what the next one says is so too,
-pub below-next : {X : Type 0} (Says : Rule → Type 0) (rule_of : X → Rule) (names : List X) (i : ℕ) (d : X) → AreByRank rule_of names → i < length names → HoldBelow Says i → Says (rule_of (get_or names i d)) → HoldBelow Says (i + 1)
-below-next Says rule_of names i d all inside below here rule before =
-    let rank = rank_at rule_of names i d all inside in
-    below-more Says (rule_of (get_or names i d)) (subst (HoldBelow Says) (sym rank) below) here rule (omega arith)
+module _ {R : Type 0} (rank : R → ℕ) (ranked : List R) (ranking : IsRanking rank ranked) (Says : R → Type 0) where
+  below-more : (a : R) → HoldBelow rank Says (rank a) → Says a → HoldBelow rank Says (suc (rank a))
+  below-more a below here r before =
+      elim (cases_eq (rank r) (rank a)) [
+        | inl same ↦ subst Says (sym (one_of_rank rank ranked ranking r a same)) here
+        | inr other ↦ below r (omega arith)
+      ]
 
--- or it is the first that isn't
-pub fails-first : {X : Type 0} (Says : Rule → Type 0) (rule_of : X → Rule) (names : List X) (i : ℕ) (d : X) → AreByRank rule_of names → i < length names → HoldBelow Says i → ¬ Says (rule_of (get_or names i d)) → IsFirstFailing Says (Some (rule_of (get_or names i d)))
-fails-first Says rule_of names i d all inside below fails =
-    (fails, subst (HoldBelow Says) (sym (rank_at rule_of names i d all inside)) below)
+  pub below-all : HoldBelow rank Says (length ranked) → (r : R) → Says r
+  below-all below r = below r (slice_get_within ranked (rank r) r (ranking.at r))
+
+  -- ---- all in their order, by other names
+
+  module _ {X : Type 0} (seen : X → R) (names : List X) (i : ℕ) (d : X) (all : AreByRank ranked seen names) (inside : i < length names) where
+    rank_at : rank (seen (get_or names i d)) ≡ i
+    rank_at =
+        let long : length ranked ≡ length names = ap length (sym all) ∙ length-map names seen in
+        let name : seen (get_or names i d) ≡ get_or ranked i (seen d) =
+        sym (get_or-map seen names i d (seen d) inside) ∙ ap (λ rs. get_or rs i (seen d)) all in
+        ap rank name ∙ sym (get_or-map rank ranked i (seen d) 0 (omega arith)) ∙ ap (λ ns. get_or ns i 0) ranking.counts ∙ get_or-range_with_len 0 (length ranked) i 0 (omega arith) ∙ omega arith
+
+    -- what the next one says is so too,
+    pub below-next : HoldBelow rank Says i → Says (seen (get_or names i d)) → HoldBelow rank Says (i + 1)
+    below-next below here r before =
+        let at = rank_at in
+        below-more (seen (get_or names i d)) (subst (HoldBelow rank Says) (sym at) below) here r (omega arith)
+
+    -- or it is the first that isn't
+    pub fails-first : HoldBelow rank Says i → ¬ Says (seen (get_or names i d)) → IsFirstFailing rank Says (Some (seen (get_or names i d)))
+    fails-first below fails = (fails, subst (HoldBelow rank Says) (sym rank_at) below)

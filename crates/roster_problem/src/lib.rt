@@ -56,7 +56,7 @@ pub use person::Person;
 pub use placing::{has_throughout, open_number, put};
 pub use problem::Problem;
 pub use roster::{Places, Roster};
-pub use rule::{Rule, rules_in_order};
+pub use rule::{Limit, Rule, limits_in_order, rules_in_order};
 pub use sector::Sector;
 pub use set::Set;
 pub use step::{Step, Steps};

@@ -6,7 +6,7 @@ use Rattle.roster_model.proofs.LimitLemmas.{KeepsLimit-lighter, in_month-lighter
 use Rattle.roster_model.specs.Calendar.{Days}
 use Rattle.roster_model.specs.declared.profile.TheConstants.{SHORT_RUN, MIDDLE_RUN, LONG_RUN, MOST_DUTY_IN_7_DAYS, MOST_DUTY_IN_14_DAYS, MOST_DUTY_IN_28_DAYS, MOST_FLIGHT_IN_28_DAYS}
 use Rattle.roster_model.specs.records.Duty.{Duty}
-use Rattle.roster_model.specs.Rules.{Rule, BaseRule, OverlapRule, LeaveRule, RestRule, RecoveryRule, Duty7Rule, Duty14Rule, Duty28Rule, Flight28Rule, FlightYearRule, Flight12Rule, HoldsLimit}
+use Rattle.roster_model.specs.Rules.{Limit, Duty7, Duty14, Duty28, Flight28, FlightYear, Flight12, HoldsLimit}
 use Rattle.roster_model.specs.Rules.Limits.{KeepsLimit}
 use Rattle.roster_model.specs.Sums.{duty_between, flight_between, month_flight, on_day}
 
@@ -25,21 +25,16 @@ month_flight-filter : (days : Days) (test : Duty → Bool) (list : List Duty) �
 month_flight-filter days test list =
     in_month-lighter (on_day flight_between days (filter test list)) (on_day flight_between days list) (on_day-filter flight_between days test list) days
 
-pub HoldsLimit-filter : (days : Days) (test : Duty → Bool) (list : List Duty) (year eleven : ℕ) (rule : Rule) → HoldsLimit days list year eleven rule → HoldsLimit days (filter test list) year eleven rule
-HoldsLimit-filter days test list year eleven BaseRule holds = tt
-HoldsLimit-filter days test list year eleven OverlapRule holds = tt
-HoldsLimit-filter days test list year eleven LeaveRule holds = tt
-HoldsLimit-filter days test list year eleven RestRule holds = tt
-HoldsLimit-filter days test list year eleven RecoveryRule holds = tt
-HoldsLimit-filter days test list year eleven Duty7Rule holds =
+pub HoldsLimit-filter : (days : Days) (test : Duty → Bool) (list : List Duty) (year eleven : ℕ) (limit : Limit) → HoldsLimit days list year eleven limit → HoldsLimit days (filter test list) year eleven limit
+HoldsLimit-filter days test list year eleven Duty7 holds =
     KeepsLimit-filter duty_between days test list SHORT_RUN MOST_DUTY_IN_7_DAYS holds
-HoldsLimit-filter days test list year eleven Duty14Rule holds =
+HoldsLimit-filter days test list year eleven Duty14 holds =
     KeepsLimit-filter duty_between days test list MIDDLE_RUN MOST_DUTY_IN_14_DAYS holds
-HoldsLimit-filter days test list year eleven Duty28Rule holds =
+HoldsLimit-filter days test list year eleven Duty28 holds =
     KeepsLimit-filter duty_between days test list LONG_RUN MOST_DUTY_IN_28_DAYS holds
-HoldsLimit-filter days test list year eleven Flight28Rule holds =
+HoldsLimit-filter days test list year eleven Flight28 holds =
     KeepsLimit-filter flight_between days test list LONG_RUN MOST_FLIGHT_IN_28_DAYS holds
-HoldsLimit-filter days test list year eleven FlightYearRule holds =
+HoldsLimit-filter days test list year eleven FlightYear holds =
     let fewer = month_flight-filter days test list in omega (arith, fewer, holds)
-HoldsLimit-filter days test list year eleven Flight12Rule holds =
+HoldsLimit-filter days test list year eleven Flight12 holds =
     let fewer = month_flight-filter days test list in omega (arith, fewer, holds)

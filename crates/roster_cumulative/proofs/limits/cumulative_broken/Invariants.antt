@@ -1,11 +1,12 @@
 use Rattle.std.proofs.Common.{◌≡◌}
 use Rattle.roster_model.proofs.RuleLemmas.{HoldBelow}
+use Rattle.roster_model.specs.Rules.{rank_of_limit}
 use Rattle.roster_cumulative.specs.Limited.{IsKept}
 use Rattle.roster_cumulative.proofs.limits.cumulative_broken.Given as goal
 
--- the limits among the rules so far hold
-abbrev pub invariant-loop-rule : goal.invariant-loop-rule
-invariant-loop-rule l = record {
+-- the limits so far hold
+abbrev pub invariant-loop-limit : goal.invariant-loop-limit
+invariant-loop-limit l = record {
   same : l.limits ≡ l.initial.limits;
-  kept : HoldBelow (IsKept l.limits) l.rule-index;
+  kept : HoldBelow rank_of_limit (IsKept l.limits) l.limit-index;
 }

@@ -1,5 +1,5 @@
 use Rattle.roster_model.proofs.RuleLemmas.{HoldBelow}
-use Rattle.roster_model.specs.Rules.{Holds}
+use Rattle.roster_model.specs.Rules.{rank_of, Holds}
 use Rattle.roster_legal.specs.Looks.{LookAt}
 use Rattle.roster_legal.proofs.rules.first_broken_on.Given as goal
 
@@ -7,5 +7,5 @@ use Rattle.roster_legal.proofs.rules.first_broken_on.Given as goal
 abbrev pub invariant-loop-rule : goal.invariant-loop-rule
 invariant-loop-rule l = record {
   limits : LookAt l.problem l.k l.set l.limits;
-  kept : HoldBelow (Holds l.problem l.k l.set) l.rule-index;
+  kept : HoldBelow rank_of (Holds l.problem l.k l.set) l.rule-index;
 }

@@ -1,12 +1,12 @@
-use Rattle.std.proofs.Common.{◌<◌, List, subst, rules}
+use Rattle.std.proofs.Common.{List, subst}
 use Rattle.std.specs.Prelude.{◌↔◌, IsTrue}
 use Rattle.roster_model.specs.Calendar.{Days}
 use Rattle.roster_model.specs.Problem.{leaves_of}
 use Rattle.roster_model.specs.records.Duty.{Duty}
-use Rattle.roster_model.specs.Rules.{RecoveryRule, duty_list, rank_of}
+use Rattle.roster_model.specs.Rules.{duty_list, Duty7, Duty14, Duty28, Flight28, FlightYear, Flight12}
 use Rattle.roster_model.specs.Rules.Leave.{KeepsLeave}
 use Rattle.roster_model.specs.Rules.Recovery.{KeepsRecovery}
-use Rattle.roster_problem.specs.View.{rule_of}
+use Rattle.roster_model.specs.Rules.DaysOff.{KeepsDaysOff}
 use Rattle.roster_legal.proofs.FirstBroken.{holds-limit}
 use Rattle.roster_legal.proofs.rules.holds.Goals as goal
 
@@ -19,10 +19,31 @@ returns-in-Recovery-clause-value c =
     rw c.in-Recovery.is (subst (λ (days : Days). IsTrue c.recovery_ok.result ↔ KeepsRecovery days (duty_list c.args.problem.now c.args.k c.args.set.now)) c.days_of.ensures
     (subst (λ (list : List Duty). IsTrue c.recovery_ok.result ↔ KeepsRecovery c.days_of.result.now list) c.requires.list c.recovery_ok.ensures))
 
-pub returns-in_default : goal.returns-in_default
-returns-in_default c =
-    let after : rank_of RecoveryRule < rank_of (rule_of c.args.rule) = search rules in
-    record {
-      value = holds-limit c.args.problem.now c.args.k c.args.set.now c.args.limits.now (rule_of c.args.rule) c.holds.result after c.requires.limits c.holds.ensures.value;
-      same = c.holds.ensures.same;
-    }
+pub returns-in-Days2-clause-value : goal.returns-in-Days2-clause-value
+returns-in-Days2-clause-value c =
+    rw c.in-Days2.is (subst (λ (days : Days). IsTrue c.days_ok.result ↔ KeepsDaysOff days (duty_list c.args.problem.now c.args.k c.args.set.now)) c.days_of-in-Days2.ensures
+    (subst (λ (list : List Duty). IsTrue c.days_ok.result ↔ KeepsDaysOff c.days_of-in-Days2.result.now list) c.requires.list c.days_ok.ensures))
+
+pub returns-in-Duty7-clause-value : goal.returns-in-Duty7-clause-value
+returns-in-Duty7-clause-value c =
+    rw c.in-Duty7.is (holds-limit c.args.problem.now c.args.k c.args.set.now c.args.limits.now Duty7 c.holds.result c.requires.limits c.holds.ensures.value)
+
+pub returns-in-Duty14-clause-value : goal.returns-in-Duty14-clause-value
+returns-in-Duty14-clause-value c =
+    rw c.in-Duty14.is (holds-limit c.args.problem.now c.args.k c.args.set.now c.args.limits.now Duty14 c.holds-in-Duty14.result c.requires.limits c.holds-in-Duty14.ensures.value)
+
+pub returns-in-Duty28-clause-value : goal.returns-in-Duty28-clause-value
+returns-in-Duty28-clause-value c =
+    rw c.in-Duty28.is (holds-limit c.args.problem.now c.args.k c.args.set.now c.args.limits.now Duty28 c.holds-in-Duty28.result c.requires.limits c.holds-in-Duty28.ensures.value)
+
+pub returns-in-Flight28-clause-value : goal.returns-in-Flight28-clause-value
+returns-in-Flight28-clause-value c =
+    rw c.in-Flight28.is (holds-limit c.args.problem.now c.args.k c.args.set.now c.args.limits.now Flight28 c.holds-in-Flight28.result c.requires.limits c.holds-in-Flight28.ensures.value)
+
+pub returns-in-FlightYear-clause-value : goal.returns-in-FlightYear-clause-value
+returns-in-FlightYear-clause-value c =
+    rw c.in-FlightYear.is (holds-limit c.args.problem.now c.args.k c.args.set.now c.args.limits.now FlightYear c.holds-in-FlightYear.result c.requires.limits c.holds-in-FlightYear.ensures.value)
+
+pub returns-in-Flight12-clause-value : goal.returns-in-Flight12-clause-value
+returns-in-Flight12-clause-value c =
+    rw c.in-Flight12.is (holds-limit c.args.problem.now c.args.k c.args.set.now c.args.limits.now Flight12 c.holds-in-Flight12.result c.requires.limits c.holds-in-Flight12.ensures.value)

@@ -1,9 +1,10 @@
-use Rattle.std.proofs.Common.{◌≡◌, ℕ, ◌+◌, ◌-◌, ◌<◌, true, false, [], ◌∷◌, ◌++◌, List, length, ap, subst, sym, ◌∙◌, arith}
+use Rattle.std.proofs.Common.{◌≡◌, ℕ, ◌+◌, ◌-◌, ◌<◌, true, false, [], ◌∷◌, ◌++◌, List, length, ap, subst, sym, ◌∙◌, arith, bit_or}
 use Rattle.std.specs.Prelude.{All, slice_index}
 use Rattle.roster_model.specs.Problem.{Problem}
 use Rattle.roster_model.specs.Rules.{is_among}
 use Rattle.roster_model.proofs.SetLemmas.{length_within}
 use Rattle.roster_legal.specs.Stepping.{AreDutiesOf, IsLoadOf, IsPlaced, IsStepped, Loaded, Stepped}
+use Rattle.roster_legal.proofs.BusyDays.{busy-stepped}
 use Rattle.roster_legal.proofs.Gathered.{is_of}
 use Rattle.roster_legal.proofs.Stepped.{duties_apart, duties_with, new_behind, stepped-next}
 use Rattle.roster_legal.proofs.stepping.JudgedSet.with.Goals as goal
@@ -15,11 +16,18 @@ joined-requires-clause-apart c =
     let p = c.args.p in
     let more = c.duties_of-more.result.now in
     let same = ap (λ (j : Stepped). j.loads) c.self.view_is in
-    let known = subst (λ (j : Stepped). IsStepped j.loads j.set c.self.inside.depth c.self.inside.positions.items c.self.inside.rooms.items) c.self.view_is c.self.invariant in
+    let known = subst (λ (j : Stepped). IsStepped j.loads j.set c.self.inside.depth c.self.inside.positions.items c.self.inside.rooms.items c.self.inside.busy) c.self.view_is c.self.invariant in
     let is_problem : c.problem.result.now ≡ problem = c.problem.ensures.value ∙ ap (λ (l : Loaded). l.problem) same in
     let members : (i : ℕ) → is_among more i ≡ is_of p problem.duties i = λ i. c.duties_of-more.ensures.positions.members i ∙ ap (λ (m : Problem). is_of p m.duties i) is_problem in
     let apart = duties_apart problem judged.loads.person p judged.set c.self.inside.positions.items more known.duties (new_behind p judged.set c.requires.behind) members in
     subst (λ xs. (i : ℕ) → is_among xs i ≡ true → is_among more i ≡ false) (sym c.deref.ensures.value) apart
+
+pub has_days_off_with-requires-clause-busy : goal.has_days_off_with-requires-clause-busy
+has_days_off_with-requires-clause-busy c =
+    let judged = c.args.self.now in
+    let same = ap (λ (j : Stepped). j.loads) c.self.view_is in
+    let known = subst (λ (j : Stepped). IsStepped j.loads j.set c.self.inside.depth c.self.inside.positions.items c.self.inside.rooms.items c.self.inside.busy) c.self.view_is c.self.invariant in
+    busy-stepped c.self.inside.loads.now judged c.args.p c.self.inside.depth c.self.inside.busy c.busy.result c.self.inside.positions.items c.self.inside.rooms.items same known c.busy.ensures c.requires.alone
 
 pub keeps_recovery_with-requires-clause-positions : goal.keeps_recovery_with-requires-clause-positions
 keeps_recovery_with-requires-clause-positions c =
@@ -28,7 +36,7 @@ keeps_recovery_with-requires-clause-positions c =
     let p = c.args.p in
     let more = c.duties_of-more.result.now in
     let same = ap (λ (j : Stepped). j.loads) c.self.view_is in
-    let known = subst (λ (j : Stepped). IsStepped j.loads j.set c.self.inside.depth c.self.inside.positions.items c.self.inside.rooms.items) c.self.view_is c.self.invariant in
+    let known = subst (λ (j : Stepped). IsStepped j.loads j.set c.self.inside.depth c.self.inside.positions.items c.self.inside.rooms.items c.self.inside.busy) c.self.view_is c.self.invariant in
     let is_problem : c.problem.result.now ≡ problem = c.problem.ensures.value ∙ ap (λ (l : Loaded). l.problem) same in
     let members : (i : ℕ) → is_among more i ≡ is_of p problem.duties i = λ i. c.duties_of-more.ensures.positions.members i ∙ ap (λ (m : Problem). is_of p m.duties i) is_problem in
     let old = subst (AreDutiesOf problem judged.loads.person judged.set) (sym c.deref.ensures.value) known.duties in
@@ -39,7 +47,7 @@ pub overflow_add-result : goal.overflow_add-result
 overflow_add-result c =
     let judged = c.args.self.now in
     let same = ap (λ (j : Stepped). j.loads) c.self.view_is in
-    let known = subst (λ (j : Stepped). IsStepped j.loads j.set c.self.inside.depth c.self.inside.positions.items c.self.inside.rooms.items) c.self.view_is c.self.invariant in
+    let known = subst (λ (j : Stepped). IsStepped j.loads j.set c.self.inside.depth c.self.inside.positions.items c.self.inside.rooms.items c.self.inside.busy) c.self.view_is c.self.invariant in
     let placed = subst IsPlaced same c.problem.ensures.placed in
     let few = length_within judged.set c.args.p known.ascending c.requires.behind in
     let most = placed.few in
@@ -48,14 +56,14 @@ overflow_add-result c =
     omega arith
 
 -- what is known of the longer set,
-longer : (c : goal.In_ok-set) → IsStepped c.args.self.now.loads (c.args.self.now.set ++ c.args.p ∷ []) (c.self.inside.depth + 1) c.in_ok-positions.positions.items c.in_ok-rooms.rooms.items
+longer : (c : goal.In_ok-set) → IsStepped c.args.self.now.loads (c.args.self.now.set ++ c.args.p ∷ []) (c.self.inside.depth + 1) c.in_ok-positions.positions.items c.in_ok-rooms.rooms.items (bit_or c.self.inside.busy c.busy.result)
 longer c =
     let judged = c.args.self.now in
     let problem = judged.loads.problem in
     let p = c.args.p in
     let more = c.duties_of-more.result.now in
     let same = ap (λ (j : Stepped). j.loads) c.self.view_is in
-    let known = subst (λ (j : Stepped). IsStepped j.loads j.set c.self.inside.depth c.self.inside.positions.items c.self.inside.rooms.items) c.self.view_is c.self.invariant in
+    let known = subst (λ (j : Stepped). IsStepped j.loads j.set c.self.inside.depth c.self.inside.positions.items c.self.inside.rooms.items c.self.inside.busy) c.self.view_is c.self.invariant in
     let placed = subst IsPlaced same c.problem.ensures.placed in
     let is_problem : c.problem.result.now ≡ problem = c.problem.ensures.value ∙ ap (λ (l : Loaded). l.problem) same in
     let members : (i : ℕ) → is_among more i ≡ is_of p problem.duties i = λ i. c.duties_of-more.ensures.positions.members i ∙ ap (λ (m : Problem). is_of p m.duties i) is_problem in
@@ -63,11 +71,13 @@ longer c =
     let all = duties_with problem judged.loads.person p judged.set c.deref.result.now more c.in_ok-positions.positions.items old members c.in_ok-positions.ensures.rising c.in_ok-positions.ensures.members in
     let load = subst (λ (l : Loaded). IsLoadOf l.problem l.person p c.load.result.now) same (c.load.ensures (ap (λ (l : Loaded). is_among l.alone p) same ∙ c.requires.alone)) in
     let rooms = c.deref-3.ensures.value in
-    stepped-next judged p c.self.inside.depth c.self.inside.positions.items c.self.inside.rooms.items c.in_ok-positions.positions.items c.in_ok-rooms.rooms.items c.load.result.now placed known c.requires all load
+    stepped-next judged p c.self.inside.depth c.self.inside.busy (bit_or c.self.inside.busy c.busy.result) c.self.inside.positions.items c.self.inside.rooms.items c.in_ok-positions.positions.items c.in_ok-rooms.rooms.items c.load.result.now placed known c.requires all load
     (c.in_ok-rooms.ensures.long ∙ ap length rooms)
     (λ j. c.in_ok-rooms.ensures.each j ∙ ap (λ xs. slice_index xs j - slice_index c.load.result.now j) rooms)
+    (busy-stepped c.self.inside.loads.now judged p c.self.inside.depth c.self.inside.busy c.busy.result c.self.inside.positions.items c.self.inside.rooms.items same known c.busy.ensures c.requires.alone)
     (c.keeps_recovery_with.ensures.yes c.if-not-keeps_recovery_with.false)
     (c.has_room_for.ensures.yes c.if-not-has_room_for.false)
+    (c.has_days_off_with.ensures.yes c.if-not-has_days_off_with.false)
 
 -- which has the pairing behind
 set_is : (c : goal.In_ok-set) → c.in_ok-set.set ≡ c.args.self.now.set ++ c.args.p ∷ []
@@ -78,8 +88,8 @@ set_is c =
 pub invariant_of-result : goal.invariant_of-result
 invariant_of-result c =
     let same = ap (λ (j : Stepped). j.loads) c.self.view_is in
-    let known = subst (λ (set : List ℕ). IsStepped c.args.self.now.loads set (c.self.inside.depth + 1) c.in_ok-positions.positions.items c.in_ok-rooms.rooms.items) (sym (set_is c)) (longer c) in
-    subst (λ (l : Loaded). IsStepped l c.in_ok-set.set (c.self.inside.depth + 1) c.in_ok-positions.positions.items c.in_ok-rooms.rooms.items) (sym same) known
+    let known = subst (λ (set : List ℕ). IsStepped c.args.self.now.loads set (c.self.inside.depth + 1) c.in_ok-positions.positions.items c.in_ok-rooms.rooms.items (bit_or c.self.inside.busy c.busy.result)) (sym (set_is c)) (longer c) in
+    subst (λ (l : Loaded). IsStepped l c.in_ok-set.set (c.self.inside.depth + 1) c.in_ok-positions.positions.items c.in_ok-rooms.rooms.items (bit_or c.self.inside.busy c.busy.result)) (sym same) known
 
 pub returns : goal.returns
 returns c =
