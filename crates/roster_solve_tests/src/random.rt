@@ -37,8 +37,25 @@ impl Numbers {
     }
 }
 
-/// A person, who may be locked by what was flown in the year, may have leave on 4 March, and may have a
-/// fixed duty on 6 March.
+/// A short fixed duty of person `k` on each other day from 9 March on, so that there are no days off in a
+/// row after the 8th.
+fn push_busy_days(
+    alloc: Global,
+    book: &mut String,
+    k: u32,
+    base: &str,
+) -> Result<(), AllocError> {
+    for n in 0..12 {
+        let day = 9 + 2 * n;
+        let from = format!(in alloc; "2024-03-{day:02}T10:00Z")?;
+        let to = format!(in alloc; "2024-03-{day:02}T12:00Z")?;
+        book.push_str(&format!(in alloc; "duty,B{k}x{day},C,C{k},{base},{from},{to}\n")?)?;
+    }
+    Ok(())
+}
+
+/// A person, who may be locked by what was flown in the year, may have leave on 4 March, may have a
+/// fixed duty on 6 March, and may be busy later in the month.
 fn push_person(
     alloc: Global,
     book: &mut String,
@@ -56,6 +73,9 @@ fn push_person(
         book.push_str(&format!(in alloc;
             "duty,F{k},C,C{k},{base},2024-03-06T08:00Z,2024-03-06T16:00Z\n"
         )?)?;
+    }
+    if numbers.below(2) == 0 {
+        push_busy_days(alloc, book, k, base)?;
     }
     Ok(())
 }

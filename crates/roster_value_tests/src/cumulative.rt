@@ -6,7 +6,7 @@ use roster_cumulative::{
     month_flight,
 };
 use roster_instants::BaseDays;
-use roster_problem::{Duty, DutyList, Person, Rule, Sector};
+use roster_problem::{Duty, DutyList, Limit, Person, Rule, Sector};
 use std::process::Abort;
 
 // The list has these minutes of duty on these days.
@@ -258,19 +258,17 @@ fn the_first_limit_that_is_broken(rt: HostRuntime) {
 
 // Asks for limits one after another.
 fn are_judged(rt: &impl Abort, mut limits: ListLimits<'_>) {
-    for (rule, holds) in [
-        (Rule::Flight12, false),
-        (Rule::Duty7, false),
-        (Rule::FlightYear, true),
-        (Rule::Flight28, true),
-        (Rule::Duty28, true),
-        (Rule::Duty14, true),
-        (Rule::Flight12, false),
-        (Rule::Duty28, true),
-        // Rules that are no limits are none that is broken.
-        (Rule::Overlap, true),
+    for (limit, holds) in [
+        (Limit::Flight12, false),
+        (Limit::Duty7, false),
+        (Limit::FlightYear, true),
+        (Limit::Flight28, true),
+        (Limit::Duty28, true),
+        (Limit::Duty14, true),
+        (Limit::Flight12, false),
+        (Limit::Duty28, true),
     ] {
-        assert!(rt; limits.holds(rule) == holds);
+        assert!(rt; limits.holds(limit) == holds);
     }
 }
 

@@ -1,8 +1,9 @@
-//! The rules of rest.
+//! The rules of rest and of days off.
 
 use crate::given::{duties, duty, list_of, march, minute, name};
+use roster_instants::BaseDays;
 use roster_problem::{Base, Duty};
-use roster_restrules::{is_recurrent, rest_needed, rest_ok};
+use roster_restrules::{days_ok, is_recurrent, rest_needed, rest_ok};
 use std::process::Abort;
 
 // A base in March 2024.
@@ -107,5 +108,51 @@ fn recurrent_rests_have_their_length_and_nights(rt: HostRuntime) {
     ] {
         let found = is_recurrent(&days, minute(&rt, from), minute(&rt, to));
         assert!(rt; found == is_recurrent_rest, "{from} {to}");
+    }
+}
+
+// Whether the list of the duties at the positions leaves two days off, twice.
+fn has_days_off<R: Abort + AllocGlobal>(
+    rt: &R,
+    days: &BaseDays,
+    duties: &[Duty],
+    positions: &[u16],
+) -> bool {
+    days_ok(days, &list_of(rt, duties, positions))
+}
+
+#[test]
+fn two_days_are_off_twice(rt: HostRuntime) {
+    let days = march(&rt);
+    let duties = duties(
+        &rt,
+        &[
+            // All days but 1 to 4 March, which are off twice, also if the duty before ends as they begin.
+            ("AMS", "2024-03-05T00:00Z", "2024-04-02T12:00Z"),
+            ("AMS", "2024-02-28T12:00Z", "2024-03-01T00:00Z"),
+            // A minute of 1, of 4 and of 2 March.
+            ("AMS", "2024-02-29T12:00Z", "2024-03-01T00:01Z"),
+            ("AMS", "2024-03-04T23:59Z", "2024-03-05T00:00Z"),
+            ("AMS", "2024-03-02T12:00Z", "2024-03-02T12:01Z"),
+            // All days but 28 to 31 March: days off after the month don't count.
+            ("AMS", "2024-02-29T12:00Z", "2024-03-28T00:00Z"),
+            ("AMS", "2024-02-29T12:00Z", "2024-03-28T00:01Z"),
+            // A night of two days in the middle of the month.
+            ("AMS", "2024-03-16T23:00Z", "2024-03-17T01:00Z"),
+        ],
+    );
+    let lists: [(&[u16], bool); 9] = [
+        (&[], true),
+        (&[1, 0], true),
+        (&[2, 0], false),
+        (&[3, 0], false),
+        (&[4, 0], false),
+        (&[5], true),
+        (&[6], false),
+        (&[5, 0], false),
+        (&[1, 7], true),
+    ];
+    for (positions, is_kept) in lists {
+        assert!(rt; has_days_off(&rt, &days, &duties, positions) == is_kept);
     }
 }

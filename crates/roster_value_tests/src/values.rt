@@ -30,6 +30,7 @@ fn rules_have_words(rt: HostRuntime) {
         "FLIGHT28",
         "FLIGHTYEAR",
         "FLIGHT12",
+        "DAYS2",
     ];
     for (rule, word) in Rule::ALL.iter().zip(words) {
         assert!(rt; rule.word() == word);
