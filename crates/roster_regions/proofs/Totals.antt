@@ -1,11 +1,14 @@
 -- Sums over ranges and lists.
-use Rattle.std.proofs.Common.{◌≡◌, ℕ, zero, suc, ◌+◌, ◌<◌, ◌≤◌, List, [], ◌∷◌, length, get_or, take, drop, ℤ, pos, ◌+ℤ◌, ◌-ℤ◌, ◌≤ℤ◌, refl, sym, ap, ◌∙◌, inl, inr, arith}
+use Rattle.std.proofs.Common.{◌≡◌, ℕ, zero, suc, ◌+◌, ◌*◌, ◌<◌, ◌≤◌, List, [], ◌∷◌, length, get_or, take, drop, ℤ, pos, ◌+ℤ◌, ◌-ℤ◌, ◌≤ℤ◌, refl, sym, ap, ◌∙◌, inl, inr, arith}
+use Rattle.std.specs.Prelude.{All}
 use Rattle.std.specs.List.{range_with_len}
 use Rattle.std.proofs.lemmas.Bool.{cases_eq}
 use Rattle.std.proofs.lemmas.Int.{ints}
 use Rattle.std.proofs.lemmas.List.{drop_all, drop_more, take_more}
+use Rattle.std.proofs.lemmas.List.Elements.{All-head, All-tail}
 use Rattle.roster_model.specs.Costs.{total}
 use Rattle.roster_model.proofs.CostLemmas.{total-nil, total-cons, total-append}
+use Rattle.roster_cost.specs.Amounts.{IsWithin}
 
 total-range_last : (f : ℕ → ℤ) (first n last : ℕ) → first + n ≡ last → total f (range_with_len first (suc n)) ≡ total f (range_with_len first n) +ℤ f last
 total-range_last f first zero last at =
@@ -24,6 +27,15 @@ total-take_more xs i inside =
     let x : ℤ = get_or xs i (pos 0) in
     let split = ap (total (λ (y : ℤ). y)) (take_more xs i (pos 0) inside) ∙ total-append (λ (y : ℤ). y) (take i xs) (x ∷ []) in
     omega (arith, ints, split, total-cons (λ (y : ℤ). y) x [], total-nil (λ (y : ℤ). y))
+
+-- a sum is no further from 0 than its elements are at most
+pub total-within : (xs : List ℤ) (most : ℕ) → All (IsWithin most) xs → IsWithin (length xs * most) (total (λ x. x) xs)
+total-within [] most each = (omega (arith, ints, total-nil (λ (x : ℤ). x)), omega (arith, ints, total-nil (λ (x : ℤ). x)))
+total-within (x ∷ xs) most each =
+    let here = All-head (IsWithin most) x xs each in
+    let rest = total-within xs most (All-tail (IsWithin most) x xs each) in
+    let split = total-cons (λ (y : ℤ). y) x xs in
+    (omega (arith, ints, split, here.0, rest.0), omega (arith, ints, split, here.1, rest.1))
 
 -- the sum of a list is that of its elements by their places
 total-drop : (xs : List ℤ) (n i : ℕ) → i + n ≡ length xs → total (λ x. x) (drop i xs) ≡ total (λ k. get_or xs k (pos 0)) (range_with_len i n)

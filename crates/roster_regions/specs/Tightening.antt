@@ -2,7 +2,7 @@
 use Rattle.std.specs.Prelude.{◌≡◌, List, length, ℤ, All}
 use Rattle.roster_model.specs.Problem.{Problem}
 use Rattle.roster_cost.specs.Amounts.{IsWithin}
-use Rattle.roster_regions.specs.declared.choice.TheConstants.{MOST_SLACK, MOST_VALUE}
+use Rattle.roster_regions.specs.declared.choice.TheConstants.{MOST_SLACK, MOST_TERM, MOST_VALUE}
 use Rattle.roster_regions.specs.declared.tighten.Bounds.{Bounds}
 use Rattle.roster_regions.specs.Bounds.{IsSlack}
 use Rattle.roster_regions.specs.Regions.{Region}
@@ -10,7 +10,7 @@ use Rattle.roster_regions.specs.Regions.{Region}
 -- the numbers and the slack are within their limits
 pub record AreNear (bounds : Bounds) : Type 0 where
   pub values : All (IsWithin MOST_VALUE) bounds.values.items
-  pub terms : All (IsWithin MOST_VALUE) bounds.terms.items
+  pub terms : All (IsWithin MOST_TERM) bounds.terms.items
   pub slack : IsWithin MOST_SLACK bounds.slack
 
 -- one number for each person and each pairing, and a slack above them

@@ -3,15 +3,15 @@
 ghost use Rattle.std.specs.Prelude.{◌≡◌, ◌<◌, ◌≤◌, ◌*◌, ℕ, List, ◌≤ℤ◌, All, IfOk, length, pos};
 ghost use Rattle.roster_model.specs.Costs.{total};
 ghost use Rattle.roster_cost.specs.Amounts.{IsWithin};
-ghost use Rattle.roster_regions.specs.Bounds.{fine_cost, fine_penalty, term_of, AreLeastValues, AreTerms};
+ghost use Rattle.roster_regions.specs.Bounds.{bound_of, fine_cost, fine_penalty, term_of, AreLeastValues, AreTerms};
 ghost use Rattle.roster_regions.specs.Prices.{ArePrices};
 ghost use Rattle.roster_regions.specs.Regions.{IsIn, IsRegion};
 
-use crate::choice::{MOST_SCALE, MOST_TERM, MOST_VALUE};
+use crate::choice::{MOST_BOUND, MOST_SCALE, MOST_TERM, MOST_VALUE};
 use crate::region::Region;
 use crate::sums::price_of;
 use roster_cost::priced_shares_add_up;
-use roster_model::limits::{MOST_PAIRINGS, MOST_PENALTY};
+use roster_model::limits::{MOST_PAIRINGS, MOST_PENALTY, MOST_PERSONS};
 use roster_problem::Problem;
 use std::alloc::{AllocError, Global};
 
@@ -26,17 +26,29 @@ fn scaled(scale: u32, penalty: u32) -> i64
 }
 
 /// The sum of a few values.
-pub(crate) fn sum_of(values: &[i64]) -> i64
+fn sum_of(values: &[i64]) -> i64
     requires few { length values.now ≤ MOST_PAIRINGS }
     requires within { All (IsWithin MOST_VALUE) values.now }
-    ensures value { result ≡ total (λ value. value) values.now }
-    ensures bound { IsWithin (MOST_PAIRINGS * MOST_VALUE) result }
+    ensures { result ≡ total (λ value. value) values.now }
 {
     let mut sum = 0;
     for value in values {
         sum += *value;
     }
     sum
+}
+
+/// The bound that persons' values and pairings' terms make. There are fewer persons than pairings, and a
+/// term is much smaller than a value, so two such sums and a limit fit a word.
+pub(crate) fn sum_of_both(values: &[i64], terms: &[i64]) -> i64
+    requires persons { length values.now ≤ MOST_PERSONS }
+    requires pairings { length terms.now ≤ MOST_PAIRINGS }
+    requires values { All (IsWithin MOST_VALUE) values.now }
+    requires terms { All (IsWithin MOST_TERM) terms.now }
+    ensures value { result ≡ bound_of values.now terms.now }
+    ensures bound { IsWithin MOST_BOUND result }
+{
+    sum_of(values) + sum_of(terms)
 }
 
 impl Region {
@@ -75,7 +87,7 @@ impl Region {
         requires pairing { p < length problem.now.pairings }
         requires prices { ArePrices prices.now }
         ensures value { result ≡ term_of problem.now self.now prices.now p }
-        ensures bound { IsWithin MOST_VALUE result }
+        ensures bound { IsWithin MOST_TERM result }
     {
         let penalty = self.penalty(problem, p);
         let price = price_of(prices, p);
@@ -98,7 +110,7 @@ impl Region {
         requires { ArePrices prices.now }
         ensures terms { IfOk result
             (λ terms. AreTerms problem.now self.now prices.now terms.items) }
-        ensures within { IfOk result (λ terms. All (IsWithin MOST_VALUE) terms.items) }
+        ensures within { IfOk result (λ terms. All (IsWithin MOST_TERM) terms.items) }
     {
         let mut terms = Vec::with_capacity(alloc, problem.pairings().len())?;
         for p in 0..problem.pairings().len() {
@@ -119,6 +131,6 @@ impl Region {
         priced_shares_add_up();
         let values = self.least_values(alloc, problem, prices)?;
         let terms = self.terms(alloc, problem, prices)?;
-        Ok(sum_of(&values) + sum_of(&terms))
+        Ok(sum_of_both(&values, &terms))
     }
 }

@@ -6,7 +6,7 @@ ghost use Rattle.roster_regions.specs.Bounds.{CostsAtMost, IsAllAbove, IsShareWi
 ghost use Rattle.roster_regions.specs.Prices.{ArePrices};
 ghost use Rattle.roster_regions.specs.Regions.{IsNarrowed, IsRegion};
 
-use crate::bound::sum_of;
+use crate::bound::sum_of_both;
 use crate::choice::MOST_LIMIT;
 use crate::region::Region;
 use crate::sums::price_of;
@@ -227,7 +227,7 @@ impl Region {
         priced_shares_add_up();
         let values = self.least_values(alloc, problem, prices)?;
         let terms = self.terms(alloc, problem, prices)?;
-        let bound = sum_of(&values) + sum_of(&terms);
+        let bound = sum_of_both(&values, &terms);
         if limit < bound {
             return Ok(None);
         }

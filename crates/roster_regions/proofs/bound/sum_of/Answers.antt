@@ -1,5 +1,6 @@
 use Rattle.std.proofs.Common.{◌+◌, ◌≤◌, get_or, pos, ◌+ℤ◌, SFits, w64, to_z, of_z, sym, arith}
 use Rattle.std.proofs.lemmas.Int.{ints, to_z-of_z}
+use Rattle.roster_model.specs.declared.limits.TheConstants.{MOST_PAIRINGS}
 use Rattle.roster_model.proofs.CostLemmas.{total-nil}
 use Rattle.roster_regions.proofs.Totals.{total-take_more}
 use Rattle.roster_regions.proofs.bound.sum_of.Goals as goal
@@ -20,7 +21,7 @@ loop-value-preserved c =
     let more = total-take_more values i c.loop-value-test.true in
     let low = c.loop-value.invariant.bound.0 in
     let high = c.loop-value.invariant.bound.1 in
-    let few : i + 1 ≤ 256 = omega (arith, c.requires.few, c.loop-value-test.true) in
+    let few : i + 1 ≤ MOST_PAIRINGS = omega (arith, c.requires.few, c.loop-value-test.true) in
     let both : SFits w64 (to_z w64 c.loop-value.sum-bits +ℤ to_z w64 (of_z w64 (get_or values i (pos 0)))) = omega (arith, ints, here.0, here.1, item, low, high, few) in
     let new = to_z-of_z w64 (to_z w64 c.loop-value.sum-bits +ℤ to_z w64 (of_z w64 (get_or values i (pos 0)))) both in
     record {

@@ -1,6 +1,6 @@
-use Rattle.std.proofs.Common.{ℕ, List, ℤ, ap, ◌∙◌, w64, arith}
+use Rattle.std.proofs.Common.{ℕ, List, ap₂, ◌∙◌, w64, arith}
 use Rattle.std.proofs.lemmas.Int.{ints, to_z-of_z}
-use Rattle.roster_model.specs.Costs.{total}
+use Rattle.roster_regions.specs.Bounds.{bound_of}
 use Rattle.roster_regions.specs.Regions.{IsIn}
 use Rattle.roster_regions.proofs.BoundLemmas.{all_above, slack_is, IsPriced}
 use Rattle.roster_regions.proofs.region.Region.bounds.Goals as goal
@@ -8,17 +8,15 @@ use Rattle.roster_regions.proofs.region.Region.bounds.Goals as goal
 pub returns-then-limit-bound : goal.returns-then-limit-bound
 returns-then-limit-bound c =
     let law : (places : List ℕ) → IsIn c.args.problem.now c.args.self.now places → IsPriced c.args.problem.now places = λ places there y. c.priced_shares_add_up.ensures c.args.problem.now y places there.legal.covers there.legal.numbers in
-    let values = c.sum_of.ensures.value ∙ ap (total (λ (z : ℤ). z)) c.deref.ensures.value in
-    let terms = c.sum_of-2.ensures.value ∙ ap (total (λ (z : ℤ). z)) c.deref-2.ensures.value in
+    let bound = c.sum_of_both-bound.ensures.value ∙ ap₂ bound_of c.deref.ensures.value c.deref-2.ensures.value in
     let most = to_z-of_z w64 c.args.limit c.ranges.limit in
     all_above c.args.problem.now c.args.self.now c.args.prices.now c.in_ok-values.values.items c.in_ok-terms.terms.items c.args.most c.args.limit c.requires.region c.in_ok-values.ensures.least c.in_ok-terms.ensures.terms law c.requires.limit
-    (omega (arith, ints, most, c.if-limit-bound.true, values, terms, c.sum_of.ensures.bound.0, c.sum_of.ensures.bound.1, c.sum_of-2.ensures.bound.0, c.sum_of-2.ensures.bound.1))
+    (omega (arith, ints, most, c.if-limit-bound.true, bound, c.sum_of_both-bound.ensures.bound.0, c.sum_of_both-bound.ensures.bound.1))
 
 pub returns : goal.returns
 returns c =
     let law : (places : List ℕ) → IsIn c.args.problem.now c.args.self.now places → IsPriced c.args.problem.now places = λ places there y. c.priced_shares_add_up.ensures c.args.problem.now y places there.legal.covers there.legal.numbers in
-    let values = c.sum_of.ensures.value ∙ ap (total (λ (z : ℤ). z)) c.deref.ensures.value in
-    let terms = c.sum_of-2.ensures.value ∙ ap (total (λ (z : ℤ). z)) c.deref-2.ensures.value in
+    let bound = c.sum_of_both-bound.ensures.value ∙ ap₂ bound_of c.deref.ensures.value c.deref-2.ensures.value in
     let most = to_z-of_z w64 c.args.limit c.ranges.limit in
     record {
       persons = c.in_ok-values.ensures.least.covers;
@@ -26,8 +24,8 @@ returns c =
       near = record {
         values = c.in_ok-values.ensures.within;
         terms = c.in_ok-terms.ensures.within;
-        slack = (omega (arith, ints, most, c.requires.near.0, c.requires.near.1, c.sum_of.ensures.bound.0, c.sum_of.ensures.bound.1, c.sum_of-2.ensures.bound.0, c.sum_of-2.ensures.bound.1), omega (arith, ints, most, c.requires.near.0, c.requires.near.1, c.sum_of.ensures.bound.0, c.sum_of.ensures.bound.1, c.sum_of-2.ensures.bound.0, c.sum_of-2.ensures.bound.1));
+        slack = (omega (arith, ints, most, c.requires.near.0, c.requires.near.1, c.sum_of_both-bound.ensures.bound.0, c.sum_of_both-bound.ensures.bound.1), omega (arith, ints, most, c.requires.near.0, c.requires.near.1, c.sum_of_both-bound.ensures.bound.0, c.sum_of_both-bound.ensures.bound.1));
       };
       is_slack = slack_is c.args.problem.now c.args.self.now c.args.prices.now c.in_ok-values.values.items c.in_ok-terms.terms.items c.args.most c.args.limit _ c.requires.region c.in_ok-values.ensures.least c.in_ok-terms.ensures.terms law c.requires.limit
-          (omega (arith, ints, most, values, terms, c.requires.near.0, c.requires.near.1, c.sum_of.ensures.bound.0, c.sum_of.ensures.bound.1, c.sum_of-2.ensures.bound.0, c.sum_of-2.ensures.bound.1));
+          (omega (arith, ints, most, bound, c.requires.near.0, c.requires.near.1, c.sum_of_both-bound.ensures.bound.0, c.sum_of_both-bound.ensures.bound.1));
     }

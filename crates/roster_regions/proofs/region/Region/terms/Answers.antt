@@ -4,7 +4,7 @@ use Rattle.std.proofs.lemmas.Int.{ints, to_z-of_z}
 use Rattle.std.proofs.lemmas.List.{length_push}
 use Rattle.std.proofs.lemmas.List.Elements.{All-push}
 use Rattle.roster_cost.specs.Amounts.{IsWithin}
-use Rattle.roster_regions.specs.declared.choice.TheConstants.{MOST_VALUE}
+use Rattle.roster_regions.specs.declared.choice.TheConstants.{MOST_TERM}
 use Rattle.roster_regions.specs.Bounds.{term_of}
 use Rattle.roster_regions.proofs.BoundLemmas.{more_leasts}
 use Rattle.roster_regions.proofs.region.Region.terms.Goals as goal
@@ -18,5 +18,5 @@ loop-p-preserved c =
     record {
       covers = ap length pushed ∙ length_push old c.term.result ∙ ap (λ n. n + 1) c.loop-p.invariant.covers;
       term = more_leasts (λ q z. z ≡ term_of c.args.problem.now c.args.self.now c.args.prices.now q) old c.push.new.self.items c.term.result c.loop-p.p pushed c.loop-p.invariant.covers c.loop-p.invariant.term c.term.ensures.value;
-      within = subst (All (IsWithin MOST_VALUE)) (sym pushed) (All-push (IsWithin MOST_VALUE) old c.term.result c.loop-p.invariant.within c.term.ensures.bound);
+      within = subst (All (IsWithin MOST_TERM)) (sym pushed) (All-push (IsWithin MOST_TERM) old c.term.result c.loop-p.invariant.within c.term.ensures.bound);
     }

@@ -1,7 +1,7 @@
 use Rattle.std.proofs.Common.{◌≡◌, ◌<◌, ℕ, length, get_or, pos}
 use Rattle.std.specs.Prelude.{All}
 use Rattle.roster_cost.specs.Amounts.{IsWithin}
-use Rattle.roster_regions.specs.declared.choice.TheConstants.{MOST_VALUE}
+use Rattle.roster_regions.specs.declared.choice.TheConstants.{MOST_TERM}
 use Rattle.roster_regions.specs.Bounds.{term_of}
 use Rattle.roster_regions.proofs.region.Region.terms.Given as goal
 
@@ -10,5 +10,5 @@ abbrev pub invariant-loop-p : goal.invariant-loop-p
 invariant-loop-p l = record {
   covers : length l.terms.items ≡ l.p;
   term : (q : ℕ) → q < l.p → get_or l.terms.items q (pos 0) ≡ term_of l.problem l.self l.prices q;
-  within : All (IsWithin MOST_VALUE) l.terms.items;
+  within : All (IsWithin MOST_TERM) l.terms.items;
 }
