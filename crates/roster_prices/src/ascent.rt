@@ -51,7 +51,7 @@ impl Ascent {
             bound: i64::MIN,
             fixed: i64::MIN,
             stalled: 0,
-            look: Look::new(alloc)?,
+            look: Look::new(alloc, prices.prices().len())?,
             looks: Vec::new(alloc),
             amounts: Vec::new(alloc),
         })
@@ -121,7 +121,8 @@ impl Ascent {
             return self.look(problem, region, room);
         }
         for _ in self.looks.len()..threads {
-            self.looks.push(Look::new(alloc)?)?;
+            self.looks
+                .push(Look::new(alloc, problem.pairings().len())?)?;
         }
         let prices = &self.now;
         let look = |turn: usize, look: &mut Look|

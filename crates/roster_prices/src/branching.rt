@@ -5,7 +5,6 @@ ghost use Rattle.roster_regions.specs.Regions.{IsRegion};
 
 use crate::dual_prices::DualPrices;
 use crate::look::{Look, WHOLE};
-use roster_model::limits::MOST_PAIRINGS;
 use roster_problem::Problem;
 use roster_regions::Region;
 use std::alloc::{AllocError, Global};
@@ -38,7 +37,7 @@ pub fn branch(
     requires { IsRegion problem.now region.now }
 {
     let crowds = crowds(alloc, problem, region)?;
-    let mut look = Look::new(alloc)?;
+    let mut look = Look::new(alloc, problem.pairings().len())?;
     let mut best = Candidate {
         weight: u64::MAX,
         k: 0,
@@ -59,7 +58,7 @@ pub fn branch(
 fn crowds(alloc: Global, problem: &Problem, region: &Region) -> Result<Vec<u64>, AllocError>
     requires { IsRegion problem.now region.now }
 {
-    let mut crowds = vec![in alloc; 0_u64; MOST_PAIRINGS]?;
+    let mut crowds = vec![in alloc; 0_u64; problem.pairings().len()]?;
     for k in 0..problem.persons().len() {
         let possible = region.possible(k);
         for p in 0..crowds.len() {

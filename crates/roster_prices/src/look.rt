@@ -6,7 +6,6 @@ ghost use Rattle.roster_regions.specs.Regions.{IsRegion};
 use crate::dual_prices::DualPrices;
 use crate::powers::halved;
 use crate::reading::number_at;
-use roster_model::limits::MOST_PAIRINGS;
 use roster_problem::Problem;
 use roster_regions::{Choice, Region};
 use std::alloc::{AllocError, Global};
@@ -37,14 +36,16 @@ pub(crate) struct Look {
 }
 
 impl Look {
-    /// Nothing was looked at.
-    pub(crate) fn new(alloc: Global) -> Result<Look, AllocError> {
+    /// Nothing was looked at, in a problem of so many pairings.
+    pub(crate) fn new(alloc: Global, pairings: usize) -> Result<Look, AllocError> {
+        // No line is deeper than there are pairings, and below the deepest one there is nothing.
+        let depths = pairings.saturating_add(2);
         Ok(Look {
-            covers: vec![in alloc; 0; MOST_PAIRINGS]?,
+            covers: vec![in alloc; 0; pairings]?,
             values: Vec::new(alloc),
-            sums: vec![in alloc; 0; MOST_PAIRINGS + 2]?,
-            weights: vec![in alloc; 0; MOST_PAIRINGS + 2]?,
-            masses: vec![in alloc; 0; MOST_PAIRINGS]?,
+            sums: vec![in alloc; 0; depths]?,
+            weights: vec![in alloc; 0; depths]?,
+            masses: vec![in alloc; 0; pairings]?,
             bound: 0,
             undecided: 0,
             failed: false,

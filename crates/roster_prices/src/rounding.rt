@@ -5,7 +5,6 @@ ghost use Rattle.roster_regions.specs.Regions.{IsRegion};
 
 use crate::dual_prices::scaled_penalty;
 use crate::reading::number_at;
-use roster_model::limits::MOST_PAIRINGS;
 use roster_problem::{Problem, open_number};
 use roster_regions::{Choice, Region};
 use std::alloc::{AllocError, Global};
@@ -82,7 +81,7 @@ impl Draft {
         Ok(Draft {
             chosen: vec![in alloc; 0; problem.persons().len()]?,
             nobody: open_number(problem),
-            sums: vec![in alloc; 0; MOST_PAIRINGS + 1]?,
+            sums: vec![in alloc; 0; problem.pairings().len().saturating_add(1)]?,
         })
     }
 
