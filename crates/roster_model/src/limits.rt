@@ -13,10 +13,10 @@ pub const MOST_ZONE_BYTES: usize = 64;
 pub const MOST_BASES: usize = 16;
 
 /// The persons of a book, at most.
-pub const MOST_PERSONS: usize = 64;
+pub const MOST_PERSONS: usize = 128;
 
 /// The pairings of a book, at most.
-pub const MOST_PAIRINGS: usize = 256;
+pub const MOST_PAIRINGS: usize = 512;
 
 /// The duties of a book, at most.
 pub const MOST_DUTIES: usize = 4096;
@@ -57,7 +57,7 @@ pub const LAST_WORKER: u32 = MOST_WORKERS - 1;
 pub const MOST_STEP_NUMBER: u32 = 1_000_000;
 
 /// The legal sets of a person, at most.
-pub const MOST_LINES: usize = 60_000;
+pub const MOST_LINES: usize = 200_000;
 
 /// The minutes of a target, and of what was flown before the month, at most.
 pub const MOST_MINUTES: u32 = 60_000;

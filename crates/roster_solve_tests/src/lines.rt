@@ -17,8 +17,10 @@ use std::thread::Threads;
 /// Five pairings on one day, and five on the next.
 const TWO_DAYS: [u8; 10] = [4, 4, 4, 4, 4, 5, 5, 5, 5, 5];
 
-/// Pairings any of which go together: more than 60000 sets.
-const MANY: [u8; 16] = [1, 3, 5, 7, 9, 11, 13, 15, 17, 19, 21, 23, 25, 27, 29, 31];
+/// Eight pairings on the first day, and one on every other day after it: more than `MOST_LINES` sets.
+const MANY: [u8; 23] = [
+    1, 1, 1, 1, 1, 1, 1, 1, 3, 5, 7, 9, 11, 13, 15, 17, 19, 21, 23, 25, 27, 29, 31,
+];
 
 /// On those two days B is away on the first, and C on the second.
 const THREE: &[u8] = b"crew,A,BAS,0,0,0
@@ -125,6 +127,7 @@ fn are_alone(rt: &impl Abort, lines: &Lines) {
     assert!(rt; lines.set(0).is_empty());
     for i in 1..MOST_PAIRINGS + 1 {
         assert!(rt; lines.set(i) == set_of(&[i - 1]));
+        assert!(rt; lines.run_of(i - 1) == (i, i + 1));
     }
 }
 

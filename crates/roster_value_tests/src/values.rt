@@ -40,6 +40,9 @@ fn rules_have_words(rt: HostRuntime) {
     }
 }
 
+/// The last place that a set may have.
+const LAST: usize = MOST_PAIRINGS - 1;
+
 // The set of these places.
 fn set_of(places: &[usize]) -> Set {
     let mut set = Set::empty();
@@ -53,19 +56,19 @@ fn set_of(places: &[usize]) -> Set {
 
 #[test]
 fn a_set_has_what_was_put_into_it(rt: HostRuntime) {
-    let set = set_of(&[200, 3, 64, 63, 255, 3]);
+    let set = set_of(&[200, 3, 64, 63, LAST, 3]);
     for (place, is_in) in [
         (3, true),
         (63, true),
         (64, true),
         (200, true),
-        (255, true),
+        (LAST, true),
         (0, false),
         (2, false),
         (62, false),
         (65, false),
-        (254, false),
-        (256, false),
+        (LAST - 1, false),
+        (LAST + 1, false),
         (usize::MAX, false),
     ] {
         assert!(rt; set.has(place) == is_in, "{place}");
@@ -77,23 +80,24 @@ fn a_set_has_what_was_put_into_it(rt: HostRuntime) {
 
 #[test]
 fn sets_are_equal_where_they_have_the_same_pairings(rt: HostRuntime) {
-    let set = set_of(&[3, 64, 200]);
-    assert!(rt; set == set_of(&[200, 3, 64]));
-    assert!(rt; set != set_of(&[3, 64]));
+    let set = set_of(&[3, 64, 200, LAST]);
+    assert!(rt; set == set_of(&[200, LAST, 3, 64]));
+    assert!(rt; set != set_of(&[3, 64, LAST]));
+    assert!(rt; set != set_of(&[3, 64, 200]));
     assert!(rt; set != Set::empty());
 }
 
 #[test]
 fn a_set_is_gone_over_in_ascending_order(rt: HostRuntime) {
-    let set = set_of(&[200, 3, 64, 63, 255]);
+    let set = set_of(&[200, 3, 64, 63, LAST]);
     for (from, first) in [
         (0, Some(3)),
         (3, Some(3)),
         (4, Some(63)),
         (64, Some(64)),
         (65, Some(200)),
-        (201, Some(255)),
-        (256, None),
+        (201, Some(LAST)),
+        (LAST + 1, None),
         (usize::MAX, None),
     ] {
         assert!(rt; set.first_from(from) == first, "{from}");
@@ -103,11 +107,19 @@ fn a_set_is_gone_over_in_ascending_order(rt: HostRuntime) {
 
 #[test]
 fn sets_meet_where_they_share_a_pairing(rt: HostRuntime) {
-    let set = set_of(&[3, 64, 200]);
+    let set = set_of(&[3, 64, 200, LAST]);
     assert!(rt; set.meets(&set_of(&[200])));
     assert!(rt; set.meets(&set_of(&[5, 64, 65])));
-    assert!(rt; !set.meets(&set_of(&[4, 65, 128, 201])));
+    assert!(rt; set.meets(&set_of(&[4, LAST])));
+    assert!(rt; !set.meets(&set_of(&[4, 65, 128, 201, LAST - 1])));
     assert!(rt; !set.meets(&Set::empty()));
+}
+
+#[test]
+fn two_sets_have_some_pairings_in_common(rt: HostRuntime) {
+    let set = set_of(&[3, 64, 200, LAST]);
+    assert!(rt; set.and(&set_of(&[5, 64, 65, LAST])) == set_of(&[64, LAST]));
+    assert!(rt; set.and(&set_of(&[4, 65, 128, 201, LAST - 1])).is_empty());
 }
 
 #[test]
