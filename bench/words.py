@@ -1,0 +1,46 @@
+"""The words of a command line, as the tools of this folder read them."""
+
+import argparse
+import inspect
+import os
+import sys
+
+
+class Words(argparse.ArgumentParser):
+    """Refuses what it doesn't know in one sentence, with status 2. --help prints the tool's docstring."""
+
+    def __init__(self, doc):
+        super().__init__(add_help=False, allow_abbrev=False)
+        self.doc = inspect.cleandoc(doc)
+
+    def read(self):
+        if "--help" in sys.argv[1:]:
+            print(self.doc)
+            sys.exit()
+        return self.parse_args()
+
+    def error(self, message):
+        sys.stderr.write(f"bench/{os.path.basename(sys.argv[0])}: {message}; --help tells what it takes.\n")
+        sys.exit(2)
+
+
+def number(least, most=10**9):
+    """A reader of numbers from the least to the most."""
+
+    def read(word):
+        if not (word.isascii() and word.isdigit() and least <= int(word) <= most):
+            raise argparse.ArgumentTypeError(f"'{word}' is no number from {least} to {most}")
+        return int(word)
+
+    return read
+
+
+def one_of(*numbers):
+    """A reader of one of these numbers."""
+
+    def read(word):
+        if word not in map(str, numbers):
+            raise argparse.ArgumentTypeError(f"'{word}' is none of {', '.join(map(str, numbers))}")
+        return int(word)
+
+    return read
