@@ -39,12 +39,7 @@ impl Numbers {
 
 /// A short fixed duty of person `k` on each other day from 9 March on, so that there are no days off in a
 /// row after the 8th.
-fn push_busy_days(
-    alloc: Global,
-    book: &mut String,
-    k: u32,
-    base: &str,
-) -> Result<(), AllocError> {
+fn push_busy_days(alloc: Global, book: &mut String, k: u32, base: &str) -> Result<(), AllocError> {
     for n in 0..12 {
         let day = 9 + 2 * n;
         let from = format!(in alloc; "2024-03-{day:02}T10:00Z")?;
