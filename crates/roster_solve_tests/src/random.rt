@@ -37,11 +37,13 @@ impl Numbers {
     }
 }
 
+/// Each other day of March from the 9th on.
+const BUSY_DAYS: [u32; 12] = [9, 11, 13, 15, 17, 19, 21, 23, 25, 27, 29, 31];
+
 /// A short fixed duty of person `k` on each other day from 9 March on, so that there are no days off in a
 /// row after the 8th.
 fn push_busy_days(alloc: Global, book: &mut String, k: u32, base: &str) -> Result<(), AllocError> {
-    for n in 0..12 {
-        let day = 9 + 2 * n;
+    for day in BUSY_DAYS {
         let from = format!(in alloc; "2024-03-{day:02}T10:00Z")?;
         let to = format!(in alloc; "2024-03-{day:02}T12:00Z")?;
         book.push_str(&format!(in alloc; "duty,B{k}x{day},C,C{k},{base},{from},{to}\n")?)?;
