@@ -18,3 +18,4 @@ pub mod Lines
 pub mod Settled
 pub mod Texts
 pub mod Answer
+pub mod Plans

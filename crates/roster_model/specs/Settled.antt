@@ -1,5 +1,5 @@
--- Which roster is the best, and what a search says of some rosters. They are given by a region: a
--- condition on lists of places.
+-- Which roster is the best, what a search says of some rosters, and what no roster costs less than. Some
+-- rosters are given by a region: a condition on lists of places.
 use Rattle.std.specs.Prelude.{◌≡◌, ◌⊎◌, ℕ, true, List, Option, Some, None, ℤ, ◌≤ℤ◌, ◌<ℤ◌, IfSome}
 use Rattle.roster_model.specs.Problem.{Problem}
 use Rattle.roster_model.specs.Costs.{cost_of}
@@ -52,3 +52,7 @@ CostsMore problem Region most =
 abbrev pub IsFoundWithin : Problem → (List ℕ → Type 0) → ℤ → Option Key → Type 0
 IsFoundWithin problem Region most None = CostsMore problem Region most
 IsFoundWithin problem Region most (Some key) = IsWithinCost problem Region most key
+
+-- no legal roster costs less
+abbrev pub IsLowerBound : Problem → ℤ → Type 0
+IsLowerBound problem bound = (places : List ℕ) → IsLegalRoster problem places → bound ≤ℤ cost_of problem places

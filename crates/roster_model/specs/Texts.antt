@@ -1,5 +1,5 @@
 -- The lines that the program writes. Each ends with a line feed; words are parted by one space.
-use Rattle.std.specs.Prelude.{◌≡◌, ℕ, ◌/◌, ◌%◌, List, [], ◌∷◌, ◌++◌, Option, Some, None, map, slice_get, unwrap_or, codes}
+use Rattle.std.specs.Prelude.{◌≡◌, ℕ, ◌/◌, ◌%◌, List, [], ◌∷◌, ◌++◌, Option, Some, None, map, slice_get, unwrap_or, codes, ℤ}
 use Rattle.std.specs.List.{flat_map, join_with_byte, enumerate_from}
 use Rattle.std.specs.Fmt.{decimal, signed_decimal}
 use Rattle.roster_model.specs.declared.profile.TheConstants.{SHORT_RUN, MIDDLE_RUN, LONG_RUN}
@@ -67,18 +67,38 @@ unfoldable pub crew_lines : Problem → List (Option Rule) → List ℕ → List
 crew_lines problem locks places =
     person_lines (λ k person. crew_line problem (set_of k places) k person) problem locks
 
+-- who flies what: the lines of all persons, and the line of the pairings that are left open
+abbrev pub roster_lines : Problem → List (Option Rule) → List ℕ → List ℕ
+roster_lines problem locks places =
+    crew_lines problem locks places
+    ++ line_of (codes "OPEN" ∷ names_of problem (set_of (open_number problem) places))
+
 -- the report of a roster, with what locks each person
 unfoldable pub report_text : Problem → List (Option Rule) → List ℕ → List ℕ
 report_text problem locks places =
-    heading (codes "ROSTER") problem places
-    ++ crew_lines problem locks places
-    ++ line_of (codes "OPEN" ∷ names_of problem (set_of (open_number problem) places))
+    heading (codes "ROSTER") problem places ++ roster_lines problem locks places
 
 -- the text is the report of the roster, with what locks each person
 pub record IsReportOf (problem : Problem) (places : List ℕ) (text : List ℕ) : Type 0 where
   pub locks : List (Option Rule)
   pub locked : AreLocks problem locks
   pub written : text ≡ report_text problem locks places
+
+-- ---- a plan
+
+-- A roster that needn't be the best, with a number that no roster costs less than: the lines of a report,
+-- and the bound behind the cost.
+unfoldable pub plan_text : Problem → ℤ → List (Option Rule) → List ℕ → List ℕ
+plan_text problem bound locks places =
+    heading (codes "PLAN") problem places
+    ++ line_of (codes "BOUND" ∷ signed_decimal bound ∷ [])
+    ++ roster_lines problem locks places
+
+-- the text is the plan of the roster and the bound, with what locks each person
+pub record IsPlanOf (problem : Problem) (bound : ℤ) (places : List ℕ) (text : List ℕ) : Type 0 where
+  pub locks : List (Option Rule)
+  pub locked : AreLocks problem locks
+  pub written : text ≡ plan_text problem bound locks places
 
 -- ---- what a check says of a roster
 

@@ -24,9 +24,10 @@
 //! - `Costs`: what sets and rosters cost
 //! - `Rosters`: legal rosters, and their order
 //! - `Lines`: the legal sets of a person, in order
-//! - `Settled`: the best roster, and what a search says of some rosters
+//! - `Settled`: the best roster, what a search says of some rosters, and what no roster costs less than
 //! - `Texts`: the lines that are written
 //! - `Answer`: the records of the bytes, and the text that answers them
+//! - `Plans`: the plan that answers the records of a month which is too large to be solved
 #![tactic(auto)]
 
 pub mod limits;
