@@ -7,7 +7,7 @@ ghost use Rattle.roster_report.specs.Writing.{Writes, WritesPart};
 
 use crate::device::write_whole;
 use crate::fault::TextFault;
-use crate::lines::{push_cost, push_heading, push_verdicts};
+use crate::lines::{push_amount, push_heading, push_verdicts};
 use crate::said::{locks_of, verdicts_of};
 use roster_cost::roster_cost;
 use roster_problem::Problem;
@@ -50,7 +50,7 @@ fn check(alloc: Global, problem: &Problem, places: &[u16]) -> Result<Vec<u8>, Al
     let verdicts = verdicts_of(alloc, problem, places)?;
     let mut text = Vec::new(alloc);
     push_heading(alloc, &mut text, b"CHECK", problem.period())?;
-    push_cost(alloc, &mut text, roster_cost(problem, places))?;
+    push_amount(alloc, &mut text, b"COST", roster_cost(problem, places))?;
     let (locked, broken) = (locks.as_slice(), verdicts.as_slice());
     push_verdicts(&mut text, problem, locked, broken)?;
     Ok(text)

@@ -1,10 +1,11 @@
-//! The three texts that the program writes: the report of a roster, what a check says of one, and the
-//! line of a fault.
+//! The texts that are written: the report of a roster, the plan of a month, what a check says of a roster,
+//! and the line of a fault.
 //!
 //! Each is whole in memory before its first byte is written. So if memory runs out, nothing is
 //! written, and if the writer fails, a prefix of the text. In reading order:
 //!
 //! - `report`: the report of a roster, written whole
+//! - `plan`: the plan of a month, written whole
 //! - `check`: what a check says of a roster, written whole
 //! - `lines`: their lines
 //! - `said`: what locks persons, and what they break
@@ -21,6 +22,7 @@ mod fault;
 mod fault_line;
 mod lines;
 mod names;
+mod plan;
 mod report;
 mod said;
 mod words;
@@ -28,4 +30,5 @@ mod words;
 pub use check::write_check;
 pub use fault::TextFault;
 pub use fault_line::write_fault;
+pub use plan::write_plan;
 pub use report::write_report;

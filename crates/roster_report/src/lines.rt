@@ -47,13 +47,18 @@ pub(crate) fn push_heading(
     end_line(out)
 }
 
-/// Appends the line of a roster's cost.
-pub(crate) fn push_cost(alloc: Global, out: &mut Vec<u8>, cost: i64) -> Result<(), AllocError>
-    ensures { OnOk result
-        (out.new.items ≡ out.old.items ++ line_of (codes "COST" ∷ signed_decimal cost ∷ [])) }
+/// Appends a line of one amount, in cost units, behind the word that tells what it is.
+pub(crate) fn push_amount(
+    alloc: Global,
+    out: &mut Vec<u8>,
+    word: &[u8],
+    amount: i64,
+) -> Result<(), AllocError>
+    ensures { OnOk result (out.new.items
+        ≡ out.old.items ++ line_of (word.now ∷ signed_decimal amount ∷ [])) }
 {
-    out.extend_from_slice(b"COST")?;
-    push_signed(alloc, out, cost)?;
+    out.extend_from_slice(word)?;
+    push_signed(alloc, out, amount)?;
     end_line(out)
 }
 
@@ -127,7 +132,7 @@ fn push_crew(
 
 /// Appends the lines of all persons, in book order, each with what locks them.
 #[tactic(auto, unfolding(roster_model::specs::Texts::crew_lines))]
-pub(crate) fn push_crews(
+fn push_crews(
     alloc: Global,
     out: &mut Vec<u8>,
     problem: &Problem,
@@ -167,7 +172,7 @@ pub(crate) fn push_verdicts(
 }
 
 /// Appends the line of the pairings that are left open.
-pub(crate) fn push_open(
+fn push_open(
     out: &mut Vec<u8>,
     problem: &Problem,
     places: &[u16],
@@ -180,4 +185,22 @@ pub(crate) fn push_open(
     out.extend_from_slice(b"OPEN")?;
     push_names(out, problem, places, problem.persons().len())?;
     end_line(out)
+}
+
+/// Appends who flies what: the lines of all persons, each with what locks them, and the line of the
+/// pairings that are left open.
+pub(crate) fn push_roster(
+    alloc: Global,
+    out: &mut Vec<u8>,
+    problem: &Problem,
+    locks: &[Option<Rule>],
+    places: &[u16],
+) -> Result<(), AllocError>
+    requires covers { length places.now ≡ length problem.now.pairings }
+    requires locks { length locks.now ≡ length problem.now.persons }
+    ensures { OnOk result (out.new.items ≡ out.old.items
+        ++ texts.roster_lines problem.now (map (option_map rule_of) locks.now) places.now) }
+{
+    push_crews(alloc, out, problem, locks, places)?;
+    push_open(out, problem, places)
 }

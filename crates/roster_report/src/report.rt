@@ -8,7 +8,7 @@ ghost use Rattle.roster_report.specs.Writing.{Writes, WritesPart};
 
 use crate::device::write_whole;
 use crate::fault::TextFault;
-use crate::lines::{push_cost, push_crews, push_heading, push_open};
+use crate::lines::{push_amount, push_heading, push_roster};
 use crate::said::locks_of;
 use roster_problem::{Problem, Roster};
 use roster_watched::Watched;
@@ -49,8 +49,7 @@ fn report(alloc: Global, problem: &Problem, roster: &Roster) -> Result<Vec<u8>, 
     let locks = locks_of(alloc, problem)?;
     let mut text = Vec::new(alloc);
     push_heading(alloc, &mut text, b"ROSTER", problem.period())?;
-    push_cost(alloc, &mut text, roster.cost)?;
-    push_crews(alloc, &mut text, problem, &locks, places)?;
-    push_open(&mut text, problem, places)?;
+    push_amount(alloc, &mut text, b"COST", roster.cost)?;
+    push_roster(alloc, &mut text, problem, &locks, places)?;
     Ok(text)
 }

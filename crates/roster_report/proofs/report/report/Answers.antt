@@ -5,12 +5,11 @@ use Rattle.std.proofs.lemmas.Int.{to_z-of_z}
 use Rattle.std.specs.Int.RustNames.{FitsSigned}
 use Rattle.std.specs.Fmt.{signed_decimal}
 use Rattle.roster_model.specs.Calendar.{Period}
-use Rattle.roster_model.specs.Places.{set_of, open_number}
 use Rattle.roster_model.specs.Rosters.{Key}
 use Rattle.roster_model.specs.Rules.{Rule}
-use Rattle.roster_model.specs.Texts.{report_text, line_of, period_text, crew_lines, names_of}
+use Rattle.roster_model.specs.Texts.{report_text, roster_lines, line_of, period_text}
 use Rattle.roster_problem.specs.View.{rule_of}
-use Rattle.roster_report.proofs.LineOf.{four-texts}
+use Rattle.roster_report.proofs.LineOf.{three-texts}
 use Rattle.roster_report.proofs.report.report.Goals as goal
 
 pub returns : goal.returns
@@ -22,12 +21,11 @@ returns c =
     let fits : FitsSigned w64 inside.cost = search rules in
     let told = to_z-of_z w64 inside.cost fits ∙ ap (λ (key : Key). key.cost) c.roster.view_is ∙ c.requires.cost in
     let placed = c.as_slice-places.ensures ∙ ap (λ (key : Key). key.places) c.roster.view_is in
-    let cost = c.in_ok-push_cost.ensures ∙ ap (λ (z : ℤ). c.push_heading.new.out.items ++ line_of (codes "COST" ∷ signed_decimal z ∷ [])) told in
+    let cost = c.in_ok-push_amount.ensures ∙ ap (λ (z : ℤ). c.push_heading.new.out.items ++ line_of (codes "COST" ∷ signed_decimal z ∷ [])) told in
     let locks : List (Option Rule) = map (option_map rule_of) c.in_ok-locks.locks.items in
-    let crews = c.in_ok-push_crews.ensures ∙ ap (λ (places : List ℕ). c.push_cost.new.out.items ++ crew_lines problem (map (option_map rule_of) c.deref.result.now) places) placed ∙ ap (λ ls. c.push_cost.new.out.items ++ crew_lines problem (map (option_map rule_of) ls) c.args.roster.now.places) c.deref.ensures.value in
-    let open_line = c.in_ok-push_open.ensures ∙ ap (λ (places : List ℕ). c.push_crews.new.out.items ++ line_of (codes "OPEN" ∷ names_of problem (set_of (open_number problem) places))) placed in
+    let lines = c.in_ok-push_roster.ensures ∙ ap (λ (places : List ℕ). c.push_amount.new.out.items ++ roster_lines problem (map (option_map rule_of) c.deref.result.now) places) placed ∙ ap (λ ls. c.push_amount.new.out.items ++ roster_lines problem (map (option_map rule_of) ls) c.args.roster.now.places) c.deref.ensures.value in
     record {
       locks = locks;
       locked = c.in_ok-locks.ensures;
-      written = four-texts _ _ _ _ _ _ _ _ heading cost crews open_line;
+      written = three-texts _ _ _ _ _ _ heading cost lines;
     }
