@@ -1,3 +1,4 @@
+pub mod Preorder
 pub mod TreeLemmas
 pub mod Listed
 pub mod Marks

@@ -8,14 +8,14 @@ use Rattle.roster_model.specs.declared.limits.TheConstants.{MOST_PAIRINGS}
 use Rattle.roster_model.proofs.SetLemmas.{Ascends, Ascends-from_rising}
 use Rattle.roster_problem.specs.Set.{with_place}
 use Rattle.roster_problem.proofs.SetParts.{with_place-first}
-use Rattle.roster_lines.specs.declared.lines.Line.{Line}
+use Rattle.roster_lines.specs.declared.lines.Row.{Row}
 use Rattle.roster_lines.specs.Entries.{longer, set_at, sets_of}
 use Rattle.roster_lines.specs.Tree.{entries_in, IsTree}
 use Rattle.roster_lines.proofs.Listed.{Ascends-parts}
 use Rattle.roster_lines.proofs.Marks.{All-behind}
 use Rattle.roster_lines.proofs.TreeLemmas.{length-entries_in, length-sets_of, set_at_later}
 
-module _ (lines : List Line) (tree : IsTree lines) (at : ℕ) (line : Line) (there : slice_get lines at ≡ Some line) (later : 0 < at) where
+module _ (lines : List Row) (tree : IsTree lines) (at : ℕ) (line : Row) (there : slice_get lines at ≡ Some line) (later : 0 < at) where
   behind_parent : set_at (entries_in lines) at ≡ longer (entries_in lines) line.parent line.last
   behind_parent = set_at_later lines at line there later (tree.parents at line there later)
 

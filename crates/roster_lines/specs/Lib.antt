@@ -1,4 +1,5 @@
 pub mod Entries
+pub mod Rows
 pub mod Tree
 pub mod Listing
 pub mod Person

@@ -1,8 +1,8 @@
 //! Every line of each person: the legal sets of pairings, in order, and what each costs.
 //!
 //! `lines_of` lists the lines of one person, `table_of` those of each, and `all_lines` has threads do the
-//! same. A line takes 16 bytes, since it says its cost, its last pairing and which line stands behind the
-//! earlier ones. In reading order:
+//! same. A line takes 16 bytes, since it says its cost, its last pairing, how many it has, and which line
+//! stands behind the earlier ones. In reading order:
 //!
 //! - `order`: which of two sets comes first
 //! - `lines`: the lines of a person, and how one of them is found
@@ -27,6 +27,6 @@ pub use extend::{LinesFault, lines_of};
 pub use laws::{
     few_are_not_crowded, has_numbers, nobody_is_crowded, one_list_of_lines, one_list_of_numbers,
 };
-pub use lines::Lines;
+pub use lines::{Lines, Row};
 pub use shared::all_lines;
 pub use table::{Table, TableFault, table_of};

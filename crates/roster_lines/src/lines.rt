@@ -4,6 +4,7 @@ ghost use Rattle.std.specs.Prelude.{◌≡◌, ◌<◌, ◌≤◌, ◌↔◌, �
 ghost use Rattle.roster_model.specs.Lines.{AreOrdered};
 ghost use Rattle.roster_model.specs.Places.{places_le};
 ghost use Rattle.roster_lines.specs.Entries.{costs_of, entry_of, longer, set_at, sets_of, IsCut};
+ghost use Rattle.roster_lines.specs.Rows.{entries_after, IsWithinLimits};
 
 use crate::order::is_at_most;
 use roster_model::limits::{MOST_LINES, MOST_PAIRINGS};
@@ -11,22 +12,28 @@ use roster_problem::Set;
 use std::alloc::{AllocError, Global};
 use std::marker::Model;
 
-/// A line: the set of an earlier one, its parent, with one more pairing behind, and what that costs.
+/// A line: the set of an earlier one, its parent, with one more pairing behind, and what that costs. Of
+/// two lines in a row the later one has all pairings but its last from the front of the earlier one.
 #[derive(Clone, Copy, Debug)]
-struct Line {
-    cost: i64,
-    parent: u32,
-    last: u16,
+pub struct Row {
+    /// What the line costs, in cost units.
+    pub cost: i64,
+    /// The number of the line that it goes on from; nothing at the empty line.
+    pub parent: u32,
+    /// Its last pairing; nothing at the empty line.
+    pub last: u16,
+    /// How many pairings it has.
+    pub depth: u16,
 }
 
 // There may be millions of lines.
-const _: () = prove!(size_of::<Line>() <= 16);
+const _: () = prove!(size_of::<Row>() <= 16);
 
 /// The lines of a person in their order, each once, from the empty one on. Contracts see them as a list
 /// of entries, each with a line's set and cost.
 #[derive(Debug, Drop)]
 pub struct Lines {
-    lines: Vec<Line>,
+    lines: Vec<Row>,
 }
 
 impl Model for Lines {
@@ -47,10 +54,11 @@ impl Lines {
     pub(crate) fn empty(alloc: Global, cost: i64) -> Result<Lines, AllocError>
         ensures { IfOk result (λ lines. lines ≡ entry_of [] cost ∷ []) }
     {
-        let first = Line {
+        let first = Row {
             cost,
             parent: 0,
             last: 0,
+            depth: 0,
         };
         let lines = vec![in alloc; first]?;
         Ok(Lines { lines })
@@ -99,6 +107,14 @@ impl Lines {
     {
         let line = self.lines[i];
         (line.parent as usize, usize::from(line.last))
+    }
+
+    /// The lines row by row, each to be read from the one before.
+    pub fn rows(&self) -> &[Row]
+        ensures entries { entries_after [] result.now ≡ self.now }
+        ensures limits { All IsWithinLimits result.now }
+    {
+        &self.lines
     }
 
     /// The number of the line with this set, if there is one.
@@ -170,10 +186,12 @@ impl Lines {
         ensures { OnOk result
             (self.new ≡ self.old ++ entry_of (longer self.old parent last) cost ∷ []) }
     {
-        self.lines.push(Line {
+        let depth = self.lines[parent].depth + 1;
+        self.lines.push(Row {
             cost,
             parent: parent as u32,
             last: last as u16,
+            depth,
         })?;
         Ok(())
     }
