@@ -6,6 +6,7 @@
 //!
 //! - `order`: which of two sets comes first
 //! - `lines`: the lines of a person, and how one of them is found
+//! - `shared_lines`: lines that a table and others have together
 //! - `pairs`: which pairings are legal alone, and which of those together
 //! - `stem`: a line that others go on from
 //! - `extend`: `lines_of`, from each line to those that go on from it
@@ -20,6 +21,7 @@ mod lines;
 mod order;
 mod pairs;
 mod shared;
+mod shared_lines;
 mod stem;
 mod table;
 
@@ -29,4 +31,5 @@ pub use laws::{
 };
 pub use lines::{Lines, Row};
 pub use shared::all_lines;
+pub use shared_lines::SharedLines;
 pub use table::{Table, TableFault, table_of};

@@ -65,7 +65,7 @@ fn gathered(
 {
     let mut table = Table::empty(alloc);
     for made in slots {
-        table.add(problem, made)?;
+        table.add(alloc, problem, made)?;
     }
     Ok(table)
 }

@@ -8,6 +8,7 @@ ghost use Rattle.roster_lines.specs.TableFaults.{IsTableFaultOf};
 
 use crate::extend::{LinesFault, lines_of};
 use crate::lines::Lines;
+use crate::shared_lines::SharedLines;
 use roster_model::limits::MOST_PAIRINGS;
 use roster_problem::{Problem, Set};
 use std::alloc::{AllocError, AllocFailed, Global};
@@ -50,7 +51,7 @@ impl<T: Drop> From<AllocFailed<T>> for TableFault {
 /// The lines of each person with what they cost, in book order.
 #[derive(Debug, Drop)]
 pub struct Table {
-    persons: Vec<Lines>,
+    persons: Vec<SharedLines>,
 }
 
 impl Model for Table {
@@ -69,7 +70,7 @@ pub fn table_of(alloc: Global, problem: &Problem) -> Result<Table, TableFault>
 {
     let mut table = Table::empty(alloc);
     for k in 0..problem.persons().len() {
-        table.add(problem, lines_of(alloc, problem, k))?;
+        table.add(alloc, problem, lines_of(alloc, problem, k))?;
     }
     Ok(table)
 }
@@ -87,6 +88,7 @@ impl Table {
     /// Adds the lines of the next person, if they were made. After a fault there is no table.
     pub(crate) fn add(
         &mut self,
+        alloc: Global,
         problem: &Problem,
         made: Result<Lines, LinesFault>,
     ) -> Result<(), TableFault>
@@ -98,7 +100,7 @@ impl Table {
         ensures fault { IfErr result (IsTableFaultOf problem.now) }
     {
         match made {
-            Ok(lines) => self.persons.push(lines)?,
+            Ok(lines) => self.persons.push(SharedLines::new(alloc, lines)?)?,
             Err(fault) => match fault {
                 LinesFault::TooMany => return Err(TableFault::TooMany(self.persons.len())),
                 LinesFault::Memory => return Err(TableFault::Memory),
@@ -112,7 +114,16 @@ impl Table {
         requires { k < length self.now }
         ensures { result.now ≡ lines_at self.now k }
     {
-        &self.persons[k]
+        self.persons[k].lines()
+    }
+
+    /// The lines of person `k`, to be had beside the table.
+    pub fn shared(&self, k: usize) -> Result<SharedLines, AllocError>
+        requires { k < length self.now }
+        ensures { IfOk result (λ lines. lines ≡ lines_at self.now k) }
+    {
+        let lines = self.persons[k].copy()?;
+        Ok(lines)
     }
 
     /// How many lines person `k` has.

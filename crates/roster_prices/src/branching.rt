@@ -47,7 +47,7 @@ pub fn branch(
         if region.width(k) > 1 {
             look.clear();
             let softness = prices.softness().saturating_add(1);
-            look.add(region.choices(k), prices.prices(), softness)?;
+            look.add(&region.choices(k), prices.prices(), softness)?;
             best = better(region, &look, &crowds, k, best);
         }
     }

@@ -7,7 +7,7 @@ use crate::dual_prices::DualPrices;
 use crate::powers::halved;
 use crate::reading::number_at;
 use roster_problem::Problem;
-use roster_regions::{Choice, Region};
+use roster_regions::{Choice, Choices, Region};
 use std::alloc::{AllocError, Global};
 
 /// One whole, of which covers are parts.
@@ -98,10 +98,10 @@ impl Look {
     {
         let choices = region.choices(k);
         let least = if region.width(k) == 1 {
-            self.settle(choices, prices.prices())?
+            self.settle(&choices, prices.prices())?
         } else {
             self.undecided = self.undecided.wrapping_add(1);
-            self.add(choices, prices.prices(), prices.softness())?
+            self.add(&choices, prices.prices(), prices.softness())?
         };
         self.bound = self.bound.wrapping_add(least);
         Ok(())
@@ -146,8 +146,9 @@ impl Look {
 
     // Adds the pairings of a person's one line, which nobody else can have, and gives its value at the
     // prices.
-    fn settle(&mut self, choices: &[Choice], prices: &[i64]) -> Result<i64, AllocError> {
-        for choice in choices {
+    fn settle(&mut self, choices: &Choices<'_>, prices: &[i64]) -> Result<i64, AllocError> {
+        for i in 0..choices.len() {
+            let choice = choices.at(i);
             let p = usize::from(choice.last);
             if choice.depth > 0 && p < self.covers.len() {
                 self.covers[p] = SETTLED;
@@ -159,7 +160,7 @@ impl Look {
     /// Adds what a person's lines hold at the prices, and gives the least value of a line.
     pub(crate) fn add(
         &mut self,
-        choices: &[Choice],
+        choices: &Choices<'_>,
         prices: &[i64],
         softness: u32,
     ) -> Result<i64, AllocError> {
@@ -170,11 +171,12 @@ impl Look {
     }
 
     // Reads the value of each choice, and gives the least of a line.
-    fn read(&mut self, choices: &[Choice], prices: &[i64]) -> Result<i64, AllocError> {
+    fn read(&mut self, choices: &Choices<'_>, prices: &[i64]) -> Result<i64, AllocError> {
         self.values.clear();
         let mut least = i64::MAX;
-        for choice in choices {
-            let value = self.value(choice, prices);
+        for i in 0..choices.len() {
+            let choice = choices.at(i);
+            let value = self.value(&choice, prices);
             self.values.push(value)?;
             if choice.live && value < least {
                 least = value;
@@ -197,11 +199,11 @@ impl Look {
     }
 
     // Weighs the choices from the last to the first, and gives the weight of all lines.
-    fn weigh(&mut self, choices: &[Choice], least: i64, softness: u32) -> u64 {
+    fn weigh(&mut self, choices: &Choices<'_>, least: i64, softness: u32) -> u64 {
         let mut total: u64 = 0;
         for back in 0..choices.len() {
             let i = choices.len() - 1 - back;
-            let choice = choices[i];
+            let choice = choices.at(i);
             let weight = if choice.live {
                 let value = number_at(&self.values, i);
                 halved(value.wrapping_sub(least).unsigned_abs(), softness)

@@ -6,7 +6,7 @@ ghost use Rattle.roster_regions.specs.Regions.{IsRegion};
 use crate::dual_prices::scaled_penalty;
 use crate::reading::number_at;
 use roster_problem::{Problem, open_number};
-use roster_regions::{Choice, Region};
+use roster_regions::{Choice, Choices, Region};
 use std::alloc::{AllocError, Global};
 
 /// How often all persons may choose again.
@@ -94,7 +94,7 @@ impl Draft {
             let choices = region.choices(k);
             let chosen = self.chosen_by(k);
             if chosen < choices.len() {
-                cost = cost.wrapping_add(choices[chosen].extra);
+                cost = cost.wrapping_add(choices.at(chosen).extra);
             }
         }
         for (p, place) in places.iter().enumerate() {
@@ -136,9 +136,9 @@ impl Draft {
         requires { k < length region.now.choices }
     {
         let choices = region.choices(k);
-        match self.best_choice(choices, prices, k, places) {
+        match self.best_choice(&choices, prices, k, places) {
             Some(i) => {
-                self.take(choices, i, k, places);
+                self.take(&choices, i, k, places);
                 true
             }
             None => false,
@@ -206,19 +206,19 @@ impl Draft {
     {
         let choices = region.choices(k);
         let chosen = self.chosen_by(k);
-        let Some(i) = self.best_choice(choices, savings, k, places) else {
+        let Some(i) = self.best_choice(&choices, savings, k, places) else {
             return false;
         };
-        if value_at(choices, savings, i) >= value_at(choices, savings, chosen) {
+        if value_at(&choices, savings, i) >= value_at(&choices, savings, chosen) {
             return false;
         }
-        put(choices, chosen, self.nobody, places);
-        self.take(choices, i, k, places);
+        put(&choices, chosen, self.nobody, places);
+        self.take(&choices, i, k, places);
         true
     }
 
     // Person `k` takes the line of choice `i`.
-    fn take(&mut self, choices: &[Choice], i: usize, k: usize, places: &mut [u16]) {
+    fn take(&mut self, choices: &Choices<'_>, i: usize, k: usize, places: &mut [u16]) {
         if k < self.chosen.len() {
             self.chosen[k] = i;
         }
@@ -229,7 +229,7 @@ impl Draft {
     // The choice of least value among those whose pairings nobody else has.
     fn best_choice(
         &mut self,
-        choices: &[Choice],
+        choices: &Choices<'_>,
         prices: &[i64],
         k: usize,
         places: &[u16],
@@ -238,7 +238,8 @@ impl Draft {
         let mut least = i64::MAX;
         // Choices deeper than this go on from one whose pairing somebody else has.
         let mut free = usize::MAX;
-        for (i, choice) in choices.iter().enumerate() {
+        for i in 0..choices.len() {
+            let choice = choices.at(i);
             let depth = usize::from(choice.depth);
             if depth > free {
                 continue;
@@ -248,7 +249,7 @@ impl Draft {
                 free = depth;
                 continue;
             }
-            let value = self.value(choice, prices);
+            let value = self.value(&choice, prices);
             if choice.live && value < least {
                 least = value;
                 best = Some(i);
@@ -271,7 +272,7 @@ impl Draft {
 }
 
 /// Puts the number at the pairings of the line of choice `i`.
-fn put(choices: &[Choice], i: usize, number: u16, places: &mut [u16]) {
+fn put(choices: &Choices<'_>, i: usize, number: u16, places: &mut [u16]) {
     let mut depth = depth_at(choices, i);
     for back in 0..choices.len() {
         if depth == 0 || back > i {
@@ -297,27 +298,27 @@ fn is_taken(places: &[u16], p: usize, k: usize, nobody: u16) -> bool {
 }
 
 /// The depth of choice `i`, or 0 past the last.
-fn depth_at(choices: &[Choice], i: usize) -> u16 {
+fn depth_at(choices: &Choices<'_>, i: usize) -> u16 {
     if i < choices.len() {
-        choices[i].depth
+        choices.at(i).depth
     } else {
         0
     }
 }
 
 /// The last pairing of choice `i`, or 0 past the last.
-fn last_at(choices: &[Choice], i: usize) -> usize {
+fn last_at(choices: &Choices<'_>, i: usize) -> usize {
     if i < choices.len() {
-        usize::from(choices[i].last)
+        usize::from(choices.at(i).last)
     } else {
         0
     }
 }
 
 /// The value of the line of choice `i`.
-fn value_at(choices: &[Choice], prices: &[i64], i: usize) -> i64 {
+fn value_at(choices: &Choices<'_>, prices: &[i64], i: usize) -> i64 {
     let mut value = if i < choices.len() {
-        choices[i].extra
+        choices.at(i).extra
     } else {
         0
     };

@@ -1,4 +1,5 @@
 pub mod TreeLemmas
+pub mod RowLemmas
 pub mod StepLemmas
 pub mod SumLemmas
 pub mod Write

@@ -1,19 +1,16 @@
 -- The lines of a tree of choices, one choice after another.
-use Rattle.std.proofs.Common.{◌≡◌, ℕ, ◌+◌, ◌-◌, ◌<◌, ◌≤◌, Bool, true, false, ◌&&◌, ◌||◌, cond, eq-eqb, List, [], ◌∷◌, ◌++◌, length, get_or, take, drop, pos, refl, sym, ap, ◌∙◌, subst, arith, append-nil}
-use Rattle.std.specs.Prelude.{All, Contains, filter}
+use Rattle.std.proofs.Common.{◌≡◌, ℕ, ◌+◌, ◌-◌, ◌<◌, ◌≤◌, Bool, true, false, ◌&&◌, ◌||◌, cond, eq-eqb, List, [], ◌∷◌, ◌++◌, length, get_or, take, drop, Some, refl, sym, ap, ◌∙◌, subst, arith, append-nil}
+use Rattle.std.specs.Prelude.{All, Contains, filter, slice_get}
 use Rattle.std.specs.List.{list_any, list_all}
 use Rattle.std.proofs.lemmas.Bool.{ne_eqb}
 use Rattle.std.proofs.lemmas.List.{append_assoc, take-append-drop, length-append, take_all, take-take, take_more}
 use Rattle.std.proofs.lemmas.List.Elements.{All-nil, All-cons, All-push, All-append, Contains-append_left, Contains-push, filter-append}
 use Rattle.std.proofs.lemmas.List.Folds.{list_any-append, list_all-append}
+use Rattle.std.proofs.lemmas.Option.{get_or_from_slice_get, slice_get_within}
 use Rattle.roster_model.specs.Rules.{is_among}
 use Rattle.roster_regions.specs.declared.choice.Choice.{Choice}
 use Rattle.roster_regions.specs.Regions.{AllowedLine, allowed}
 use Rattle.roster_regions.specs.Trees.{next_path, path_after, line_here, lines_after, lines_in, ArePossible, AreCertain, IsLimited, IsTree}
-
--- what stands for a choice past the last
-abbrev pub no_choice : Choice
-no_choice = record { extra = pos 0; depth = 0; last = 0; live = false }
 
 -- ---- choices one behind another
 
@@ -94,7 +91,7 @@ next_path-whole out (p ∷ path) shared choice same reached deep last =
 
 -- ---- a choice more
 
-line_here-live : (path : List ℕ) (choice : Choice) → choice.live ≡ true → line_here path choice ≡ allowed path choice.extra ∷ []
+pub line_here-live : (path : List ℕ) (choice : Choice) → choice.live ≡ true → line_here path choice ≡ allowed path choice.extra ∷ []
 line_here-live path choice live = rw live refl
 
 line_here-dead : (path : List ℕ) (choice : Choice) → choice.live ≡ false → line_here path choice ≡ []
@@ -159,7 +156,7 @@ All-line_here P path choice here = go choice.live here
     go true h = All-cons P (allowed path choice.extra) [] (h refl) (All-nil P)
     go false h = All-nil P
 
-pub All-lines_more : (P : AllowedLine → Type 0) (choices : List Choice) (i : ℕ) (choice : Choice) → i < length choices → All P (lines_in (take i choices)) → ((get_or choices i choice).live ≡ true → P (allowed (next_path (path_after [] (take i choices)) (get_or choices i choice)) (get_or choices i choice).extra)) → All P (lines_in (take (i + 1) choices))
+All-lines_more : (P : AllowedLine → Type 0) (choices : List Choice) (i : ℕ) (choice : Choice) → i < length choices → All P (lines_in (take i choices)) → ((get_or choices i choice).live ≡ true → P (allowed (next_path (path_after [] (take i choices)) (get_or choices i choice)) (get_or choices i choice).extra)) → All P (lines_in (take (i + 1) choices))
 All-lines_more P choices i choice inside before here =
     let next : List ℕ = next_path (path_after [] (take i choices)) (get_or choices i choice) in
     subst (All P) (sym (lines_more choices i choice inside))
@@ -189,7 +186,7 @@ filter-lines_more test choices i choice passes inside is =
     ∙ ap (filter test) (sym (lines_more choices i choice inside))
 
 -- a live choice has its line among all of them
-pub Contains-live : (choices : List Choice) (i : ℕ) (choice : Choice) → i < length choices → (get_or choices i choice).live ≡ true → Contains (lines_in choices) (allowed (next_path (path_after [] (take i choices)) (get_or choices i choice)) (get_or choices i choice).extra)
+Contains-live : (choices : List Choice) (i : ℕ) (choice : Choice) → i < length choices → (get_or choices i choice).live ≡ true → Contains (lines_in choices) (allowed (next_path (path_after [] (take i choices)) (get_or choices i choice)) (get_or choices i choice).extra)
 unfolding lines_in
 Contains-live choices i choice inside live =
     let item : Choice = get_or choices i choice in
@@ -202,3 +199,30 @@ Contains-live choices i choice inside live =
     subst (λ ls. Contains ls (allowed next item.extra)) split
     (Contains-append_left (lines_after [] front) (lines_after (path_after [] front) (drop (i + 1) choices)) (allowed next item.extra)
     (subst (λ ls. Contains ls (allowed next item.extra)) here (Contains-push (lines_in (take i choices)) (allowed next item.extra))))
+
+-- ---- a choice that is read at its place
+
+pub path_at : (choices : List Choice) (i : ℕ) (item : Choice) → slice_get choices i ≡ Some item → path_after [] (take (i + 1) choices) ≡ next_path (path_after [] (take i choices)) item
+path_at choices i item at =
+    path_more choices i item (slice_get_within choices i item at)
+    ∙ ap (next_path (path_after [] (take i choices))) (get_or_from_slice_get choices i item item at)
+
+pub lines_at-live : (choices : List Choice) (i : ℕ) (item : Choice) → slice_get choices i ≡ Some item → item.live ≡ true → lines_in (take (i + 1) choices) ≡ lines_in (take i choices) ++ allowed (next_path (path_after [] (take i choices)) item) item.extra ∷ []
+lines_at-live choices i item at live =
+    let path : List ℕ = path_after [] (take i choices) in
+    lines_more choices i item (slice_get_within choices i item at)
+    ∙ ap (λ (c : Choice). lines_in (take i choices) ++ line_here (next_path path c) c) (get_or_from_slice_get choices i item item at)
+    ∙ ap (λ lines. lines_in (take i choices) ++ lines) (line_here-live (next_path path item) item live)
+
+pub All-lines_at : (P : AllowedLine → Type 0) (choices : List Choice) (i : ℕ) (item : Choice) → slice_get choices i ≡ Some item → All P (lines_in (take i choices)) → (item.live ≡ true → P (allowed (next_path (path_after [] (take i choices)) item) item.extra)) → All P (lines_in (take (i + 1) choices))
+All-lines_at P choices i item at before here =
+    let path : List ℕ = path_after [] (take i choices) in
+    All-lines_more P choices i item (slice_get_within choices i item at) before
+    (subst (λ (c : Choice). c.live ≡ true → P (allowed (next_path path c) c.extra)) (sym (get_or_from_slice_get choices i item item at)) here)
+
+pub Contains-at : (choices : List Choice) (i : ℕ) (item : Choice) → slice_get choices i ≡ Some item → item.live ≡ true → Contains (lines_in choices) (allowed (next_path (path_after [] (take i choices)) item) item.extra)
+Contains-at choices i item at live =
+    let path : List ℕ = path_after [] (take i choices) in
+    let same = get_or_from_slice_get choices i item item at in
+    subst (λ (c : Choice). Contains (lines_in choices) (allowed (next_path path c) c.extra)) same
+    (Contains-live choices i item (slice_get_within choices i item at) (ap (λ (c : Choice). c.live) same ∙ live))

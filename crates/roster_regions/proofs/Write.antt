@@ -1,8 +1,9 @@
 -- A tree of choices, as it is written.
-use Rattle.std.proofs.Common.{◌≡◌, ℕ, ◌+◌, ◌-◌, ◌<◌, ◌≤◌, Bool, ◌&&◌, ◌||◌, true, false, cond, List, [], ◌∷◌, ◌++◌, length, get_or, take, ℤ, refl, sym, ap, ◌∙◌, subst, arith}
-use Rattle.std.specs.Prelude.{All, filter}
+use Rattle.std.proofs.Common.{◌≡◌, ℕ, ◌+◌, ◌-◌, ◌<◌, ◌≤◌, Bool, ◌&&◌, ◌||◌, true, false, cond, List, [], ◌∷◌, ◌++◌, length, get_or, take, ℤ, Some, refl, sym, ap, ◌∙◌, subst, arith}
+use Rattle.std.specs.Prelude.{All, filter, slice_get}
 use Rattle.std.proofs.lemmas.List.{length_push, nil_from_length, take-take}
 use Rattle.std.proofs.lemmas.List.Elements.{All-nil, All-push}
+use Rattle.std.proofs.lemmas.Option.{get_or_from_slice_get, slice_get_within}
 use Rattle.roster_model.specs.Rules.{is_among}
 use Rattle.roster_regions.specs.declared.choice.Choice.{Choice}
 use Rattle.roster_regions.specs.declared.writer.Writer.{Writer}
@@ -87,7 +88,7 @@ read_on w w' choice old new path lines next there pass writing =
     subst (λ way. IsWriting w' way lines) (sym (next ∙ ap (λ way. next_path way choice) there)) (pass path lines writing)
 
 -- and its line is written, if it passes
-pub kept_on : (test : AllowedLine → Bool) (choices : List Choice) (i : ℕ) (choice : Choice) (passes : Bool) (w w' : Writer) (old new : List ℕ) → i < length choices → new ≡ next_path old (get_or choices i choice) → old ≡ path_after [] (take i choices) → passes ≡ test (allowed new (get_or choices i choice).extra) → ((ls : List AllowedLine) → IsWriting w new ls → IsWriting w' new (ls ++ cond passes (line_here new (get_or choices i choice)) [])) → IsWriting w new (filter test (lines_in (take i choices))) → IsWriting w' (path_after [] (take (i + 1) choices)) (filter test (lines_in (take (i + 1) choices)))
+kept_on : (test : AllowedLine → Bool) (choices : List Choice) (i : ℕ) (choice : Choice) (passes : Bool) (w w' : Writer) (old new : List ℕ) → i < length choices → new ≡ next_path old (get_or choices i choice) → old ≡ path_after [] (take i choices) → passes ≡ test (allowed new (get_or choices i choice).extra) → ((ls : List AllowedLine) → IsWriting w new ls → IsWriting w' new (ls ++ cond passes (line_here new (get_or choices i choice)) [])) → IsWriting w new (filter test (lines_in (take i choices))) → IsWriting w' (path_after [] (take (i + 1) choices)) (filter test (lines_in (take (i + 1) choices)))
 kept_on test choices i choice passes w w' old new inside next there is keep writing =
     let item : Choice = get_or choices i choice in
     let on : new ≡ next_path (path_after [] (take i choices)) item = next ∙ ap (λ way. next_path way item) there in
@@ -98,3 +99,13 @@ kept_on test choices i choice passes w w' old new inside next there is keep writ
     let there' : IsWriting w' way (front ++ cond passes (line_here way item) []) = subst (λ p. IsWriting w' p (front ++ cond passes (line_here p item) [])) on written in
     let here : IsWriting w' (path_after [] (take (i + 1) choices)) (front ++ cond passes (line_here way item) []) = subst (λ p. IsWriting w' p (front ++ cond passes (line_here way item) [])) (sym (path_more choices i choice inside)) there' in
     subst (λ ls. IsWriting w' (path_after [] (take (i + 1) choices)) ls) more here
+
+-- the same where the choice is read at its place
+pub kept_at : (test : AllowedLine → Bool) (choices : List Choice) (i : ℕ) (item : Choice) (passes : Bool) (w w' : Writer) (old new : List ℕ) → slice_get choices i ≡ Some item → new ≡ next_path old item → old ≡ path_after [] (take i choices) → passes ≡ test (allowed new item.extra) → ((ls : List AllowedLine) → IsWriting w new ls → IsWriting w' new (ls ++ cond passes (line_here new item) [])) → IsWriting w new (filter test (lines_in (take i choices))) → IsWriting w' (path_after [] (take (i + 1) choices)) (filter test (lines_in (take (i + 1) choices)))
+kept_at test choices i item passes w w' old new at next there is keep writing =
+    let same : item ≡ get_or choices i item = sym (get_or_from_slice_get choices i item item at) in
+    kept_on test choices i item passes w w' old new (slice_get_within choices i item at)
+    (next ∙ ap (next_path old) same) there
+    (is ∙ ap (λ (c : Choice). test (allowed new c.extra)) same)
+    (subst (λ (c : Choice). (ls : List AllowedLine) → IsWriting w new ls → IsWriting w' new (ls ++ cond passes (line_here new c) [])) same keep)
+    writing

@@ -1,5 +1,8 @@
 pub mod Regions
 pub mod Trees
+pub mod Rows
+pub mod Sources
+pub mod Held
 pub mod Steps
 pub mod Writing
 pub mod Prices

@@ -39,6 +39,10 @@ pub record IsLimited (choice : Choice) : Type 0 where
   pub last : choice.last < MOST_PAIRINGS
   pub extra : IsWithin MOST_EXTRA choice.extra
 
+-- the pairing is the choice's last one
+abbrev pub has_last : Choice → ℕ → Bool
+has_last choice p = if choice.depth == 0 then false else choice.last == p
+
 -- the pairings that some of the lines have
 abbrev pub ArePossible : List AllowedLine → List ℕ → Type 0
 ArePossible lines set = (p : ℕ) → is_among set p ≡ list_any (λ line. is_among line.set p) lines

@@ -1,8 +1,8 @@
 //! Regions from the lines of a table.
 
-ghost use Rattle.std.specs.Prelude.{◌≡◌, ◌<◌, ◌≤◌, ◌+◌, ◌^◌, ◌*◌, ◌*ℤ◌, ℕ, pos, IsTrue, ◌↔◌, List, OnOk, IfOk, All, length, slice_get, slice_index, max, take, Some, ◌-ℤ◌};
+ghost use Rattle.std.specs.Prelude.{[], ◌≡◌, ◌<◌, ◌≤◌, ◌+◌, ◌^◌, ◌*◌, ◌*ℤ◌, ℕ, pos, IsTrue, ◌↔◌, List, OnOk, IfOk, All, length, slice_get, slice_index, max, take, Some, ◌-ℤ◌};
 ghost use Rattle.roster_cost.specs.Amounts.{IsWithin, most_extra};
-ghost use Rattle.roster_lines.specs.Entries.{Entry};
+ghost use Rattle.roster_lines.specs.Entries.{Entry, sets_of};
 ghost use Rattle.roster_lines.specs.Person.{lines_at, IsTableOf};
 ghost use Rattle.roster_regions.specs.Building.{allowed_between, extra_in, AreCounted};
 ghost use Rattle.roster_model.specs.Rosters.{IsLegalRoster};
@@ -11,6 +11,7 @@ ghost use Rattle.roster_regions.specs.Trees.{next_path, IsLimited};
 ghost use Rattle.roster_regions.specs.Writing.{IsWriting};
 
 use crate::choice::{Choice, MOST_EXTRA, MOST_SCALE};
+use crate::parts::{above, times};
 use crate::path::Path;
 use crate::region::Region;
 use crate::shared::Shared;
@@ -104,22 +105,6 @@ fn on_the_way(depth: usize, last: u16) -> Choice
     }
 }
 
-/// So many times the number.
-fn times(scale: u32, number: i64) -> i64
-    requires { IsWithin MOST_EXTRA (pos scale *ℤ number) }
-    ensures { result ≡ pos scale *ℤ number }
-{
-    i64::from(scale) * number
-}
-
-/// How far the first number is above the second.
-fn above(number: i64, other: i64) -> i64
-    requires { IsWithin most_extra (number -ℤ other) }
-    ensures { result ≡ number -ℤ other }
-{
-    number - other
-}
-
 /// What line `i` costs more than the first one.
 fn above_first(lines: &Lines, i: usize) -> i64
     requires near { All (λ entry. IsWithin most_extra (extra_in lines.now entry)) lines.now }
@@ -163,8 +148,8 @@ fn greatest_extra(lines: &Lines) -> u64
     greatest
 }
 
-/// The lines whose numbers are in the range, at so many parts a cost unit.
-pub(crate) fn tree_of(
+/// A copy of the lines whose numbers are in the range, at so many parts a cost unit.
+fn copy_of(
     alloc: Global,
     lines: &Lines,
     range: (usize, usize),
@@ -191,6 +176,30 @@ pub(crate) fn tree_of(
         copying.writer.keep(&copying.path, &choice, true)?;
     }
     Ok(Tree::of(copying.writer))
+}
+
+/// Person `k`'s lines whose numbers are in the range, at so many parts a cost unit. All of them stay in
+/// the table. Of a part the first ones may go on from lines before it, so a part is copied.
+fn tree_of(
+    alloc: Global,
+    table: &Table,
+    k: usize,
+    range: (usize, usize),
+    scale: u32,
+) -> Result<Tree, AllocError>
+    requires person { k < length table.now }
+    requires counted { AreCounted scale (lines_at table.now k) }
+    requires near { All (λ entry. IsWithin most_extra (extra_in (lines_at table.now k) entry))
+        (lines_at table.now k) }
+    requires first { slice_get (sets_of (lines_at table.now k)) 0 ≡ Some [] }
+    ensures { IfOk result
+        (λ tree. tree ≡ allowed_between scale (lines_at table.now k) range.0 range.1) }
+{
+    if range.0 == 0 && table.width(k) <= range.1 {
+        let lines = table.shared(k)?;
+        return Ok(Tree::whole(lines, scale));
+    }
+    copy_of(alloc, table.lines(k), range, scale)
 }
 
 /// So many parts of a cost unit that this number of units can be counted in them.
@@ -247,7 +256,7 @@ impl Region {
         let scale = scale_of(problem, table);
         let mut persons = Vec::new(alloc);
         for k in 0..problem.persons().len() {
-            let tree = tree_of(alloc, table.lines(k), ranges[k], scale)?;
+            let tree = tree_of(alloc, table, k, ranges[k], scale)?;
             persons.push(Shared::new(alloc, tree)?)?;
         }
         Ok(Region {

@@ -1,6 +1,10 @@
 //! Regions of rosters: for each person some of their lines, and for each pairing whether it may be open.
 //!
 //! - `choice`: a step in the tree of a person's lines
+//! - `parts`: costs in parts of a cost unit
+//! - `rows`: the rows of a person's lines in the table, read as choices
+//! - `all_lines`: all lines of a person, which the table has too
+//! - `choices`: the choices of a tree, wherever they stand
 //! - `path`: the set that a walk through the tree has come to
 //! - `writer`: a tree, line after line
 //! - `sums`: the prices of a path's pairings
@@ -15,14 +19,18 @@
 //! - `deciding`: what is left to decide in a region, and the roster if nothing is
 #![tactic(auto)]
 
+mod all_lines;
 mod bound;
 mod build;
 mod choice;
+mod choices;
 mod deciding;
 mod inside;
+mod parts;
 mod path;
 mod propagate;
 mod region;
+mod rows;
 mod shared;
 mod sums;
 mod tighten;
@@ -30,4 +38,5 @@ mod tree;
 mod writer;
 
 pub use choice::{Choice, MOST_EXTRA, MOST_PRICE, MOST_SCALE};
+pub use choices::Choices;
 pub use region::Region;

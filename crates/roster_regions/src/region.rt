@@ -6,9 +6,10 @@ ghost use Rattle.roster_model.specs.Rules.{is_among};
 ghost use Rattle.roster_cost.specs.Amounts.{IsWithin};
 ghost use Rattle.roster_regions.specs.Prices.{value_of, ArePrices};
 ghost use Rattle.roster_regions.specs.Regions.{lines_of, size_of, with_lines, Has, HasNot, IsNarrowed, IsRegion, IsSplit, IsWhollyIn};
-ghost use Rattle.roster_regions.specs.Trees.{agrees, lines_in, AreCertain, ArePossible, HasJust, IsLimited, Offers};
+ghost use Rattle.roster_regions.specs.Trees.{agrees, lines_in, AreCertain, ArePossible, HasJust, Offers};
 
-use crate::choice::{Choice, MOST_SCALE, MOST_VALUE};
+use crate::choice::{MOST_SCALE, MOST_VALUE};
+use crate::choices::Choices;
 use crate::shared::Shared;
 use crate::tree::Tree;
 use roster_model::limits::MOST_PAIRINGS;
@@ -18,7 +19,8 @@ use std::marker::Model;
 
 /// Some rosters: for each person the lines that are allowed, and which pairings must be open and which
 /// must not. Costs are in parts of a cost unit, and those of a line are what it costs more than the
-/// person's empty one. A copy takes little memory, since lines are shared until one of the two changes.
+/// person's empty one. All lines of a person stay in the table. A copy takes little memory, since lines
+/// are shared until one of the two changes.
 #[derive(Debug, Drop)]
 pub struct Region {
     pub(crate) persons: Vec<Shared>,
@@ -64,10 +66,9 @@ impl Region {
     }
 
     /// The lines of person `k`, as a tree: each choice stands behind those that it goes on from.
-    pub fn choices(&self, k: usize) -> &[Choice]
+    pub fn choices(&self, k: usize) -> Choices<'_>
         requires { k < length self.now.choices }
-        ensures lines { lines_in result.now ≡ lines_of self.now k }
-        ensures limited { All IsLimited result.now }
+        ensures { lines_in result ≡ lines_of self.now k }
     {
         self.persons[k].tree().choices()
     }

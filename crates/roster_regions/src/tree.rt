@@ -1,24 +1,38 @@
 //! The lines that a person may still have.
 
-ghost use Rattle.std.specs.Prelude.{◌≡◌, ◌⊎◌, ℕ, true, List, All, IfOk, MatchBool, filter, length, ◌≤ℤ◌, int_le};
+ghost use Rattle.std.specs.Prelude.{◌≡◌, ◌⊎◌, ℕ, true, List, [], All, IfOk, MatchBool, Some, filter, length, map, slice_get, ◌≤ℤ◌, int_le};
 ghost use Rattle.roster_model.specs.Rules.{is_among};
-ghost use Rattle.roster_cost.specs.Amounts.{IsWithin};
+ghost use Rattle.roster_cost.specs.Amounts.{IsWithin, most_extra};
+ghost use Rattle.roster_lines.specs.Entries.{sets_of};
+ghost use Rattle.roster_regions.specs.Building.{allowed_in, extra_in, AreCounted};
 ghost use Rattle.roster_regions.specs.Prices.{value_of, ArePrices};
 ghost use Rattle.roster_regions.specs.Regions.{AllowedLine};
-ghost use Rattle.roster_regions.specs.Trees.{agrees, lines_in, AreCertain, ArePossible, HasJust, IsLimited, Offers};
+ghost use Rattle.roster_regions.specs.Trees.{agrees, lines_in, AreCertain, ArePossible, HasJust, Offers};
 
+use crate::all_lines::AllLines;
 use crate::choice::{Choice, MOST_VALUE};
+use crate::choices::Choices;
 use crate::path::Path;
 use crate::sums::Sums;
 use crate::writer::{Writer, is_same};
+use roster_lines::SharedLines;
 use roster_problem::Set;
 use std::alloc::{AllocError, Global};
 use std::marker::Model;
 
+/// Where the choices of a tree stand.
+#[derive(Debug, Drop)]
+enum Held {
+    /// In the table: all lines of a person.
+    Table(AllLines),
+    /// In the tree itself.
+    Own(Vec<Choice>),
+}
+
 /// The lines that a person may still have, as a tree. Contracts see their list.
 #[derive(Debug, Drop)]
 pub(crate) struct Tree {
-    choices: Vec<Choice>,
+    held: Held,
     possible: Set,
     certain: Set,
     count: usize,
@@ -30,11 +44,11 @@ impl Model for Tree {
 
     ghost Value = { List AllowedLine };
 
-    ghost use Rattle.roster_regions.specs.Trees.{lines_in, IsTree};
+    ghost use Rattle.roster_regions.specs.Held.{lines_held, IsKnown};
 
-    ghost view = { λ t. lines_in t.choices.items };
+    ghost view = { λ t. lines_held t.held };
 
-    ghost invariant = { λ t. IsTree t.choices.items t.possible t.certain t.count };
+    ghost invariant = { λ t. IsKnown t.held t.possible t.certain t.count };
 }
 
 /// Whether a test answers what is wanted.
@@ -66,19 +80,41 @@ impl Tree {
         ensures { result ≡ lines_in writer.choices.items }
     {
         Tree {
-            choices: writer.choices,
+            held: Held::Own(writer.choices),
             possible: writer.possible,
             certain: writer.certain,
             count: writer.count,
         }
     }
 
-    /// The tree's choices.
-    pub(crate) fn choices(&self) -> &[Choice]
-        ensures value { lines_in result.now ≡ self.now }
-        ensures limited { All IsLimited result.now }
+    /// All lines of a person, which stay in the table.
+    pub(crate) fn whole(lines: SharedLines, scale: u32) -> Tree
+        requires counted { AreCounted scale lines }
+        requires near { All (λ entry. IsWithin most_extra (extra_in lines entry)) lines }
+        requires first { slice_get (sets_of lines) 0 ≡ Some [] }
+        ensures { result ≡ map (allowed_in scale lines) lines }
     {
-        &self.choices
+        let count = lines.lines().width();
+        let all = AllLines::new(lines, scale);
+        let possible = all.rows().possible();
+        // The empty line is one of them.
+        let certain = Set::empty();
+        Tree {
+            held: Held::Table(all),
+            possible,
+            certain,
+            count,
+        }
+    }
+
+    /// The tree's choices.
+    pub(crate) fn choices(&self) -> Choices<'_>
+        ensures { lines_in result ≡ self.now }
+    {
+        match &self.held {
+            Held::Table(lines) => return Choices::of_table(lines.rows()),
+            Held::Own(choices) => return Choices::of_tree(choices),
+        }
     }
 
     /// How many lines there are.
@@ -110,10 +146,11 @@ impl Tree {
         let choices = self.choices();
         let mut path = Path::new(alloc);
         let mut writer = Writer::new(alloc);
-        for choice in choices {
-            path.step(choice)?;
-            writer.pass(choice);
-            writer.keep(&path, choice, is_wanted(wanted, path.set().has(p)))?;
+        for i in 0..choices.len() {
+            let choice = choices.at(i);
+            path.step(&choice)?;
+            writer.pass(&choice);
+            writer.keep(&path, &choice, is_wanted(wanted, path.set().has(p)))?;
         }
         Ok(Tree::of(writer))
     }
@@ -133,11 +170,12 @@ impl Tree {
         let mut path = Path::new(alloc);
         let mut sums = Sums::new();
         let mut writer = Writer::new(alloc);
-        for choice in choices {
-            path.step(choice)?;
-            sums.step(choice, prices);
-            writer.pass(choice);
-            writer.keep(&path, choice, sums.value(choice) <= most)?;
+        for i in 0..choices.len() {
+            let choice = choices.at(i);
+            path.step(&choice)?;
+            sums.step(&choice, prices);
+            writer.pass(&choice);
+            writer.keep(&path, &choice, sums.value(&choice) <= most)?;
         }
         Ok(Tree::of(writer))
     }
@@ -151,9 +189,10 @@ impl Tree {
         let choices = self.choices();
         let mut sums = Sums::new();
         let mut least = MOST_VALUE as i64;
-        for choice in choices {
-            sums.step(choice, prices);
-            least = lower(least, choice.live, sums.value(choice));
+        for i in 0..choices.len() {
+            let choice = choices.at(i);
+            sums.step(&choice, prices);
+            least = lower(least, choice.live, sums.value(&choice));
         }
         least
     }
@@ -165,9 +204,10 @@ impl Tree {
         let choices = self.choices();
         let mut sums = Sums::new();
         let mut greatest = -(MOST_VALUE as i64);
-        for choice in choices {
-            sums.step(choice, prices);
-            let value = sums.value(choice);
+        for i in 0..choices.len() {
+            let choice = choices.at(i);
+            sums.step(&choice, prices);
+            let value = sums.value(&choice);
             if choice.live && value > greatest {
                 greatest = value;
             }
@@ -182,8 +222,9 @@ impl Tree {
     {
         let choices = self.choices();
         let mut path = Path::new(alloc);
-        for choice in choices {
-            path.step(choice)?;
+        for i in 0..choices.len() {
+            let choice = choices.at(i);
+            path.step(&choice)?;
             let same = is_same(&path.set(), set);
             if choice.live && same {
                 return Ok(true);

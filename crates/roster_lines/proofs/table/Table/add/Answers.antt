@@ -1,6 +1,7 @@
-use Rattle.std.proofs.Common.{◌≡◌, length, ap, subst, arith}
+use Rattle.std.proofs.Common.{◌≡◌, ◌∙◌, ◌++◌, ◌∷◌, [], List, length, ap, ap₂, sym, subst, arith}
 use Rattle.std.proofs.lemmas.Result.{MatchResult-at_ok, MatchResult-at_err}
 use Rattle.roster_model.specs.Lines.{IsFirstCrowded}
+use Rattle.roster_lines.specs.Entries.{Entry}
 use Rattle.roster_lines.specs.Listing.{IsFaultOf}
 use Rattle.roster_lines.specs.Made.{AreMade, IsTableSoFar}
 use Rattle.roster_lines.proofs.Made.{IsFirstCrowded-next, IsTableSoFar-push}
@@ -20,4 +21,5 @@ returns-clause-table c =
     let problem = c.args.problem.now in
     let table = c.args.self.now in
     let made = MatchResult-at_ok (AreMade problem (length table)) (IsFaultOf problem (length table)) _ c.in-Ok.is c.requires.made in
-    subst (IsTableSoFar problem) (cc c.in_ok-push-in-Ok.ensures.items) (IsTableSoFar-push problem table _ c.requires.table made)
+    let pushed = c.in_ok-push-in-Ok.ensures.items ∙ ap₂ (λ (before : List (List Entry)) (lines : List Entry). before ++ lines ∷ []) c.self.view_is c.in_ok-new-in-Ok.ensures in
+    subst (IsTableSoFar problem) (sym pushed) (IsTableSoFar-push problem table _ c.requires.table made)

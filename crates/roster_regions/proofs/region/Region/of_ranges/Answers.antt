@@ -6,11 +6,16 @@ use Rattle.roster_cost.specs.Amounts.{cost_without_pairings}
 use Rattle.roster_model.specs.Problem.{Problem}
 use Rattle.roster_regions.specs.Regions.{idle_cost}
 use Rattle.roster_regions.proofs.Boxes.{HasRanges, ranges-region, ranges-in, in-ranges}
+use Rattle.roster_regions.proofs.Tables.{first_line}
 use Rattle.roster_regions.proofs.region.Region.of_ranges.Goals as goal
 
 idle_is : (problem : Problem) → cost_without_pairings problem ≡ idle_cost problem
 unfolding idle_cost
 idle_is problem = refl
+
+pub tree_of-requires-clause-first : goal.tree_of-requires-clause-first
+tree_of-requires-clause-first c =
+    first_line c.args.problem.now c.args.table.now c.loop-k.k c.requires.table (omega (arith, ap length c.persons-k-end.ensures.value, c.loop-k-test.true))
 
 has : (c : goal.After-cost_without_pairings) → HasRanges c.args.problem.now c.args.table.now c.args.ranges.now (record { choices = c.loop-k.persons.items; left_open = c.empty.result; flown = c.empty-2.result; scale = c.scale_of-scale.result; idle = to_z w64 (of_z w64 c.cost_without_pairings.result) })
 has c =

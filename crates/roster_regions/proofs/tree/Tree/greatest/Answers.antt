@@ -1,16 +1,21 @@
 use Rattle.std.proofs.Common.{[], take, sym, subst}
 use Rattle.roster_regions.specs.Prices.{AreSums}
 use Rattle.roster_regions.specs.Trees.{path_after}
-use Rattle.roster_regions.proofs.TreeLemmas.{no_choice, path_more}
+use Rattle.roster_regions.proofs.TreeLemmas.{path_at}
 use Rattle.roster_regions.proofs.tree.Tree.greatest.Goals as goal
 
-pub loop-choice-init : goal.loop-choice-init
+pub loop-i-init : goal.loop-i-init
 unfolding path_after
-loop-choice-init c = c.new-sums.ensures c.args.prices.now
+loop-i-init c = c.new-sums.ensures c.args.prices.now
 
-pub loop-choice-preserved : goal.loop-choice-preserved
-loop-choice-preserved c =
-    let choices = c.choices-choices.result.now in
-    let i = c.loop-choice.choice-index in
-    subst (AreSums c.args.prices.now c.step.new.self) (sym (path_more choices i no_choice c.loop-choice-test.true))
-    (c.step.ensures (path_after [] (take i choices)) c.loop-choice.invariant)
+pub step-requires-clause-known : goal.step-requires-clause-known
+step-requires-clause-known c = (path_after [] (take c.loop-i.i c.choices-choices.result), c.loop-i.invariant)
+
+pub value-value-requires-clause-known : goal.value-value-requires-clause-known
+value-value-requires-clause-known c = (c.args.prices.now, _, c.requires, c.step.ensures _ c.loop-i.invariant)
+
+pub loop-i-preserved : goal.loop-i-preserved
+loop-i-preserved c =
+    let choices = c.choices-choices.result in
+    subst (AreSums c.args.prices.now c.step.new.self) (sym (path_at choices c.loop-i.i c.at-choice.result c.at-choice.ensures.value))
+    (c.step.ensures (path_after [] (take c.loop-i.i choices)) c.loop-i.invariant)

@@ -6,7 +6,7 @@ use Rattle.roster_regions.specs.Building.{allowed_between, allowed_in}
 use Rattle.roster_regions.specs.Regions.{AllowedLine, allowed}
 use Rattle.roster_regions.specs.Writing.{IsWriting}
 use Rattle.roster_regions.proofs.Copied.{allowed_between-more, allowed_between-none, allowed_between-whole, no_entry, set_is}
-use Rattle.roster_regions.proofs.build.tree_of.Goals as goal
+use Rattle.roster_regions.proofs.build.copy_of.Goals as goal
 
 pub loop-i-init : goal.loop-i-init
 loop-i-init c =

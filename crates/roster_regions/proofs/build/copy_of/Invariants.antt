@@ -1,6 +1,6 @@
 use Rattle.roster_regions.specs.Building.{allowed_between}
 use Rattle.roster_regions.specs.Writing.{IsWriting}
-use Rattle.roster_regions.proofs.build.tree_of.Given as goal
+use Rattle.roster_regions.proofs.build.copy_of.Given as goal
 
 -- the lines so far are written
 abbrev pub invariant-loop-i : goal.invariant-loop-i
