@@ -1,12 +1,11 @@
 //! Prices over the lines of all persons.
 
-ghost use Rattle.std.specs.Prelude.{◌≡◌, ◌<◌, ◌≤ℤ◌, IfErr, IfOk, IfSome, IsTrue, length, pos};
+ghost use Rattle.std.specs.Prelude.{◌≡◌, ◌<◌, ◌≤ℤ◌, IfErr, IfOk, IsTrue, length, pos};
 ghost use Rattle.std.specs.Arc.{arc_value};
 ghost use Rattle.roster_model.specs.Lines.{IsLine};
 ghost use Rattle.roster_model.specs.Settled.{Anywhere, IsNotAfter};
 ghost use Rattle.roster_lines.specs.Person.{lines_at, IsTableOf};
 ghost use Rattle.roster_cost.specs.Amounts.{IsWithin};
-ghost use Rattle.roster_search.specs.Lefts.{IsLeftOf};
 ghost use Rattle.roster_bounds.specs.declared.prices.TheConstants.{MOST_PRICE};
 ghost use Rattle.roster_bounds.specs.Amounts.{AreReduced};
 ghost use Rattle.roster_bounds.specs.Chosen.{line_set, priced_table, reduced_at, ArePriced, AreReducedBounds, IsReducedBound, penalty_at, price_at};
@@ -16,14 +15,12 @@ use crate::reduced::{least_reduced, reduced};
 use roster_cost::comes_before;
 use roster_lines::Table;
 use roster_problem::{Problem, Roster, Set};
-use roster_search::Left;
 use std::alloc::{AllocError, Global};
 use std::marker::Model;
 use std::sync::Arc;
 
 /// A problem, the table of its lines, and a price for each pairing, with what bounds need of each
-/// person. It may know the best roster, so that a search needn't look for one that comes before it; or what
-/// is left to search.
+/// person. It may know the best roster, so that a search needn't look for one that comes before it.
 #[derive(Debug, Drop)]
 pub struct Tables<'a> {
     problem: &'a Problem,
@@ -33,7 +30,6 @@ pub struct Tables<'a> {
     bounds: Vec<i128>,
     // A roster that is after no legal one.
     best: Option<Arc<Roster>>,
-    left: Option<Left>,
 }
 
 impl<'a> Model for Tables<'a> {
@@ -42,15 +38,13 @@ impl<'a> Model for Tables<'a> {
     ghost use Rattle.std.specs.Prelude.{IfSome};
     ghost use Rattle.std.specs.Arc.{arc_value};
     ghost use Rattle.roster_model.specs.Settled.{Anywhere, IsNotAfter};
-    ghost use Rattle.roster_search.specs.Lefts.{IsLeftOf};
 
     ghost Value = { PricedTable };
 
     ghost view = { λ t. priced_table t.problem.now t.table.now t.prices };
 
     ghost invariant = { λ t. IsBuilt t.problem.now t.table.now t.prices t.bounds.items
-        × IfSome t.best (λ best. IsNotAfter t.problem.now Anywhere (arc_value best))
-        × IfSome t.left (IsLeftOf t.problem.now) };
+        × IfSome t.best (λ best. IsNotAfter t.problem.now Anywhere (arc_value best)) };
 }
 
 impl<'a> Tables<'a> {
@@ -75,7 +69,6 @@ impl<'a> Tables<'a> {
                 prices,
                 bounds,
                 best: None,
-                left: None,
             }),
             Err(refused) => Err((prices, refused)),
         }
@@ -90,24 +83,6 @@ impl<'a> Tables<'a> {
             best: Some(best),
             ..self
         }
-    }
-
-    /// The same tables, which know what is left to search.
-    pub fn leaving(self, left: Left) -> Tables<'a>
-        requires { IsLeftOf self.problem left }
-        ensures { result ≡ self.entry }
-    {
-        Tables {
-            left: Some(left),
-            ..self
-        }
-    }
-
-    /// What is left to search, if all bases but one are settled.
-    pub fn left(&self) -> Option<&Left>
-        ensures { IfSome result (λ left. IsLeftOf self.now.problem left.now) }
-    {
-        self.left.as_ref()
     }
 
     /// Whether it is known that no legal roster comes before this one. It takes no memory.

@@ -1,5 +1,5 @@
 -- The least roster of a box, one base after another.
-use Rattle.std.proofs.Common.{◌≡◌, ℕ, zero, suc, ◌+◌, ◌-◌, ◌^◌, ◌<◌, Bool, true, false, eqb, ltb, not, ◌&&◌, List, [], length, replicate, get_or, Option, Some, None, unwrap_or, MatchOption, option_map, pos, ◌<ℤ◌, refl, sym, ap, ◌∙◌, subst, inl, inr, arith}
+use Rattle.std.proofs.Common.{◌≡◌, ℕ, zero, suc, ◌+◌, ◌-◌, ◌^◌, ◌<◌, true, false, eqb, List, [], length, replicate, get_or, Option, Some, None, unwrap_or, MatchOption, option_map, pos, ◌<ℤ◌, refl, sym, ap, ◌∙◌, subst, inl, inr, arith}
 use Rattle.std.proofs.lemmas.Bool.{both_ways, cond-false, le-ltb, lt-ltb, ne_eqb}
 use Rattle.std.proofs.lemmas.Bool.Decides.{nat_tests}
 use Rattle.std.proofs.lemmas.Int.{ints}
@@ -18,7 +18,7 @@ use Rattle.roster_problem.specs.Sound.{IsSound}
 use Rattle.roster_lines.specs.Entries.{Entry}
 use Rattle.roster_regions.specs.Regions.{IsInRanges}
 use Rattle.roster_search.specs.Least.{CostsAtLeast, IsLeast}
-use Rattle.roster_search.specs.Parts.{base_of_person, before_but, merge, IsInPart, IsNumbered}
+use Rattle.roster_search.specs.Parts.{base_of_person, before, merge, IsInPart, IsNumbered}
 use Rattle.roster_search.proofs.Bases.{found_at}
 use Rattle.roster_search.proofs.LeastParts.{AreParts, merged_is_least}
 use Rattle.roster_search.proofs.Merges.{SharesAddUp, legal-merge, set_of-merge, set_of-merge_other}
@@ -37,72 +37,39 @@ pub nobody_flies : (problem : Problem) (k : ℕ) → k < length problem.persons 
 nobody_flies problem k person = nowhere k 0 (length problem.pairings) (length problem.persons) person
 
 -- there is no base before the first
-none_before : (but base : ℕ) → before_but 0 but base ≡ false
-none_before but base = ap (λ b. b && not (eqb base but)) (le-ltb base 0 (omega arith))
+none_before : (base : ℕ) → before 0 base ≡ false
+none_before base = le-ltb base 0 (omega arith)
 
-pub least_of_none : (problem : Problem) (table : List (List Entry)) (ranges : List (ℕ × ℕ)) (but : ℕ) (places : List ℕ) → places ≡ all_open problem → IsLeast problem (IsInPart problem table ranges (before_but 0 but)) (key_of problem places)
-least_of_none problem table ranges but places same =
+pub least_of_none : (problem : Problem) (table : List (List Entry)) (ranges : List (ℕ × ℕ)) (places : List ℕ) → places ≡ all_open problem → IsLeast problem (IsInPart problem table ranges (before 0)) (key_of problem places)
+least_of_none problem table ranges places same =
     let legal : IsLegalRoster problem places = subst (IsLegalRoster problem) (sym same) (all_open_legal problem) in
     let home : (k : ℕ) → k < length problem.persons → set_of k places ≡ [] = λ k person. ap (set_of k) same ∙ nobody_flies problem k person in
     record {
       held = record { legal = legal; cost = refl };
       inside = record {
         legal = legal;
-        numbered = λ k range at here. absurd (both_ways _ (none_before but (base_of_person problem k)) here);
+        numbered = λ k range at here. absurd (both_ways _ (none_before (base_of_person problem k)) here);
         home = λ k person _. home k person;
       };
       least = λ others other_legal part.
-          let equal : others ≡ places = same_places (length problem.persons) others places (other_legal.covers ∙ sym legal.covers) other_legal.numbers legal.numbers (λ k person. part.home k person (none_before but (base_of_person problem k)) ∙ sym (home k person)) in
+          let equal : others ≡ places = same_places (length problem.persons) others places (other_legal.covers ∙ sym legal.covers) other_legal.numbers legal.numbers (λ k person. part.home k person (none_before (base_of_person problem k)) ∙ sym (home k person)) in
           subst (λ xs. key_le (key_of problem places) (key_of problem xs) ≡ true) (sym equal) (key_le-refl (key_of problem places));
     }
 
--- ---- the same bases by another test
-
-module _ (problem : Problem) (table : List (List Entry)) (ranges : List (ℕ × ℕ)) (covers : length ranges ≡ length problem.persons) (first second : ℕ → Bool) (same : (k : ℕ) → k < length problem.persons → first (base_of_person problem k) ≡ second (base_of_person problem k)) where
-  same_part : (places : List ℕ) → IsInPart problem table ranges first places → IsInPart problem table ranges second places
-  same_part places part = record {
-    legal = part.legal;
-    numbered = λ k range at here. part.numbered k range at (same k (omega (arith, slice_get_within ranges k range at)) ∙ here);
-    home = λ k person none. part.home k person (same k person ∙ none);
-  }
-
-  same_part_back : (places : List ℕ) → IsInPart problem table ranges second places → IsInPart problem table ranges first places
-  same_part_back places part = record {
-    legal = part.legal;
-    numbered = λ k range at here. part.numbered k range at (sym (same k (omega (arith, slice_get_within ranges k range at))) ∙ here);
-    home = λ k person none. part.home k person (sym (same k person) ∙ none);
-  }
-
-  least_of_same : (key : Key) → IsLeast problem (IsInPart problem table ranges first) key → IsLeast problem (IsInPart problem table ranges second) key
-  least_of_same key is = record {
-    held = is.held;
-    inside = same_part key.places is.inside;
-    least = λ others legal part. is.least others legal (same_part_back others part);
-  }
-
 -- ---- one base more
 
-next_base : (base but : ℕ) → ¬ (base ≡ but) → AreParts (λ b. eqb b base) (before_but base but) (before_but (base + 1) but)
-next_base base but other = record {
-  either = λ b. grind (arith, nat_tests, other);
+next_base : (base : ℕ) → AreParts (λ b. eqb b base) (before base) (before (base + 1))
+next_base base = record {
+  either = λ b. grind (arith, nat_tests);
   apart = λ b here. grind (arith, nat_tests);
 }
 
-pub least_of_next : SharesAddUp → (problem : Problem) (table : List (List Entry)) (ranges : List (ℕ × ℕ)) (base but : ℕ) (part : Key) (old new : List ℕ) → length ranges ≡ length problem.persons → ¬ (base ≡ but)
-    → IsLeast problem (IsInPart problem table ranges (λ b. eqb b base)) part → IsLeast problem (IsInPart problem table ranges (before_but base but)) (key_of problem old)
-    → new ≡ merge problem (λ b. eqb b base) part.places old → IsLeast problem (IsInPart problem table ranges (before_but (base + 1) but)) (key_of problem new)
-least_of_next shares problem table ranges base but part old new covers other one two same =
-    subst (λ places. IsLeast problem (IsInPart problem table ranges (before_but (base + 1) but)) (key_of problem places)) (sym same)
-    (merged_is_least problem table ranges covers (λ b. eqb b base) (before_but base but) (before_but (base + 1) but) (next_base base but other) shares part (key_of problem old) one two)
-
--- the one base is passed over
-passed_over : (base but b : ℕ) → base ≡ but → before_but base but b ≡ before_but (base + 1) but b
-passed_over base but b same = grind (arith, nat_tests, same)
-
-pub least_without : (problem : Problem) (table : List (List Entry)) (ranges : List (ℕ × ℕ)) (base but : ℕ) (key : Key) → length ranges ≡ length problem.persons → base ≡ but
-    → IsLeast problem (IsInPart problem table ranges (before_but base but)) key → IsLeast problem (IsInPart problem table ranges (before_but (base + 1) but)) key
-least_without problem table ranges base but key covers same is =
-    least_of_same problem table ranges covers (before_but base but) (before_but (base + 1) but) (λ k person. passed_over base but (base_of_person problem k) same) key is
+pub least_of_next : SharesAddUp → (problem : Problem) (table : List (List Entry)) (ranges : List (ℕ × ℕ)) (base : ℕ) (part : Key) (old new : List ℕ) → length ranges ≡ length problem.persons
+    → IsLeast problem (IsInPart problem table ranges (λ b. eqb b base)) part → IsLeast problem (IsInPart problem table ranges (before base)) (key_of problem old)
+    → new ≡ merge problem (λ b. eqb b base) part.places old → IsLeast problem (IsInPart problem table ranges (before (base + 1))) (key_of problem new)
+least_of_next shares problem table ranges base part old new covers one two same =
+    subst (λ places. IsLeast problem (IsInPart problem table ranges (before (base + 1))) (key_of problem places)) (sym same)
+    (merged_is_least problem table ranges covers (λ b. eqb b base) (before base) (before (base + 1)) (next_base base) shares part (key_of problem old) one two)
 
 -- ---- a base with no roster
 
@@ -136,34 +103,24 @@ settled_by_none problem table ranges base known covers held none fits = record {
 
 -- ---- after the last base
 
-every_base : (problem : Problem) (k : ℕ) → IsSound problem → k < length problem.persons → ltb (base_of_person problem k) MOST_BASES ≡ true
-every_base problem k sound person =
+every_base : (problem : Problem) (n k : ℕ) → IsSound problem → n ≡ MOST_BASES → k < length problem.persons → before n (base_of_person problem k) ≡ true
+every_base problem n k sound all person =
     let who = found_at problem.persons k person in
     let number : base_of_person problem k ≡ who.0.base = ap (λ (found : Option Person). unwrap_or (option_map (λ (x : Person). x.base) found) 0) who.1 in
     let home = sound.homes k who.0 person in
     let there : get_or problem.persons k who.0 ≡ who.0 = get_or_from_slice_get problem.persons k who.0 who.0 who.1 in
     let low = subst (λ (x : Person). x.base < length problem.bases) there home in
     let few = sound.bases in
-    lt-ltb (base_of_person problem k) MOST_BASES (omega (arith, number))
+    lt-ltb (base_of_person problem k) n (omega (arith, number, all))
 
-pub least_but : (problem : Problem) (table : List (List Entry)) (ranges : List (ℕ × ℕ)) (n but : ℕ) (key : Key) → IsSound problem → length ranges ≡ length problem.persons → n ≡ MOST_BASES
-    → IsLeast problem (IsInPart problem table ranges (before_but n but)) key → IsLeast problem (IsInPart problem table ranges (λ b. not (eqb b but))) key
-least_but problem table ranges n but key sound covers all is =
-    least_of_same problem table ranges covers (before_but n but) (λ b. not (eqb b but))
-    (λ k person. ap (λ b. b && not (eqb (base_of_person problem k) but)) (ap (ltb (base_of_person problem k)) all ∙ every_base problem k sound person)) key is
-
--- no person has the base behind the last one
-nobody_behind : (problem : Problem) (k : ℕ) → IsSound problem → k < length problem.persons → not (eqb (base_of_person problem k) MOST_BASES) ≡ true
-nobody_behind problem k sound person = let low = every_base problem k sound person in grind (arith, nat_tests, low)
-
-pub least_of_all : (problem : Problem) (table : List (List Entry)) (ranges : List (ℕ × ℕ)) (key : Key) → IsSound problem → length ranges ≡ length problem.persons → IsLeast problem (IsInPart problem table ranges (λ b. not (eqb b MOST_BASES))) key → IsLeast problem (IsInRanges table ranges) key
-least_of_all problem table ranges key sound covers is = record {
+pub least_of_all : (problem : Problem) (table : List (List Entry)) (ranges : List (ℕ × ℕ)) (n : ℕ) (key : Key) → IsSound problem → length ranges ≡ length problem.persons → n ≡ MOST_BASES → IsLeast problem (IsInPart problem table ranges (before n)) key → IsLeast problem (IsInRanges table ranges) key
+least_of_all problem table ranges n key sound covers all is = record {
   held = is.held;
-  inside = λ k range at. is.inside.numbered k range at (nobody_behind problem k sound (omega (arith, slice_get_within ranges k range at)));
+  inside = λ k range at. is.inside.numbered k range at (every_base problem n k sound all (omega (arith, slice_get_within ranges k range at)));
   least = λ others legal inside. is.least others legal (record {
     legal = legal;
     numbered = λ k range at _. inside k range at;
-    home = λ k person none. absurd (both_ways _ none (nobody_behind problem k sound person));
+    home = λ k person none. absurd (both_ways _ none (every_base problem n k sound all person));
   });
 }
 
@@ -183,9 +140,3 @@ settled_by_earlier problem Region Own known places (Some roster) held legal leas
   least = λ others other_legal inside. subst (λ key. key_le key (key_of problem others) ≡ true) (sym after.0) (least others other_legal inside);
   from = inr (subst (λ (key : Key). Own key.places) (sym after.0) own);
 }
-
--- the known roster, or one that was merged, is held
-pub held_or : (problem : Problem) (known : Key) (places : List ℕ) (found : Option Key) → IsHeld problem known → IsLegalRoster problem places
-    → MatchOption found (key_le known (key_of problem places) ≡ true) (λ roster. (roster ≡ key_of problem places) × (key_le known roster ≡ false)) → IsHeld problem (unwrap_or found known)
-held_or problem known places None held legal before = held
-held_or problem known places (Some roster) held legal after = subst (IsHeld problem) (sym after.0) (record { legal = legal; cost = refl })

@@ -10,7 +10,6 @@ use Rattle.roster_model.specs.Problem.{Problem}
 use Rattle.roster_model.specs.Rosters.{Key, key_of}
 use Rattle.roster_model.specs.Settled.{CostsMore, IsFoundWithin, IsHeld, IsWithinCost, Settles}
 use Rattle.roster_model.proofs.KeyLemmas.{key_le-refl}
-use Rattle.roster_model.proofs.SettledLemmas.{Settles-then}
 use Rattle.roster_search.specs.Least.{IsCheapestBelow, IsLeastBelow}
 use Rattle.roster_search.proofs.Keys.{by_cost, no_dearer}
 use Rattle.roster_regions.specs.Regions.{Has, HasNot, IsIn, IsNarrowed, Region}
@@ -35,7 +34,7 @@ both_if_ok (Ok x) P Q R p q f = f x p q
 both_if_ok (Err e) P Q R p q f = tt
 
 -- a roster costs at most so much, or more
-cost_cases : (most cost : ℤ) → (cost ≤ℤ most) ⊎ (most <ℤ cost)
+pub cost_cases : (most cost : ℤ) → (cost ≤ℤ most) ⊎ (most <ℤ cost)
 cost_cases most cost =
     elim (cases_lt (up most + down cost) (up cost + down most)) [
       | inl less ↦ inr (omega (arith, ints))
@@ -43,7 +42,7 @@ cost_cases most cost =
     ]
 
 -- a person has a pairing, or hasn't
-has_cases : (k p : ℕ) (places : List ℕ) → Has k p places ⊎ HasNot k p places
+pub has_cases : (k p : ℕ) (places : List ℕ) → Has k p places ⊎ HasNot k p places
 has_cases k p places =
     elim (slice_get_cases places p).1 [
       | inl here ↦ elim (eqb_tells here.0 k) [
@@ -82,16 +81,6 @@ pub found_in_part : (problem : Problem) (old new : Region) (most : ℤ) (found :
 found_in_part problem old new most None part is = more_than_part problem old new most part is
 found_in_part problem old new most (Some key) part is = within_part problem (CostsAtMost problem most) old new most key part is
 
--- if nothing is cheap in which the person has the pairing, what is found among the others is what is
--- found in the whole
-pub found_in_rest : (problem : Problem) (k p : ℕ) (old having rest : Region) (most : ℤ) (found : Option Key) → IsNarrowed problem (Has k p) old having → IsNarrowed problem (HasNot k p) old rest → CostsMore problem (IsIn problem having) most → IsFoundWithin problem (IsIn problem rest) most found → IsFoundWithin problem (IsIn problem old) most found
-found_in_rest problem k p old having rest most (Some key) given denied more is = within_part problem (HasNot k p) old rest most key denied is
-found_in_rest problem k p old having rest most None given denied more is =
-    λ others legal inside. elim (has_cases k p others) [
-      | inl has ↦ more others legal (given.kept others inside has)
-      | inr not ↦ is others legal (denied.kept others inside not)
-    ]
-
 -- ---- parts that have all that is cheap
 
 -- what settles the part settles the whole
@@ -116,12 +105,6 @@ settled_below problem region key held above = record {
   least = λ others legal inside. by_cost key (key_of problem others) (above others inside);
   from = inl refl;
 }
-
--- a roster that isn't after the given one takes its place, and then the least of the part
-pub settled_after_cheaper : (problem : Problem) (old new : Region) (before cheaper after : Key) → IsNarrowed problem (CostsAtMost problem before.cost) old new → Settles problem (λ places. ⊥) (IsIn problem new) (Some before) cheaper → Settles problem (IsIn problem new) (IsIn problem new) (Some cheaper) after → Settles problem (IsIn problem old) (IsIn problem old) (Some before) after
-settled_after_cheaper problem old new before cheaper after part first then =
-    settled_in_whole problem old new before after part
-    (Settles-then problem (λ places. ⊥) (IsIn problem new) (IsIn problem new) (IsIn problem new) (Some before) cheaper after first then (λ others legal inside. inr inside))
 
 -- what settles the whole for a cheapest roster below the limit is the least there
 pub least_below : (problem : Problem) (Region : List ℕ → Type 0) (limit : ℤ) (cheapest least : Key) → IsCheapestBelow problem Region limit (Some cheapest) → Settles problem Region Region (Some cheapest) least → IsLeastBelow problem Region limit (Some least)

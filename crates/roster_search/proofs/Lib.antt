@@ -9,5 +9,5 @@ pub mod LeastParts
 pub mod Limits
 pub mod RangeParts
 pub mod BoxLemmas
-pub mod LeftLemmas
 pub mod FindLemmas
+pub mod OpenLemmas

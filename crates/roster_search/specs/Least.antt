@@ -1,8 +1,8 @@
 -- What is found of the cheapest rosters of a region, and of the first among them.
-use Rattle.std.specs.Prelude.{ℕ, List, Option, Some, None, ℤ, ◌≤ℤ◌, ◌<ℤ◌}
+use Rattle.std.specs.Prelude.{◌≡◌, ℕ, false, IfSome, List, Option, Some, None, ℤ, ◌≤ℤ◌, ◌<ℤ◌}
 use Rattle.roster_model.specs.Costs.{cost_of}
 use Rattle.roster_model.specs.Problem.{Problem}
-use Rattle.roster_model.specs.Rosters.{IsLegalRoster, Key}
+use Rattle.roster_model.specs.Rosters.{IsLegalRoster, Key, key_le}
 use Rattle.roster_model.specs.Settled.{IsHeld, IsNotAfter}
 
 -- every legal roster in the region costs at least so much
@@ -31,3 +31,7 @@ pub record IsLeast (problem : Problem) (Region : List ℕ → Type 0) (key : Key
 abbrev pub IsLeastBelow : Problem → (List ℕ → Type 0) → ℤ → Option Key → Type 0
 IsLeastBelow problem Region limit None = CostsAtLeast problem Region limit
 IsLeastBelow problem Region limit (Some key) = IsLeast problem Region key × (key.cost <ℤ limit)
+
+-- what is found, if anything, comes before the known roster
+abbrev pub IsBefore : Key → Option Key → Type 0
+IsBefore known found = IfSome found (λ roster. key_le known roster ≡ false)

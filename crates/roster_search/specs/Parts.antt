@@ -1,6 +1,6 @@
 -- Parts of a problem: the persons and the pairings of some bases. No line has another base's pairing, so
 -- parts share neither persons nor pairings.
-use Rattle.std.specs.Prelude.{◌≡◌, ℕ, ◌+◌, ◌-◌, ◌^◌, ◌<◌, ◌≤◌, ◌&&◌, All, Bool, true, false, nat_lt, not, ◌==◌, if◌then◌else◌, List, [], ◌∷◌, Option, Some, None, length, option_map, pos, slice_get, unwrap_or}
+use Rattle.std.specs.Prelude.{◌≡◌, ℕ, ◌+◌, ◌-◌, ◌^◌, ◌<◌, ◌≤◌, All, Bool, true, false, nat_lt, ◌==◌, if◌then◌else◌, List, [], ◌∷◌, Option, Some, None, length, option_map, pos, slice_get, unwrap_or}
 use Rattle.roster_model.specs.Places.{set_of}
 use Rattle.roster_model.specs.Problem.{Problem}
 use Rattle.roster_model.specs.Rosters.{IsLegalRoster, Key}
@@ -27,9 +27,9 @@ pick test p (x ∷ xs) (y ∷ ys) = (if test p then x else y) ∷ pick test (p +
 abbrev pub merge : Problem → (ℕ → Bool) → List ℕ → List ℕ → List ℕ
 merge problem part xs ys = pick (λ p. part (base_of_pairing problem p)) 0 xs ys
 
--- the bases before a number, but for one
-abbrev pub before_but : ℕ → ℕ → ℕ → Bool
-before_but n but base = nat_lt base n && not (base == but)
+-- the bases before a number
+abbrev pub before : ℕ → ℕ → Bool
+before n base = nat_lt base n
 
 -- the set is a line of person k whose number is in the range
 abbrev pub IsNumbered : List (List Entry) → ℕ → ℕ × ℕ → List ℕ → Type 0

@@ -4,8 +4,7 @@ ghost use Rattle.std.specs.Prelude.{◌≤ℤ◌, ◌<ℤ◌, IfOk};
 ghost use Rattle.roster_regions.specs.Regions.{IsIn, IsRegion};
 ghost use Rattle.roster_search.specs.Least.{CostsAtLeast, IsCheapestBelow};
 
-use crate::finding::find;
-use crate::nodes::Nodes;
+use crate::finder::Finder;
 use roster_prices::DualPrices;
 use roster_problem::{Problem, Roster};
 use roster_regions::Region;
@@ -16,7 +15,7 @@ use std::alloc::{AllocError, Global};
 ///
 /// It asks for one that costs less than is likely, as there will be none, and goes on from there in ever
 /// larger steps: a search ends soon if little more may be paid than must be.
-pub(crate) fn cheapest<N: Nodes>(
+pub(crate) fn cheapest<F: Finder>(
     alloc: Global,
     problem: &Problem,
     region: &Region,
@@ -24,13 +23,14 @@ pub(crate) fn cheapest<N: Nodes>(
     least: i64,
     likely: i64,
     limit: i64,
-    nodes: &mut N,
+    finder: &mut F,
 ) -> Result<Option<Roster>, AllocError>
+    requires finder { F.may_find }
     requires region { IsRegion problem.now region.now }
     requires least { CostsAtLeast problem.now (IsIn problem.now region.now) least }
     ensures cheapest { IfOk result
         (IsCheapestBelow problem.now (IsIn problem.now region.now) limit) }
-    ensures goes_on { N.goes_on nodes.old nodes.new }
+    ensures goes_on { F.goes_on finder.old finder.new }
 {
     let mut low = least;
     let mut high = limit;
@@ -39,7 +39,7 @@ pub(crate) fn cheapest<N: Nodes>(
     let mut step = 0;
     while low < high {
         let most = raised(low, high, wanted);
-        match find(alloc, problem, region.copy(alloc)?, prices, most, nodes)? {
+        match finder.find(alloc, problem, region.copy(alloc)?, prices, most)? {
             Some(roster) => {
                 high = roster.cost;
                 best = Some(roster);

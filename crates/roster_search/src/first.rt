@@ -8,8 +8,7 @@ ghost use Rattle.roster_regions.specs.Regions.{Has, HasNot, IsIn, IsNarrowed, Is
 ghost use Rattle.roster_search.specs.Firsts.{AgreeBefore, IsSettledAt};
 ghost use Rattle.roster_search.specs.Least.{CostsAtLeast};
 
-use crate::finding::find;
-use crate::nodes::Nodes;
+use crate::finder::Finder;
 use roster_prices::DualPrices;
 use roster_problem::{Problem, Roster, open_number};
 use roster_regions::Region;
@@ -20,23 +19,24 @@ use std::alloc::{AllocError, Global};
 ///
 /// It settles one pairing after another: the first person who has it in one of them, if there is one, and
 /// from there on the region has no others. It ends early if nothing is left there.
-pub(crate) fn first<N: Nodes>(
+pub(crate) fn first<F: Finder>(
     alloc: Global,
     problem: &Problem,
     region: &mut Region,
     roster: &mut Roster,
     prices: &DualPrices,
-    nodes: &mut N,
+    finder: &mut F,
 ) -> Result<(), AllocError>
+    requires finder { F.may_find }
     requires region { IsRegion problem.now region.old }
     requires held { IsHeld problem.now roster.old }
     requires least { CostsAtLeast problem.now (IsIn problem.now region.old) roster.old.cost }
     ensures settled { OnOk result (Settles problem.now (IsIn problem.now region.old)
         (IsIn problem.now region.old) (Some roster.old) roster.new) }
-    ensures goes_on { N.goes_on nodes.old nodes.new }
+    ensures goes_on { F.goes_on finder.old finder.new }
 {
     for p in 0..problem.pairings().len() {
-        settle(alloc, problem, region, roster, prices, p, nodes)?;
+        settle(alloc, problem, region, roster, prices, p, finder)?;
         if is_empty(problem, region) {
             return Ok(());
         }
@@ -59,22 +59,23 @@ fn is_empty(problem: &Problem, region: &Region) -> bool
 
 /// Settles who has the pairing at place `p`. In the new region all have there what the new roster has: the
 /// first number that the old one has there, or a roster of the region that costs as little.
-fn settle<N: Nodes>(
+fn settle<F: Finder>(
     alloc: Global,
     problem: &Problem,
     region: &mut Region,
     roster: &mut Roster,
     prices: &DualPrices,
     p: usize,
-    nodes: &mut N,
+    finder: &mut F,
 ) -> Result<(), AllocError>
+    requires finder { F.may_find }
     requires pairing { p < length problem.now.pairings }
     requires agree { AgreeBefore problem.now p region.old roster.old }
     ensures settled { OnOk result
         (IsSettledAt problem.now p region.old roster.old region.new roster.new) }
-    ensures goes_on { N.goes_on nodes.old nodes.new }
+    ensures goes_on { F.goes_on finder.old finder.new }
 {
-    if let Some(earlier) = earlier_at(alloc, problem, region, roster, prices, p, nodes)? {
+    if let Some(earlier) = earlier_at(alloc, problem, region, roster, prices, p, finder)? {
         *roster = earlier;
     }
     Ok(())
@@ -82,25 +83,26 @@ fn settle<N: Nodes>(
 
 /// The roster with the first number at place `p`, if that is before the number of the given one. It is
 /// settled there in the region.
-fn earlier_at<N: Nodes>(
+fn earlier_at<F: Finder>(
     alloc: Global,
     problem: &Problem,
     region: &mut Region,
     roster: &Roster,
     prices: &DualPrices,
     p: usize,
-    nodes: &mut N,
+    finder: &mut F,
 ) -> Result<Option<Roster>, AllocError>
+    requires finder { F.may_find }
     requires pairing { p < length problem.now.pairings }
     requires agree { AgreeBefore problem.now p region.old roster.now }
     ensures settled { IfOk result (λ earlier. IsSettledAt problem.now p region.old roster.now
         region.new (unwrap_or earlier roster.now)) }
-    ensures goes_on { N.goes_on nodes.old nodes.new }
+    ensures goes_on { F.goes_on finder.old finder.new }
 {
     let number = roster.places.as_slice()[p];
     let cost = roster.cost;
     for k in 0..usize::from(number) {
-        match with_person(alloc, problem, region, k, p, prices, cost, nodes)? {
+        match with_person(alloc, problem, region, k, p, prices, cost, finder)? {
             Some(earlier) => {
                 region.give(alloc, problem, k, p)?;
                 return Ok(Some(earlier));
@@ -114,7 +116,7 @@ fn earlier_at<N: Nodes>(
 
 /// Some roster of the region that costs at most so much and in which person `k` has the pairing at place
 /// `p`, or none, and then each of them costs more.
-fn with_person<N: Nodes>(
+fn with_person<F: Finder>(
     alloc: Global,
     problem: &Problem,
     region: &Region,
@@ -122,21 +124,22 @@ fn with_person<N: Nodes>(
     p: usize,
     prices: &DualPrices,
     most: i64,
-    nodes: &mut N,
+    finder: &mut F,
 ) -> Result<Option<Roster>, AllocError>
+    requires finder { F.may_find }
     requires region { IsRegion problem.now region.now }
     requires person { k < length problem.now.persons }
     requires pairing { p < length problem.now.pairings }
     ensures found { IfOk result (IsFoundWithin problem.now
         (λ places. IsIn problem.now region.now places × Has k p places) most) }
-    ensures goes_on { N.goes_on nodes.old nodes.new }
+    ensures goes_on { F.goes_on finder.old finder.new }
 {
     if !may_have(problem, region, k, p) {
         return Ok(None);
     }
     let mut given = region.copy(alloc)?;
     given.give(alloc, problem, k, p)?;
-    find(alloc, problem, given, prices, most, nodes)
+    finder.find(alloc, problem, given, prices, most)
 }
 
 /// Whether some line that the region leaves person `k` has the pairing at place `p`.

@@ -1,15 +1,13 @@
 //! Nodes of a search, as they are counted.
 
-use std::alloc::AllocError;
-
 /// What is told of each node of a search, before the node is searched. It may count them, and look
 /// elsewhere now and then; nothing that a search answers rests on it.
 pub trait Nodes {
     /// What becomes of it by nodes and nothing else.
     ghost goes_on: { Self → Self → Type 0 };
 
-    /// One more node. An error ends the search.
-    fn node(&mut self) -> Result<(), AllocError>
+    /// One more node.
+    fn node(&mut self)
         ensures { goes_on self.old self.new };
 
     ghost stays: { (now : Self) → goes_on now now };
@@ -24,9 +22,7 @@ pub(crate) struct Unseen;
 impl Nodes for Unseen {
     ghost goes_on = { λ old new. Unit };
 
-    fn node(&mut self) -> Result<(), AllocError> {
-        Ok(())
-    }
+    fn node(&mut self) {}
 
     ghost stays = { λ now. tt };
 

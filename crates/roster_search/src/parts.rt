@@ -5,41 +5,45 @@ ghost use Rattle.roster_lines.specs.Person.{IsTableOf};
 ghost use Rattle.roster_search.specs.Least.{IsLeastBelow};
 ghost use Rattle.roster_search.specs.Parts.{merge, AreOwnRanges, IsInPart, IsRegionOfPart};
 
+use crate::crew::Crew;
+use crate::finder::Finder;
 use crate::least::least;
-use crate::nodes::{Nodes, Unseen};
 use crate::root::{RootPrices, root_prices, root_prices_by_threads};
 use roster_lines::Table;
 use roster_problem::{Problem, Roster, open_number};
 use roster_regions::Region;
 use std::alloc::{AllocError, Global};
+use std::sync::atomic::AtomicUsize;
 use std::thread::Threads;
 
 /// The least roster in which the persons of one base have lines in their ranges and all others no pairing,
 /// if there is one.
-pub(crate) fn least_of_base<N: Nodes>(
+pub(crate) fn least_of_base<F: Finder>(
     alloc: Global,
     problem: &Problem,
     table: &Table,
     ranges: &[(usize, usize)],
     base: usize,
-    nodes: &mut N,
+    finder: &mut F,
 ) -> Result<Option<Roster>, AllocError>
+    requires finder { F.may_find }
     requires table { IsTableOf problem.now table.now }
     requires ranges { length ranges.now ≡ length table.now }
     ensures least { IfOk result (IsLeastBelow problem.now
         (IsInPart problem.now table.now ranges.now (λ b. b == base)) (pos (2 ^ 63 - 1))) }
-    ensures goes_on { N.goes_on nodes.old nodes.new }
+    ensures goes_on { F.goes_on finder.old finder.new }
 {
     let region = region_of_base(alloc, problem, table, ranges, base)?;
     let root = root_prices(alloc, problem, &region)?;
-    least_in(alloc, problem, table, ranges, base, region, &root, nodes)
+    least_in(alloc, problem, table, ranges, base, region, &root, finder)
 }
 
-/// `least_of_base`, for which so many threads look at the lines.
+/// `least_of_base`, for which so many threads look at the lines; those that have nothing to do help to search.
 pub(crate) fn least_of_base_by_threads<R: Threads + Sync>(
     rt: &R,
     alloc: Global,
     threads: usize,
+    idle: &AtomicUsize,
     problem: &Problem,
     table: &Table,
     ranges: &[(usize, usize)],
@@ -61,7 +65,7 @@ pub(crate) fn least_of_base_by_threads<R: Threads + Sync>(
         base,
         region,
         &root,
-        &mut Unseen,
+        &mut Crew::new(rt, idle),
     )
 }
 
@@ -82,7 +86,7 @@ pub(crate) fn region_of_base(
 }
 
 /// The least roster of the base, in its region.
-fn least_in<N: Nodes>(
+fn least_in<F: Finder>(
     alloc: Global,
     problem: &Problem,
     table: &Table,
@@ -90,14 +94,15 @@ fn least_in<N: Nodes>(
     base: usize,
     region: Region,
     root: &RootPrices,
-    nodes: &mut N,
+    finder: &mut F,
 ) -> Result<Option<Roster>, AllocError>
-    requires { IsRegionOfPart problem.now table.now ranges.now base region }
+    requires finder { F.may_find }
+    requires part { IsRegionOfPart problem.now table.now ranges.now base region }
     ensures least { IfOk result (IsLeastBelow problem.now
         (IsInPart problem.now table.now ranges.now (λ b. b == base)) (pos (2 ^ 63 - 1))) }
-    ensures goes_on { N.goes_on nodes.old nodes.new }
+    ensures goes_on { F.goes_on finder.old finder.new }
 {
-    least(alloc, problem, region, root, i64::MAX, nodes)
+    least(alloc, problem, region, root, i64::MAX, finder)
 }
 
 /// The ranges of the persons of the base; everybody else has the empty line only.

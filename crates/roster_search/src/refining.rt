@@ -128,7 +128,7 @@ fn cheap(
 }
 
 /// A roster of the region that is rounded from the prices, with its cost, if one comes out.
-pub(crate) fn rounded_in(
+fn rounded_in(
     alloc: Global,
     problem: &Problem,
     region: &Region,

@@ -1,14 +1,13 @@
-use Rattle.std.proofs.Common.{◌≡◌, length, eqb, not, subst, arith}
+use Rattle.std.proofs.Common.{◌≡◌, length, subst, arith}
 use Rattle.std.specs.Prelude.{MatchOption}
 use Rattle.std.proofs.lemmas.List.{length-map}
 use Rattle.std.proofs.lemmas.Option.{MatchOption-at_some}
 use Rattle.roster_lines.specs.Entries.{sets_of}
-use Rattle.roster_model.specs.declared.limits.TheConstants.{MOST_BASES}
 use Rattle.roster_model.specs.Rosters.{key_of}
 use Rattle.roster_regions.specs.Regions.{IsInRanges}
 use Rattle.roster_search.specs.Least.{IsLeast}
-use Rattle.roster_search.specs.Parts.{IsInPart, IsWithoutPart}
-use Rattle.roster_search.proofs.BoxLemmas.{least_of_all, settled_by_earlier, settled_by_none}
+use Rattle.roster_search.specs.Parts.{IsWithoutPart}
+use Rattle.roster_search.proofs.BoxLemmas.{settled_by_earlier, settled_by_none}
 use Rattle.roster_search.proofs.boxes.least_with.Goals as goal
 
 pub returns-in-None-clause-settled : goal.returns-in-None-clause-settled
@@ -17,7 +16,7 @@ returns-in-None-clause-settled g c =
     let table = c.args.table.now in
     let ranges = c.args.ranges.now in
     let covers : length ranges ≡ length problem.persons = omega (arith, c.requires.ranges, c.requires.table.sets.covers, length-map table sets_of) in
-    let none : IsWithoutPart problem table ranges = subst (λ found. MatchOption found (IsWithoutPart problem table ranges) (λ places. IsLeast problem (IsInPart problem table ranges (λ b. not (eqb b MOST_BASES))) (key_of problem places.items))) c.in-None.is c.in_ok-places.ensures.least in
+    let none : IsWithoutPart problem table ranges = subst (λ found. MatchOption found (IsWithoutPart problem table ranges) (λ places. IsLeast problem (IsInRanges table ranges) (key_of problem places.items))) c.in-None.is c.in_ok-places.ensures.least in
     settled_by_none problem table ranges none.0 c.args.known.now covers c.requires.known none.1 c.costs_fit.ensures.high
 
 pub returns-in-Some-clause-settled : goal.returns-in-Some-clause-settled
@@ -26,6 +25,5 @@ returns-in-Some-clause-settled g c =
     let table = c.args.table.now in
     let ranges = c.args.ranges.now in
     let covers : length ranges ≡ length problem.persons = omega (arith, c.requires.ranges, c.requires.table.sets.covers, length-map table sets_of) in
-    let some = MatchOption-at_some _ _ _ c.in-Some.is c.in_ok-places.ensures.least in
-    let least = least_of_all problem table ranges (key_of problem c.in-Some.places.items) c.is_sound.ensures.sound covers some in
+    let least = MatchOption-at_some _ _ _ c.in-Some.is c.in_ok-places.ensures.least in
     settled_by_earlier problem (IsInRanges table ranges) (IsInRanges table ranges) c.args.known.now c.in-Some.places.items c.if_before.result c.requires.known least.held.legal least.least least.inside c.if_before.ensures.earlier

@@ -1,25 +1,16 @@
 use Rattle.std.proofs.Common.{◌≡◌, ◌-◌, ◌^◌, ℕ, List, length, eqb, pos, ap, subst, ◌∙◌, arith}
 use Rattle.std.proofs.lemmas.List.{length-map}
 use Rattle.roster_lines.specs.Entries.{sets_of}
-use Rattle.roster_model.specs.Rosters.{key_of}
 use Rattle.roster_search.specs.Least.{IsLeastBelow}
 use Rattle.roster_search.specs.Parts.{merge, IsInPart}
-use Rattle.roster_search.proofs.BoxLemmas.{least_of_next, least_without}
+use Rattle.roster_search.proofs.BoxLemmas.{least_of_next}
 use Rattle.roster_search.proofs.boxes.with_base.Goals as goal
-
-pub returns-then-other-base-clause-least : goal.returns-then-other-base-clause-least
-returns-then-other-base-clause-least g c =
-    let problem = c.args.problem.now in
-    let table = c.args.table.now in
-    let ranges = c.args.ranges.now in
-    let covers : length ranges ≡ length problem.persons = omega (arith, c.requires.ranges, c.requires.table.sets.covers, length-map table sets_of) in
-    least_without problem table ranges c.args.other c.args.base (key_of problem c.args.places.items) covers c.if-other-base.true c.requires.least
 
 pub returns-clause-least : goal.returns-clause-least
 returns-clause-least g c =
     let problem = c.args.problem.now in
-    let other : ℕ = c.args.other in
-    (other, subst (λ found. IsLeastBelow problem (IsInPart problem c.args.table.now c.args.ranges.now (λ b. eqb b other)) (pos (2 ^ 63 - 1)) found) c.in-None.is c.in_ok-part.ensures.least)
+    let base : ℕ = c.args.base in
+    (base, subst (λ found. IsLeastBelow problem (IsInPart problem c.args.table.now c.args.ranges.now (λ b. eqb b base)) (pos (2 ^ 63 - 1)) found) c.in-None.is c.in_ok-part.ensures.least)
 
 pub returns-in-Some-clause-least : goal.returns-in-Some-clause-least
 returns-in-Some-clause-least g c =
@@ -27,11 +18,11 @@ returns-in-Some-clause-least g c =
     let table = c.args.table.now in
     let ranges = c.args.ranges.now in
     let covers : length ranges ≡ length problem.persons = omega (arith, c.requires.ranges, c.requires.table.sets.covers, length-map table sets_of) in
-    let other : ℕ = c.args.other in
-    let part = subst (λ found. IsLeastBelow problem (IsInPart problem table ranges (λ b. eqb b other)) (pos (2 ^ 63 - 1)) found) c.in-Some.is c.in_ok-part.ensures.least in
+    let base : ℕ = c.args.base in
+    let part = subst (λ found. IsLeastBelow problem (IsInPart problem table ranges (λ b. eqb b base)) (pos (2 ^ 63 - 1)) found) c.in-Some.is c.in_ok-part.ensures.least in
     let old : List ℕ = c.args.places.items in
     let new : List ℕ = c.in_ok-merged-in-Some.field-0.items in
-    let seen : new ≡ merge problem (λ b. eqb b other) c.in-Some.part.places c.deref.result.now = c.in_ok-merged-in-Some.ensures in
-    let same : new ≡ merge problem (λ b. eqb b other) c.in-Some.part.places old =
-    seen ∙ ap (merge problem (λ b. eqb b other) c.in-Some.part.places) c.deref.ensures.value in
-    least_of_next c.shares_add_up.ensures problem table ranges other c.args.base c.in-Some.part old new covers c.if-other-base.false part.0 c.requires.least same
+    let seen : new ≡ merge problem (λ b. eqb b base) c.in-Some.part.places c.deref.result.now = c.in_ok-merged-in-Some.ensures in
+    let same : new ≡ merge problem (λ b. eqb b base) c.in-Some.part.places old =
+    seen ∙ ap (merge problem (λ b. eqb b base) c.in-Some.part.places) c.deref.ensures.value in
+    least_of_next c.shares_add_up.ensures problem table ranges base c.in-Some.part old new covers part.0 c.requires.least same

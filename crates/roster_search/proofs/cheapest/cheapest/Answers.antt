@@ -50,7 +50,7 @@ loop-low-preserved g c =
           record {
             least = subst (CostsAtLeast problem Here) (sym w.low-is) inv.least;
             beaten = subst (IsBeaten problem Here limit (to_z w64 c.match-branch-3.high-bits)) (sym w.best-is) (subst (λ z. IsBeaten problem Here limit z (Some key)) (sym cost) beaten);
-            goes_on = g.met.N.Nodes.follows _ _ _ inv.goes_on c.find.ensures.goes_on;
+            goes_on = g.met.F.Finder.follows _ _ _ inv.goes_on c.find.ensures.goes_on;
           }
       | in-None w ↦
           let found = subst (IsFoundWithin problem Here most) w.in-None.is (found_in_copy problem c.args.region.now c.in_ok-copy.field-0 most c.in_ok-roster.field-0 c.in_ok-copy.ensures c.in_ok-roster.ensures.found) in
@@ -58,6 +58,6 @@ loop-low-preserved g c =
           record {
             least = raised_least problem Here most (to_z w64 c.match-branch-3.low-bits) found next;
             beaten = subst (IsBeaten problem Here limit (to_z w64 c.match-branch-3.high-bits)) (sym w.best-is) (subst (λ z. IsBeaten problem Here limit z c.loop-low.best) (sym w.high-is) inv.beaten);
-            goes_on = g.met.N.Nodes.follows _ _ _ inv.goes_on c.find.ensures.goes_on;
+            goes_on = g.met.F.Finder.follows _ _ _ inv.goes_on c.find.ensures.goes_on;
           }
     ]

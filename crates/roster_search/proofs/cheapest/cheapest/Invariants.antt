@@ -8,7 +8,7 @@ abbrev pub invariant-loop-low : goal.invariant-loop-low
 invariant-loop-low g l = record {
   least : CostsAtLeast l.problem (IsIn l.problem l.region) l.low;
   beaten : IsBeaten l.problem (IsIn l.problem l.region) l.limit l.high l.best;
-  goes_on : g.N.Nodes.goes_on l.initial.nodes l.nodes;
+  goes_on : g.F.Finder.goes_on l.initial.finder l.finder;
 }
 
 abbrev pub decreases-loop-low : goal.decreases-loop-low

@@ -17,7 +17,7 @@ loop-k-preserved g c =
     record {
       tried = tried_one_more problem c.args.p c.loop-k.k c.args.region.now c.loop-k.region c.deny.new.self key c.loop-k.invariant.tried
           (subst (CostsMore problem Here) cost none) c.in_ok-deny-in-None.ensures.narrowed;
-      goes_on = g.met.N.Nodes.follows _ _ _ c.loop-k.invariant.goes_on c.with_person.ensures.goes_on;
+      goes_on = g.met.F.Finder.follows _ _ _ c.loop-k.invariant.goes_on c.with_person.ensures.goes_on;
     }
 
 pub returns-in-Some-clause-settled : goal.returns-in-Some-clause-settled

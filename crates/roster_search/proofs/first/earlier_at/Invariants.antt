@@ -5,5 +5,5 @@ use Rattle.roster_search.proofs.first.earlier_at.Given as goal
 abbrev pub invariant-loop-k : goal.invariant-loop-k
 invariant-loop-k g l = record {
   tried : AreTried l.problem l.p l.k l.initial.region l.region l.roster;
-  goes_on : g.N.Nodes.goes_on l.initial.nodes l.nodes;
+  goes_on : g.F.Finder.goes_on l.initial.finder l.finder;
 }

@@ -6,7 +6,7 @@ pub loop-p-init : goal.loop-p-init
 loop-p-init g c = record {
   agree = agree_before_first c.args.problem.now c.args.region.now c.args.roster.now c.requires.region c.requires.held;
   on = goes_on_none c.args.problem.now c.args.region.now c.args.roster.now;
-  goes_on = g.met.N.Nodes.stays _;
+  goes_on = g.met.F.Finder.stays _;
 }
 
 pub loop-p-preserved : goal.loop-p-preserved
@@ -15,7 +15,7 @@ loop-p-preserved g c =
     record {
       agree = settled.agree;
       on = goes_on_then c.args.problem.now c.args.region.now c.loop-p.region c.settle.new.region c.args.roster.now c.loop-p.roster c.settle.new.roster c.loop-p.invariant.on settled.on;
-      goes_on = g.met.N.Nodes.follows _ _ _ c.loop-p.invariant.goes_on c.settle.ensures.goes_on;
+      goes_on = g.met.F.Finder.follows _ _ _ c.loop-p.invariant.goes_on c.settle.ensures.goes_on;
     }
 
 pub returns-then-is_empty-clause-settled : goal.returns-then-is_empty-clause-settled

@@ -1,0 +1,20 @@
+use Rattle.std.proofs.Common.{◌≡◌, length, arith}
+use Rattle.std.proofs.lemmas.List.{length-map}
+use Rattle.roster_lines.specs.Entries.{sets_of}
+use Rattle.roster_model.specs.Rosters.{key_of}
+use Rattle.roster_search.proofs.BoxLemmas.{least_of_all, least_of_none}
+use Rattle.roster_search.proofs.boxes.merged_bases.Goals as goal
+
+pub loop-base-init : goal.loop-base-init
+loop-base-init g c = record {
+  least = least_of_none c.args.problem.now c.args.table.now c.args.ranges.now c.in_ok-places.places.items c.in_ok-places.ensures;
+  goes_on = g.met.F.Finder.stays _;
+}
+
+pub returns-clause-least : goal.returns-clause-least
+returns-clause-least g c =
+    let problem = c.args.problem.now in
+    let table = c.args.table.now in
+    let ranges = c.args.ranges.now in
+    let covers : length ranges ≡ length problem.persons = omega (arith, c.requires.ranges, c.requires.table.sets.covers, length-map table sets_of) in
+    least_of_all problem table ranges c.loop-base.base (key_of problem c.loop-base.places.items) c.is_sound.ensures.sound covers (omega (arith, c.loop-base-test.false, c.loop-base.auto.base-end)) c.loop-base.invariant.least

@@ -1,0 +1,107 @@
+//! Open nodes of a search: parts of a region that are still to be searched.
+
+ghost use Rattle.std.specs.Prelude.{◌≡◌, IfOk};
+ghost use Rattle.roster_model.specs.Settled.{IsFoundWithin};
+ghost use Rattle.roster_regions.specs.Regions.{IsDecided, IsIn, IsRegion};
+ghost use Rattle.roster_search.specs.Open.{IsVisited};
+
+use crate::refining::{Refined, next_split, refine};
+use roster_cost::roster_cost;
+use roster_prices::DualPrices;
+use roster_problem::{Places, Problem, Roster};
+use roster_regions::Region;
+use std::alloc::{AllocError, Global};
+use std::marker::Model;
+
+/// A region that is still to be searched. Any prices will do for it; good ones make it short. Contracts see
+/// only the region.
+#[derive(Drop)]
+pub(crate) struct OpenNode {
+    region: Region,
+    prices: DualPrices,
+}
+
+impl Model for OpenNode {
+    ghost use Rattle.roster_regions.specs.Regions as regions;
+
+    ghost Value = { regions.Region };
+
+    ghost view = { λ n. n.region };
+}
+
+impl OpenNode {
+    /// The region, with these prices to begin with.
+    pub(crate) fn new(region: Region, prices: DualPrices) -> OpenNode
+        ensures { result ≡ region }
+    {
+        OpenNode { region, prices }
+    }
+
+    /// How many lines are left in the region.
+    pub(crate) fn lines(&self, problem: &Problem) -> usize
+        requires { IsRegion problem.now self.now }
+    {
+        let mut lines: usize = 0;
+        for k in 0..problem.persons().len() {
+            lines = lines.wrapping_add(self.region.width(k));
+        }
+        lines
+    }
+}
+
+/// What comes of an open node.
+#[derive(Drop)]
+pub(crate) enum Visited {
+    /// A roster that costs little enough, or there is none.
+    Ended(Option<Roster>),
+    /// The rosters in which some person has some pairing, and the others.
+    Parted(OpenNode, OpenNode),
+}
+
+/// Makes the region as small as prices make it, and then parts it, if all isn't decided.
+pub(crate) fn visit(
+    alloc: Global,
+    problem: &Problem,
+    node: OpenNode,
+    most: i64,
+) -> Result<Visited, AllocError>
+    requires { IsRegion problem.now node }
+    ensures { IfOk result (IsVisited problem.now node most) }
+{
+    let OpenNode { mut region, prices } = node;
+    let prices = match refine(alloc, problem, &mut region, &prices, most)? {
+        Refined::Found(roster) => return Ok(Visited::Ended(Some(roster))),
+        Refined::Nothing => return Ok(Visited::Ended(None)),
+        Refined::Part(prices) => prices,
+    };
+    let Some((k, p)) = next_split(alloc, problem, &region, &prices)? else {
+        return Ok(Visited::Ended(only(alloc, problem, &region, most)?));
+    };
+    let mut having = region.copy(alloc)?;
+    having.give(alloc, problem, k, p)?;
+    region.deny(alloc, problem, k, p)?;
+    let having = OpenNode::new(having, prices.copy(alloc)?);
+    Ok(Visited::Parted(having, OpenNode::new(region, prices)))
+}
+
+/// The only roster of a region in which all is decided, if there is one and it costs at most so much.
+fn only(
+    alloc: Global,
+    problem: &Problem,
+    region: &Region,
+    most: i64,
+) -> Result<Option<Roster>, AllocError>
+    requires region { IsRegion problem.now region.now }
+    requires decided { IsDecided region.now }
+    ensures { IfOk result (IsFoundWithin problem.now (IsIn problem.now region.now) most) }
+{
+    let Some(places) = region.only(alloc, problem)? else {
+        return Ok(None);
+    };
+    let cost = roster_cost(problem, &places);
+    if cost > most {
+        return Ok(None);
+    }
+    let places = Places::new(places);
+    Ok(Some(Roster { places, cost }))
+}
