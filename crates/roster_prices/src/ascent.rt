@@ -1,56 +1,124 @@
 //! Prices on their way up to a better bound.
 
-ghost use Rattle.std.specs.Prelude.{◌<◌, length};
+ghost use Rattle.std.specs.Prelude.{◌≡◌, ◌<◌, IfOk, IfSome, length};
 ghost use Rattle.roster_regions.specs.Prices.{ArePrices};
 ghost use Rattle.roster_regions.specs.Regions.{IsRegion};
 
 use crate::dual_prices::{DualPrices, scaled_penalty};
-use crate::look::{Look, SETTLED, WHOLE};
+use crate::look::{Look, WHOLE};
+use crate::near::NearLines;
 use crate::powers::{halved, logarithm};
 use crate::reading::number_at;
+use crate::rounding::rounded_among;
+use crate::scope::Scope;
+use crate::tuning::{DAMPING, GAP_DOUBLINGS, NEAR_COVER, NODE_PATIENCE, ROOT_PATIENCE};
 use roster_problem::Problem;
 use roster_regions::Region;
 use std::alloc::{AllocError, Global};
-use std::thread::{Threads, for_each_mut};
 
-/// Covers are near a whole if none is further from it than this.
-const NEAR: u64 = 2_000;
+/// Prices, and the bound that they give.
+#[derive(Debug, Drop)]
+pub(crate) struct Reached {
+    pub(crate) prices: DualPrices,
+    pub(crate) bound: i64,
+}
 
-/// So many steps in a row may lift the bound by less than a part in `FAIR_RISE` of what is missing.
-const PATIENCE: u32 = 20;
+impl Reached {
+    // No bound is known yet.
+    fn nothing(alloc: Global, prices: &DualPrices) -> Result<Reached, AllocError> {
+        Ok(Reached {
+            prices: prices.copy(alloc)?,
+            bound: i64::MIN,
+        })
+    }
 
-const FAIR_RISE: i64 = 64;
+    /// Takes over these.
+    pub(crate) fn take(&mut self, prices: &DualPrices, bound: i64) {
+        self.prices.take(prices);
+        self.bound = bound;
+    }
 
-/// Fixing is worth its time once the bound has risen by a part in so many of what was missing.
-const FIXING_RISE: i64 = 4;
-
-/// Fewer lines than this are looked at sooner than threads are started.
-const FEW_LINES: usize = 200_000;
+    /// Forgets the bound.
+    pub(crate) fn forget(&mut self) {
+        self.bound = i64::MIN;
+    }
+}
 
 /// Prices that move towards those at which each pairing is held once, and the best so far: those with the
 /// greatest bound, which is the least that a roster may cost. What it says of the bound is an estimate.
+///
+/// At a root it takes its first steps on a sample of the lines, and then looks mostly at lines near the
+/// least of their person. At a node each look is at all lines.
 #[derive(Debug, Drop)]
 pub struct Ascent {
-    now: DualPrices,
-    best: DualPrices,
-    bound: i64,
-    fixed: i64,
-    stalled: u32,
-    look: Look,
+    pub(crate) now: DualPrices,
+    pub(crate) best: Reached,
+    // The best of looks at all lines.
+    pub(crate) sure: Reached,
+    pub(crate) fixed: i64,
+    pub(crate) stalled: u32,
+    pub(crate) patience: u32,
+    pub(crate) is_root: bool,
+    // Whether the last look was at all lines, and whether the next step leaves the prices where they are.
+    pub(crate) full: bool,
+    pub(crate) stays: bool,
+    pub(crate) scope: Scope,
+    pub(crate) near: NearLines,
+    pub(crate) look: Look,
     // Those of single threads.
-    looks: Vec<Look>,
-    amounts: Vec<i64>,
+    pub(crate) looks: Vec<Look>,
+    pub(crate) amounts: Vec<i64>,
 }
 
 impl Ascent {
-    /// From these prices on.
-    pub fn new(alloc: Global, prices: &DualPrices) -> Result<Ascent, AllocError> {
+    /// From these prices on, at the root of a search.
+    pub fn at_root(
+        alloc: Global,
+        problem: &Problem,
+        region: &Region,
+        prices: &DualPrices,
+    ) -> Result<Ascent, AllocError>
+        requires { IsRegion problem.now region.now }
+    {
+        Ascent::new(alloc, problem, region, prices, ROOT_PATIENCE, true)
+    }
+
+    /// From these prices on, at a node below.
+    pub fn at_node(
+        alloc: Global,
+        problem: &Problem,
+        region: &Region,
+        prices: &DualPrices,
+    ) -> Result<Ascent, AllocError>
+        requires { IsRegion problem.now region.now }
+    {
+        Ascent::new(alloc, problem, region, prices, NODE_PATIENCE, false)
+    }
+
+    fn new(
+        alloc: Global,
+        problem: &Problem,
+        region: &Region,
+        prices: &DualPrices,
+        patience: u32,
+        is_root: bool,
+    ) -> Result<Ascent, AllocError>
+        requires { IsRegion problem.now region.now }
+    {
+        let mut scope = Scope::nothing(alloc);
+        scope.look(problem, region, prices.prices())?;
         Ok(Ascent {
             now: prices.copy(alloc)?,
-            best: prices.copy(alloc)?,
-            bound: i64::MIN,
+            best: Reached::nothing(alloc, prices)?,
+            sure: Reached::nothing(alloc, prices)?,
             fixed: i64::MIN,
             stalled: 0,
+            patience,
+            is_root,
+            full: false,
+            stays: false,
+            scope,
+            near: NearLines::all(alloc),
             look: Look::new(alloc, prices.prices().len())?,
             looks: Vec::new(alloc),
             amounts: Vec::new(alloc),
@@ -68,137 +136,86 @@ impl Ascent {
     pub fn best(&self) -> &[i64]
         ensures { ArePrices result.now }
     {
-        self.best.prices()
+        self.best.prices.prices()
     }
 
     /// The prices of the greatest bound so far, for a part of the region.
     pub fn into_best(self) -> DualPrices {
-        let mut best = self.best;
+        let mut best = self.best.prices;
         best.soften();
         best
     }
 
     /// The greatest bound so far, in parts of a cost unit, without what empty lines cost.
     pub fn bound(&self) -> i64 {
-        self.bound
+        self.best.bound
     }
 
-    /// Whether each person had one line at the last look. Before the first look it isn't known.
+    /// Whether each person has one line, as far as is known. Before the first look it isn't known.
     pub fn is_decided(&self) -> bool {
-        self.bound != i64::MIN && self.look.undecided() == 0
+        self.best.bound != i64::MIN && self.scope.persons().is_empty()
     }
 
-    /// Looks at all lines of the region at the prices, and says whether it is worth to fix by them: since
-    /// the bound exceeds the room, or since it rose well. The room is what a roster may cost, in parts of
-    /// a cost unit, without what empty lines cost.
-    pub fn look(
-        &mut self,
-        problem: &Problem,
-        region: &Region,
-        room: i64,
-    ) -> Result<bool, AllocError>
+    /// How many lines are left of persons who have several, those on the way to others included.
+    pub fn lines(&self) -> usize {
+        self.scope.lines()
+    }
+
+    /// Whether the last look was at a sample of the lines, whose bound says little.
+    pub fn is_sampling(&self) -> bool {
+        self.near.is_sample()
+    }
+
+    /// Whether the last look was at all lines.
+    pub fn is_full(&self) -> bool {
+        self.full
+    }
+
+    /// Has the next look at all lines.
+    pub fn look_at_all(&mut self) {
+        self.near.leave();
+    }
+
+    /// Takes note that the region has become smaller.
+    pub fn renew(&mut self, problem: &Problem, region: &Region) -> Result<(), AllocError>
         requires { IsRegion problem.now region.now }
     {
-        self.look.at_every(problem, region, &self.now, 0, 1);
-        self.look.whole()?;
-        Ok(self.noted(problem, region, room))
+        self.near.leave();
+        self.scope.look(problem, region, self.now.prices())
     }
 
-    /// `look` by so many threads, if there are lines enough for them. It comes to the same.
-    pub fn look_by_threads<R: Threads + Sync>(
-        &mut self,
-        rt: &R,
-        alloc: Global,
-        threads: usize,
-        problem: &Problem,
-        region: &Region,
-        room: i64,
-    ) -> Result<bool, AllocError>
-        requires region { IsRegion problem.now region.now }
-        requires threads { 0 < threads }
-    {
-        if threads == 1 || lines(problem, region) < FEW_LINES {
-            return self.look(problem, region, room);
-        }
-        for _ in self.looks.len()..threads {
-            self.looks
-                .push(Look::new(alloc, problem.pairings().len())?)?;
-        }
-        let prices = &self.now;
-        let look = |turn: usize, look: &mut Look|
-            requires { IsRegion problem.now region.now × (0 < threads) }
-        { look.at_every(problem, region, prices, turn, threads) };
-        for_each_mut(rt, &mut self.looks, threads, &look);
-        self.look.clear();
-        for look in &self.looks {
-            self.look.join(look);
-        }
-        self.look.whole()?;
-        Ok(self.noted(problem, region, room))
+    /// Counts lines as far from the least as the gap between the bound and the room says.
+    pub fn begin_at_gap(&mut self, room: i64) {
+        let softness = self.softness_for(room);
+        self.now.begin_at(softness);
     }
 
-    // Takes note of what was looked at, and says whether it is worth to fix.
-    fn noted(&mut self, problem: &Problem, region: &Region, room: i64) -> bool
-        requires { IsRegion problem.now region.now }
-    {
-        let mut bound = self.look.bound();
-        for p in 0..problem.pairings().len() {
-            bound = bound.wrapping_add(self.term(problem, region, p));
-        }
-        self.is_worth_fixing(bound, room)
+    /// Counts no lines further from the least than that.
+    pub fn sharpen_to_gap(&mut self, room: i64) {
+        let softness = self.softness_for(room);
+        self.now.sharpen_to(softness);
     }
 
-    // What the pairing at place `p` adds to the bound.
-    fn term(&self, problem: &Problem, region: &Region, p: usize) -> i64 {
-        let price = number_at(self.now.prices(), p);
-        let penalty = scaled_penalty(problem, region.scale(), p);
-        if region.is_left_open(p) {
-            penalty
-        } else if region.is_flown(p) || price < penalty {
-            price
-        } else {
-            penalty
-        }
-    }
-
-    // Takes note of the bound at the prices.
-    fn is_worth_fixing(&mut self, bound: i64, room: i64) -> bool {
-        if bound <= self.bound {
-            self.stalled = self.stalled.saturating_add(1);
-            return false;
-        }
-        let rise = bound.saturating_sub(self.bound);
-        let fair = rise.saturating_mul(FAIR_RISE) >= room.saturating_sub(self.bound);
-        self.stalled = if fair {
-            0
-        } else {
-            self.stalled.saturating_add(1)
-        };
-        self.bound = bound;
-        self.best.take(&self.now);
-        let rise = bound.saturating_sub(self.fixed).saturating_mul(FIXING_RISE);
-        if bound <= room && rise <= room.saturating_sub(self.fixed) {
-            return false;
-        }
-        self.fixed = bound;
-        true
+    // The softness for the gap: what each person may add to it counts for half, or less.
+    fn softness_for(&self, room: i64) -> u32 {
+        let gap = room.saturating_sub(self.best.bound).max(1) as u64;
+        let share = gap / self.scope.persons().len().max(1) as u64;
+        share.max(1).ilog2().saturating_sub(GAP_DOUBLINGS)
     }
 
     /// Moves the prices by the last look: those of pairings that are held too often fall, the others rise.
     pub fn step(&mut self, problem: &Problem, region: &Region) -> Result<(), AllocError> {
+        if self.stays {
+            self.stays = false;
+            return Ok(());
+        }
         let mut agreement: i64 = 0;
         let mut furthest = 0;
         self.amounts.clear();
-        for p in 0..problem.pairings().len() {
+        for i in 0..self.scope.pairings().len() {
+            let p = self.scope.pairing(i);
             let cover = self.cover(problem, region, p);
-            let distance = if cover == SETTLED {
-                0
-            } else {
-                cover.abs_diff(WHOLE)
-            };
-            if distance > furthest {
-                furthest = distance;
-            }
+            furthest = furthest.max(cover.abs_diff(WHOLE));
             let amount = self.amount(cover);
             let product = (amount / 256).saturating_mul(self.now.velocity(p) / 256);
             agreement = agreement.saturating_add(product);
@@ -207,20 +224,18 @@ impl Ascent {
         if agreement < 0 {
             self.now.rest();
         }
-        self.now.go(&self.amounts);
-        if furthest < NEAR || self.stalled > PATIENCE {
+        let farthest = self.now.go(self.scope.pairings(), &self.amounts);
+        self.near.drift(farthest);
+        if furthest < NEAR_COVER || self.stalled > self.patience {
             self.now.sharpen();
             self.stalled = 0;
         }
         Ok(())
     }
 
-    // How often the pairing at place `p` is held or left open, if that isn't settled.
+    // How often the pairing at place `p` is held or left open.
     fn cover(&self, problem: &Problem, region: &Region, p: usize) -> u64 {
         let cover = self.look.cover(p);
-        if cover == SETTLED || region.is_left_open(p) {
-            return SETTLED;
-        }
         if region.is_flown(p) {
             return cover;
         }
@@ -231,9 +246,6 @@ impl Ascent {
 
     // How far the price of a pairing with this cover is to move.
     fn amount(&self, cover: u64) -> i64 {
-        if cover == SETTLED {
-            return 0;
-        }
         let softness = self.now.softness();
         let strength = if softness < 36 {
             1_i64 << softness
@@ -243,19 +255,25 @@ impl Ascent {
         logarithm(WHOLE)
             .wrapping_sub(logarithm(cover))
             .wrapping_mul(strength)
-            / 2048
+            / DAMPING
     }
-}
 
-/// How many lines are to be looked at, those on the way to others included.
-fn lines(problem: &Problem, region: &Region) -> usize
-    requires { IsRegion problem.now region.now }
-{
-    let mut lines: usize = 0;
-    for k in 0..problem.persons().len() {
-        lines = lines.wrapping_add(region.choices(k).len());
+    /// A roster that is rounded from the prices by the lines that count, as the function `rounded` does it.
+    pub fn rounded(
+        &self,
+        alloc: Global,
+        problem: &Problem,
+        region: &Region,
+        room: i64,
+        turn: usize,
+    ) -> Result<Option<Vec<u16>>, AllocError>
+        requires { IsRegion problem.now region.now }
+        ensures { IfOk result (λ places. IfSome places
+            (λ places. length places.items ≡ length problem.now.pairings)) }
+    {
+        let prices = self.now.prices();
+        rounded_among(alloc, problem, region, &self.near, prices, room, turn)
     }
-    lines
 }
 
 /// How large a part it is to leave a pairing open, if it has this price and this penalty.

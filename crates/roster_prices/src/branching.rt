@@ -5,18 +5,12 @@ ghost use Rattle.roster_regions.specs.Regions.{IsRegion};
 
 use crate::dual_prices::DualPrices;
 use crate::look::{Look, WHOLE};
+use crate::person_lines::PersonLines;
+use crate::scope::Scope;
+use crate::tuning::{BEST_SHARE, PER_DOUBLING, PER_PERSON};
 use roster_problem::Problem;
 use roster_regions::Region;
 use std::alloc::{AllocError, Global};
-
-/// The share of a person's lines that a pairing best has: a person who has it in most of the good lines
-/// likely gets it, and much follows if not.
-const BEST_SHARE: u64 = WHOLE * 7 / 10;
-
-/// What weighs against a choice: each person who can have the pairing, and each doubling of the lines.
-const PER_PERSON: u64 = 2_000;
-
-const PER_DOUBLING: u64 = 1_000;
 
 /// A person and a pairing, and what weighs against settling whether that person has it.
 #[derive(Clone, Copy)]
@@ -36,34 +30,45 @@ pub fn branch(
 ) -> Result<(usize, usize), AllocError>
     requires { IsRegion problem.now region.now }
 {
-    let crowds = crowds(alloc, problem, region)?;
+    let mut scope = Scope::nothing(alloc);
+    scope.look(problem, region, prices.prices())?;
+    let crowds = crowds(alloc, problem, region, &scope)?;
     let mut look = Look::new(alloc, problem.pairings().len())?;
+    let softness = prices.softness().saturating_add(1);
     let mut best = Candidate {
         weight: u64::MAX,
         k: 0,
         p: 0,
     };
-    for k in 0..problem.persons().len() {
-        if region.width(k) > 1 {
-            look.clear();
-            let softness = prices.softness().saturating_add(1);
-            look.add(&region.choices(k), prices.prices(), softness)?;
-            best = better(region, &look, &crowds, k, best);
+    for k in scope.persons() {
+        let k = *k;
+        if k < problem.persons().len() && region.width(k) > 1 {
+            look.clear(scope.pairings());
+            let choices = PersonLines::All(region.choices(k));
+            look.add(&choices, &scope, prices.prices(), softness)?;
+            best = better(region, &look, &scope, &crowds, k, best);
         }
     }
     Ok((best.k, best.p))
 }
 
-/// How many persons can have each pairing.
-fn crowds(alloc: Global, problem: &Problem, region: &Region) -> Result<Vec<u64>, AllocError>
+/// How much weighs against each pairing, by how many persons of the scope can have it.
+fn crowds(
+    alloc: Global,
+    problem: &Problem,
+    region: &Region,
+    scope: &Scope,
+) -> Result<Vec<u64>, AllocError>
     requires { IsRegion problem.now region.now }
 {
     let mut crowds = vec![in alloc; 0_u64; problem.pairings().len()]?;
-    for k in 0..problem.persons().len() {
-        let possible = region.possible(k);
-        for p in 0..crowds.len() {
-            if possible.has(p) {
-                crowds[p] = crowds[p].wrapping_add(PER_PERSON);
+    for k in scope.persons() {
+        if *k < problem.persons().len() {
+            let possible = region.possible(*k);
+            for p in scope.pairings() {
+                if possible.has(*p) && *p < crowds.len() {
+                    crowds[*p] = crowds[*p].wrapping_add(PER_PERSON);
+                }
             }
         }
     }
@@ -71,7 +76,14 @@ fn crowds(alloc: Global, problem: &Problem, region: &Region) -> Result<Vec<u64>,
 }
 
 /// The best of a choice and those of person `k`, who was looked at.
-fn better(region: &Region, look: &Look, crowds: &[u64], k: usize, old: Candidate) -> Candidate
+fn better(
+    region: &Region,
+    look: &Look,
+    scope: &Scope,
+    crowds: &[u64],
+    k: usize,
+    old: Candidate,
+) -> Candidate
     requires { k < length region.now.choices }
 {
     let possible = region.possible(k);
@@ -83,13 +95,14 @@ fn better(region: &Region, look: &Look, crowds: &[u64], k: usize, old: Candidate
         u64::from(lines.ilog2())
     };
     let mut best = old;
-    for p in 0..crowds.len() {
-        if !possible.has(p) || certain.has(p) {
+    for p in scope.pairings() {
+        let p = *p;
+        if p >= crowds.len() || !possible.has(p) || certain.has(p) {
             continue;
         }
         let weight = look
             .cover(p)
-            .abs_diff(BEST_SHARE)
+            .abs_diff(WHOLE * BEST_SHARE / 10)
             .saturating_add(crowds[p])
             .saturating_add(doublings * PER_DOUBLING);
         if weight < best.weight {

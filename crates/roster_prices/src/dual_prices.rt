@@ -137,10 +137,18 @@ impl DualPrices {
         }
     }
 
-    /// Comes to rest.
+    /// Begins to gather speed anew.
     pub(crate) fn rest(&mut self)
         ensures { self.new ≡ self.old }
     {
+        self.pace = 0;
+    }
+
+    /// Comes to rest.
+    pub(crate) fn stop(&mut self)
+        ensures { self.new ≡ self.old }
+    {
+        self.velocities.fill(0);
         self.pace = 0;
     }
 
@@ -149,6 +157,24 @@ impl DualPrices {
         ensures { self.new ≡ self.old }
     {
         self.softness = self.softness.saturating_sub(1);
+        self.pace = 0;
+    }
+
+    /// Counts only lines as close to the least as this, if it counts others too.
+    pub(crate) fn sharpen_to(&mut self, softness: u32)
+        ensures { self.new ≡ self.old }
+    {
+        if softness < self.softness {
+            self.softness = softness;
+            self.pace = 0;
+        }
+    }
+
+    /// Counts lines as far from the least as this.
+    pub(crate) fn begin_at(&mut self, softness: u32)
+        ensures { self.new ≡ self.old }
+    {
+        self.softness = softness;
         self.pace = 0;
     }
 
@@ -161,16 +187,22 @@ impl DualPrices {
         }
     }
 
-    /// Moves each price by the amount for it, and by what is left of how it moved before.
-    pub(crate) fn go(&mut self, amounts: &[i64]) {
-        for p in 0..self.prices.len() {
-            self.go_one(p, number_at(amounts, p));
+    /// Moves the prices of these pairings by the amounts for them, and by what is left of how they moved
+    /// before. It gives the farthest move.
+    pub(crate) fn go(&mut self, pairings: &[usize], amounts: &[i64]) -> i64 {
+        let mut farthest = 0;
+        for (i, p) in pairings.iter().enumerate() {
+            let far = self.go_one(*p, number_at(amounts, i)).saturating_abs();
+            if far > farthest {
+                farthest = far;
+            }
         }
         self.pace = self.pace.saturating_add(1);
+        farthest
     }
 
-    // Moves the price of the pairing at place `p`.
-    fn go_one(&mut self, p: usize, amount: i64) {
+    // Moves the price of the pairing at place `p`, and gives how far.
+    fn go_one(&mut self, p: usize, amount: i64) -> i64 {
         let pace = i64::from(self.pace);
         let kept = self.velocity(p).wrapping_mul(pace) / (pace + 3);
         let velocity = limited(kept.wrapping_add(amount));
@@ -179,5 +211,6 @@ impl DualPrices {
             let moved = number_at(&self.prices, p).wrapping_add(velocity);
             self.put(p, moved);
         }
+        velocity
     }
 }

@@ -3,11 +3,17 @@
 //! So the contracts say little: prices stay within their limits, and places are as many as pairings.
 //! Bounds that are told are estimates. In reading order:
 //!
+//! - `tuning`: the numbers that decide how long a search takes
 //! - `reading`: lists read past their ends
 //! - `powers`: powers of two and logarithms
 //! - `dual_prices`: prices, and how they move
+//! - `person_lines`: the lines of a person, all or some
+//! - `scope`: what is left to decide in a region
+//! - `picking`: some of a person's lines, as a tree of their own
+//! - `near`: the lines that count at some prices
 //! - `look`: how often each pairing is held by the best lines
 //! - `ascent`: prices on their way up
+//! - `looking`: looks at lines, which tell the bound that prices give
 //! - `branching`: which choice of a person to settle next
 //! - `rounding`: rosters by prices
 #![tactic(auto)]
@@ -16,9 +22,15 @@ mod ascent;
 mod branching;
 mod dual_prices;
 mod look;
+mod looking;
+mod near;
+mod person_lines;
+mod picking;
 mod powers;
 mod reading;
 mod rounding;
+mod scope;
+mod tuning;
 
 pub use ascent::Ascent;
 pub use branching::branch;

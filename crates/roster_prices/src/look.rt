@@ -4,17 +4,25 @@ ghost use Rattle.std.specs.Prelude.{◌<◌, length};
 ghost use Rattle.roster_regions.specs.Regions.{IsRegion};
 
 use crate::dual_prices::DualPrices;
+use crate::near::NearLines;
+use crate::person_lines::PersonLines;
+use crate::picking::lines_within;
 use crate::powers::halved;
 use crate::reading::number_at;
+use crate::scope::Scope;
 use roster_problem::Problem;
-use roster_regions::{Choice, Choices, Region};
+use roster_regions::{Choice, Region};
 use std::alloc::{AllocError, Global};
 
 /// One whole, of which covers are parts.
 pub(crate) const WHOLE: u64 = 65_536;
 
-/// The cover of a pairing that a person's one line holds.
-pub(crate) const SETTLED: u64 = u64::MAX;
+/// Some lines of person `k`, as a tree.
+#[derive(Debug, Drop)]
+pub(crate) struct List {
+    pub(crate) k: usize,
+    pub(crate) choices: Vec<Choice>,
+}
 
 /// How often each pairing is held by the lines that were looked at, if each person spreads over their
 /// lines: the nearer to the least the value of a line is, the greater is its share. The other lists are
@@ -28,9 +36,10 @@ pub(crate) struct Look {
     weights: Vec<u64>,
     // By pairing: the weights of a person's lines that hold it.
     masses: Vec<u64>,
-    // Of the persons that were looked at: their least values in all, and how many have several lines.
+    // The least values of the persons that were looked at, in all.
     bound: i64,
-    undecided: usize,
+    // Lines that were near the least.
+    lists: Vec<List>,
     // Whether memory ran out.
     failed: bool,
 }
@@ -47,42 +56,45 @@ impl Look {
             weights: vec![in alloc; 0; depths]?,
             masses: vec![in alloc; 0; pairings]?,
             bound: 0,
-            undecided: 0,
+            lists: Vec::new(alloc),
             failed: false,
         })
     }
 
-    /// Begins anew.
-    pub(crate) fn clear(&mut self) {
-        self.covers.fill(0);
+    /// Begins anew, for these pairings.
+    pub(crate) fn clear(&mut self, pairings: &[usize]) {
+        for p in pairings {
+            if *p < self.covers.len() {
+                self.covers[*p] = 0;
+            }
+        }
         self.bound = 0;
-        self.undecided = 0;
         self.failed = false;
     }
 
-    /// Looks anew, at every so many-th of the persons with several lines, from a turn on. Turn 0 has all
-    /// others. It takes note if memory runs out.
+    /// Looks anew at every so many-th of the persons in the scope, from a turn on. If a reach is given, it
+    /// lists the lines that are within it of the least. It takes note if memory runs out.
     pub(crate) fn at_every(
         &mut self,
+        alloc: Global,
         problem: &Problem,
         region: &Region,
         prices: &DualPrices,
+        scope: &Scope,
+        reach: Option<i64>,
         turn: usize,
         turns: usize,
     )
         requires region { IsRegion problem.now region.now }
         requires turns { 0 < turns }
     {
-        self.clear();
-        let mut several: usize = 0;
-        for k in 0..problem.persons().len() {
-            let mut whose = 0;
-            if region.width(k) > 1 {
-                whose = several % turns;
-                several = several.wrapping_add(1);
-            }
-            if whose == turn && self.at_person(region, prices, k).is_err() {
-                self.failed = true;
+        self.clear(scope.pairings());
+        for (i, k) in scope.persons().iter().enumerate() {
+            if i % turns == turn && *k < problem.persons().len() {
+                let looked = self.at_person(alloc, region, prices, scope, reach, *k);
+                if looked.is_err() {
+                    self.failed = true;
+                }
             }
         }
     }
@@ -90,41 +102,72 @@ impl Look {
     // Looks at the lines of person `k`.
     fn at_person(
         &mut self,
+        alloc: Global,
         region: &Region,
         prices: &DualPrices,
+        scope: &Scope,
+        reach: Option<i64>,
         k: usize,
     ) -> Result<(), AllocError>
         requires { k < length region.now.choices }
     {
-        let choices = region.choices(k);
-        let least = if region.width(k) == 1 {
-            self.settle(&choices, prices.prices())?
-        } else {
-            self.undecided = self.undecided.wrapping_add(1);
-            self.add(&choices, prices.prices(), prices.softness())?
-        };
+        let all = PersonLines::All(region.choices(k));
+        let least = self.add(&all, scope, prices.prices(), prices.softness())?;
         self.bound = self.bound.wrapping_add(least);
+        if let Some(reach) = reach {
+            let most = least.saturating_add(reach);
+            let choices = lines_within(alloc, &all, &self.values, most)?;
+            self.lists.push(List { k, choices })?;
+        }
+        Ok(())
+    }
+
+    /// Looks anew at the lines that count of each person in the scope.
+    pub(crate) fn at_near(
+        &mut self,
+        problem: &Problem,
+        region: &Region,
+        prices: &DualPrices,
+        scope: &Scope,
+        near: &NearLines,
+    ) -> Result<(), AllocError>
+        requires { IsRegion problem.now region.now }
+    {
+        self.clear(scope.pairings());
+        for k in scope.persons() {
+            if *k < problem.persons().len() {
+                let choices = near.choices(region, *k);
+                let least = self.add(&choices, scope, prices.prices(), prices.softness())?;
+                self.bound = self.bound.wrapping_add(least);
+            }
+        }
         Ok(())
     }
 
     /// Adds what another look found.
-    pub(crate) fn join(&mut self, other: &Look) {
-        for p in 0..self.covers.len() {
-            self.covers[p] = self.covers[p].saturating_add(other.cover(p));
+    pub(crate) fn join(&mut self, other: &Look, scope: &Scope) {
+        for p in scope.pairings() {
+            if *p < self.covers.len() {
+                self.covers[*p] = self.covers[*p].saturating_add(other.cover(*p));
+            }
         }
         self.bound = self.bound.wrapping_add(other.bound);
-        self.undecided = self.undecided.wrapping_add(other.undecided);
         self.failed = self.failed || other.failed;
+    }
+
+    /// How many lists it has made.
+    pub(crate) fn listed(&self) -> usize {
+        self.lists.len()
+    }
+
+    /// One of the lists that it has made.
+    pub(crate) fn next_list(&mut self) -> Option<List> {
+        self.lists.pop()
     }
 
     /// The least values of all persons that it looked at, in all.
     pub(crate) fn bound(&self) -> i64 {
         self.bound
-    }
-
-    /// How many of them had more than one line.
-    pub(crate) fn undecided(&self) -> usize {
-        self.undecided
     }
 
     /// Tells whether memory ran out.
@@ -144,34 +187,22 @@ impl Look {
         }
     }
 
-    // Adds the pairings of a person's one line, which nobody else can have, and gives its value at the
-    // prices.
-    fn settle(&mut self, choices: &Choices<'_>, prices: &[i64]) -> Result<i64, AllocError> {
-        for i in 0..choices.len() {
-            let choice = choices.at(i);
-            let p = usize::from(choice.last);
-            if choice.depth > 0 && p < self.covers.len() {
-                self.covers[p] = SETTLED;
-            }
-        }
-        self.read(choices, prices)
-    }
-
     /// Adds what a person's lines hold at the prices, and gives the least value of a line.
     pub(crate) fn add(
         &mut self,
-        choices: &Choices<'_>,
+        choices: &PersonLines<'_>,
+        scope: &Scope,
         prices: &[i64],
         softness: u32,
     ) -> Result<i64, AllocError> {
         let least = self.read(choices, prices)?;
         let total = self.weigh(choices, least, softness);
-        self.share(total);
+        self.share(total, scope.pairings());
         Ok(least)
     }
 
     // Reads the value of each choice, and gives the least of a line.
-    fn read(&mut self, choices: &Choices<'_>, prices: &[i64]) -> Result<i64, AllocError> {
+    fn read(&mut self, choices: &PersonLines<'_>, prices: &[i64]) -> Result<i64, AllocError> {
         self.values.clear();
         let mut least = i64::MAX;
         for i in 0..choices.len() {
@@ -199,7 +230,7 @@ impl Look {
     }
 
     // Weighs the choices from the last to the first, and gives the weight of all lines.
-    fn weigh(&mut self, choices: &Choices<'_>, least: i64, softness: u32) -> u64 {
+    fn weigh(&mut self, choices: &PersonLines<'_>, least: i64, softness: u32) -> u64 {
         let mut total: u64 = 0;
         for back in 0..choices.len() {
             let i = choices.len() - 1 - back;
@@ -234,15 +265,19 @@ impl Look {
         self.masses[last] = self.masses[last].wrapping_add(weights);
     }
 
-    // Adds the parts that the masses are of the total.
-    fn share(&mut self, total: u64) {
+    // Adds the parts that the masses of these pairings are of the total.
+    fn share(&mut self, total: u64, pairings: &[usize]) {
         let part = total / WHOLE + 1;
-        for p in 0..self.masses.len() {
-            if p < self.covers.len() && self.masses[p] > 0 {
+        for p in pairings {
+            let p = *p;
+            if p < self.covers.len() && p < self.masses.len() && self.masses[p] > 0 {
                 self.covers[p] = self.covers[p].saturating_add(self.masses[p] / part);
+                self.masses[p] = 0;
             }
         }
-        self.masses.fill(0);
-        self.weights.fill(0);
+        // The weights of all others have been handed on.
+        if self.weights.len() > 1 {
+            self.weights[1] = 0;
+        }
     }
 }

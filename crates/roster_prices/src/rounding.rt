@@ -4,13 +4,13 @@ ghost use Rattle.std.specs.Prelude.{◌≡◌, ◌<◌, IfOk, IfSome, length};
 ghost use Rattle.roster_regions.specs.Regions.{IsRegion};
 
 use crate::dual_prices::scaled_penalty;
+use crate::near::NearLines;
+use crate::person_lines::PersonLines;
 use crate::reading::number_at;
+use crate::tuning::MOST_CHOOSING;
 use roster_problem::{Problem, open_number};
-use roster_regions::{Choice, Choices, Region};
+use roster_regions::Region;
 use std::alloc::{AllocError, Global};
-
-/// How often all persons may choose again.
-const MOST_ROUNDS: usize = 20;
 
 /// What a pairing earns that must not be open.
 const MUST: i64 = 1 << 50;
@@ -40,14 +40,32 @@ pub fn rounded(
     ensures { IfOk result (λ places. IfSome places
         (λ places. length places.items ≡ length problem.now.pairings)) }
 {
+    let all = NearLines::all(alloc);
+    rounded_among(alloc, problem, region, &all, prices, room, turn)
+}
+
+/// `rounded`, if persons choose among the lines that count.
+pub(crate) fn rounded_among(
+    alloc: Global,
+    problem: &Problem,
+    region: &Region,
+    near: &NearLines,
+    prices: &[i64],
+    room: i64,
+    turn: usize,
+) -> Result<Option<Vec<u16>>, AllocError>
+    requires { IsRegion problem.now region.now }
+    ensures { IfOk result (λ places. IfSome places
+        (λ places. length places.items ≡ length problem.now.pairings)) }
+{
     let mut places = vec![in alloc; open_number(problem); problem.pairings().len()]?;
     let mut draft = Draft::new(alloc, problem)?;
-    if !draft.choose_all(problem, region, prices, turn, &mut places) {
+    if !draft.choose_all(problem, region, near, prices, turn, &mut places) {
         return Ok(None);
     }
     let savings = savings(alloc, problem, region)?;
-    draft.improve(problem, region, &savings, turn, &mut places);
-    if draft.cost(problem, region, &places) > room {
+    draft.improve(problem, region, near, &savings, turn, &mut places);
+    if draft.cost(problem, region, near, &places) > room {
         return Ok(None);
     }
     Ok(Some(places))
@@ -86,12 +104,12 @@ impl Draft {
     }
 
     // What the places cost, in parts of a cost unit, without what empty lines cost.
-    fn cost(&self, problem: &Problem, region: &Region, places: &[u16]) -> i64
+    fn cost(&self, problem: &Problem, region: &Region, near: &NearLines, places: &[u16]) -> i64
         requires { IsRegion problem.now region.now }
     {
         let mut cost: i64 = 0;
         for k in 0..problem.persons().len() {
-            let choices = region.choices(k);
+            let choices = near.choices(region, k);
             let chosen = self.chosen_by(k);
             if chosen < choices.len() {
                 cost = cost.wrapping_add(choices.at(chosen).extra);
@@ -110,6 +128,7 @@ impl Draft {
         &mut self,
         problem: &Problem,
         region: &Region,
+        near: &NearLines,
         prices: &[i64],
         turn: usize,
         places: &mut [u16],
@@ -118,13 +137,13 @@ impl Draft {
     {
         let count = problem.persons().len();
         for k in 0..count {
-            if region.width(k) == 1 && !self.choose(region, prices, k, places) {
+            if region.width(k) == 1 && !self.choose(region, near, prices, k, places) {
                 return false;
             }
         }
         for step in 0..count {
             let k = in_turn(turn, step, count);
-            if region.width(k) != 1 && !self.choose(region, prices, k, places) {
+            if region.width(k) != 1 && !self.choose(region, near, prices, k, places) {
                 return false;
             }
         }
@@ -132,10 +151,17 @@ impl Draft {
     }
 
     // Person `k` takes the line of least value of what is left. False if there is none.
-    fn choose(&mut self, region: &Region, prices: &[i64], k: usize, places: &mut [u16]) -> bool
+    fn choose(
+        &mut self,
+        region: &Region,
+        near: &NearLines,
+        prices: &[i64],
+        k: usize,
+        places: &mut [u16],
+    ) -> bool
         requires { k < length region.now.choices }
     {
-        let choices = region.choices(k);
+        let choices = near.choices(region, k);
         match self.best_choice(&choices, prices, k, places) {
             Some(i) => {
                 self.take(&choices, i, k, places);
@@ -159,14 +185,15 @@ impl Draft {
         &mut self,
         problem: &Problem,
         region: &Region,
+        near: &NearLines,
         savings: &[i64],
         turn: usize,
         places: &mut [u16],
     )
         requires { IsRegion problem.now region.now }
     {
-        for _round in 0..MOST_ROUNDS {
-            if !self.improve_once(problem, region, savings, turn, places) {
+        for _round in 0..MOST_CHOOSING {
+            if !self.improve_once(problem, region, near, savings, turn, places) {
                 return;
             }
         }
@@ -177,6 +204,7 @@ impl Draft {
         &mut self,
         problem: &Problem,
         region: &Region,
+        near: &NearLines,
         savings: &[i64],
         turn: usize,
         places: &mut [u16],
@@ -187,7 +215,7 @@ impl Draft {
         let mut saved = false;
         for step in 0..count {
             let k = in_turn(turn, step, count);
-            if region.width(k) > 1 && self.choose_again(region, savings, k, places) {
+            if region.width(k) > 1 && self.choose_again(region, near, savings, k, places) {
                 saved = true;
             }
         }
@@ -198,13 +226,14 @@ impl Draft {
     fn choose_again(
         &mut self,
         region: &Region,
+        near: &NearLines,
         savings: &[i64],
         k: usize,
         places: &mut [u16],
     ) -> bool
         requires { k < length region.now.choices }
     {
-        let choices = region.choices(k);
+        let choices = near.choices(region, k);
         let chosen = self.chosen_by(k);
         let Some(i) = self.best_choice(&choices, savings, k, places) else {
             return false;
@@ -218,7 +247,7 @@ impl Draft {
     }
 
     // Person `k` takes the line of choice `i`.
-    fn take(&mut self, choices: &Choices<'_>, i: usize, k: usize, places: &mut [u16]) {
+    fn take(&mut self, choices: &PersonLines<'_>, i: usize, k: usize, places: &mut [u16]) {
         if k < self.chosen.len() {
             self.chosen[k] = i;
         }
@@ -229,7 +258,7 @@ impl Draft {
     // The choice of least value among those whose pairings nobody else has.
     fn best_choice(
         &mut self,
-        choices: &Choices<'_>,
+        choices: &PersonLines<'_>,
         prices: &[i64],
         k: usize,
         places: &[u16],
@@ -272,7 +301,7 @@ impl Draft {
 }
 
 /// Puts the number at the pairings of the line of choice `i`.
-fn put(choices: &Choices<'_>, i: usize, number: u16, places: &mut [u16]) {
+fn put(choices: &PersonLines<'_>, i: usize, number: u16, places: &mut [u16]) {
     let mut depth = depth_at(choices, i);
     for back in 0..choices.len() {
         if depth == 0 || back > i {
@@ -298,30 +327,18 @@ fn is_taken(places: &[u16], p: usize, k: usize, nobody: u16) -> bool {
 }
 
 /// The depth of choice `i`, or 0 past the last.
-fn depth_at(choices: &Choices<'_>, i: usize) -> u16 {
-    if i < choices.len() {
-        choices.at(i).depth
-    } else {
-        0
-    }
+fn depth_at(choices: &PersonLines<'_>, i: usize) -> u16 {
+    choices.at(i).depth
 }
 
 /// The last pairing of choice `i`, or 0 past the last.
-fn last_at(choices: &Choices<'_>, i: usize) -> usize {
-    if i < choices.len() {
-        usize::from(choices.at(i).last)
-    } else {
-        0
-    }
+fn last_at(choices: &PersonLines<'_>, i: usize) -> usize {
+    usize::from(choices.at(i).last)
 }
 
 /// The value of the line of choice `i`.
-fn value_at(choices: &Choices<'_>, prices: &[i64], i: usize) -> i64 {
-    let mut value = if i < choices.len() {
-        choices.at(i).extra
-    } else {
-        0
-    };
+fn value_at(choices: &PersonLines<'_>, prices: &[i64], i: usize) -> i64 {
+    let mut value = choices.at(i).extra;
     let mut depth = depth_at(choices, i);
     for back in 0..choices.len() {
         if depth == 0 || back > i {

@@ -5,6 +5,7 @@ ghost use Rattle.roster_regions.specs.Regions.{IsIn, IsRegion};
 ghost use Rattle.roster_search.specs.Least.{CostsAtLeast, IsCheapestBelow};
 
 use crate::finder::Finder;
+use crate::tuning::STEP_GROWTH;
 use roster_prices::DualPrices;
 use roster_problem::{Problem, Roster};
 use roster_regions::Region;
@@ -66,5 +67,6 @@ fn raised(low: i64, high: i64, wanted: i64) -> i64
 
 /// The next step after one.
 fn larger(step: i64) -> i64 {
-    step.saturating_mul(4).saturating_add(3)
+    step.saturating_mul(STEP_GROWTH)
+        .saturating_add(STEP_GROWTH - 1)
 }

@@ -19,6 +19,7 @@
 //! - `visiting`: what is still to be searched, and what comes of it
 //! - `refining`: a region made smaller by prices that rise
 //! - `nodes`: what is told of each node of a search
+//! - `tuning`: the numbers that decide how long a search takes
 #![tactic(auto)]
 
 mod boxes;
@@ -34,6 +35,7 @@ mod parts;
 mod refining;
 mod root;
 mod shared;
+mod tuning;
 mod visiting;
 
 pub use boxes::{least_of_box, search_bases};

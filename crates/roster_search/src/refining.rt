@@ -8,17 +8,12 @@ ghost use Rattle.roster_regions.specs.Regions.{IsDecided, IsIn, IsNarrowed, IsRe
 ghost use Rattle.roster_search.specs.Refined.{IsRefined};
 
 use crate::root::room;
+use crate::tuning::{FIRST_ROUNDING, NODE_STEPS};
 use roster_cost::roster_cost;
 use roster_prices::{Ascent, DualPrices, branch, rounded};
 use roster_problem::{Places, Problem, Roster};
 use roster_regions::Region;
 use std::alloc::{AllocError, Global};
-
-/// How often prices move at a node, at most.
-const MOST_STEPS: usize = 20;
-
-/// After this step a roster is rounded, and after the last one.
-const FIRST_ROUNDING: usize = 1;
 
 /// What is known of a region after its prices have risen.
 #[derive(Drop)]
@@ -44,14 +39,15 @@ pub(crate) fn refine(
     ensures { IfOk result (IsRefined problem.now most region.old region.new) }
 {
     let room = room(region, most);
-    let mut ascent = Ascent::new(alloc, prices)?;
-    for step in 0..MOST_STEPS {
+    let mut ascent = Ascent::at_node(alloc, problem, region, prices)?;
+    for step in 0..NODE_STEPS {
         if !fix(alloc, problem, region, &mut ascent, most, room)? {
             return Ok(Refined::Nothing);
         }
         if let Some(roster) = cheap_at(alloc, problem, region, &ascent, most, room, step)? {
             return Ok(Refined::Found(roster));
         }
+        soften(&mut ascent, room, step);
         ascent.step(problem, region)?;
     }
     if !region.tighten(alloc, problem, ascent.best(), most)? {
@@ -78,10 +74,24 @@ fn fix(
     if ascent.is_decided() {
         return Ok(true);
     }
-    if !ascent.look(problem, region, room)? {
+    if !ascent.look(alloc, problem, region, room)? {
         return Ok(true);
     }
-    region.tighten(alloc, problem, ascent.prices(), most)
+    if !region.tighten(alloc, problem, ascent.prices(), most)? {
+        return Ok(false);
+    }
+    ascent.renew(problem, region)?;
+    Ok(true)
+}
+
+/// Has the prices count lines as far from the least as the gap says: from the second look on, when the gap
+/// is known well, and then at most.
+fn soften(ascent: &mut Ascent, room: i64, step: usize) {
+    if step == 1 {
+        ascent.begin_at_gap(room);
+    } else {
+        ascent.sharpen_to_gap(room);
+    }
 }
 
 /// After some of the steps, a roster of the region that is rounded from the prices, if it costs at most
@@ -99,7 +109,7 @@ fn cheap_at(
     ensures { IfOk result (λ roster. IfSome roster
         (IsWithinCost problem.now (IsIn problem.now region.now) most)) }
 {
-    if step != FIRST_ROUNDING && step != MOST_STEPS - 1 {
+    if step != FIRST_ROUNDING && step != NODE_STEPS - 1 {
         return Ok(None);
     }
     cheap(alloc, problem, region, ascent, most, room)

@@ -3,18 +3,13 @@
 ghost use Rattle.std.specs.Prelude.{◌≡◌, ◌<◌, IfOk, IsTrue};
 ghost use Rattle.roster_regions.specs.Regions.{IsRegion};
 
+use crate::tuning::{FEW_LINES_TO_FIX, ROOT_STEPS, STEPS_A_ROUNDING};
 use roster_cost::roster_cost;
-use roster_prices::{Ascent, DualPrices, rounded};
+use roster_prices::{Ascent, DualPrices};
 use roster_problem::Problem;
 use roster_regions::Region;
 use std::alloc::{AllocError, Global};
 use std::thread::Threads;
-
-/// How often prices move before a search, at most.
-const MOST_STEPS: usize = 150;
-
-/// After so many steps a roster is rounded again.
-const STEPS_A_ROUNDING: usize = 8;
 
 /// Good prices for a region, and what its least roster likely costs. Nothing rests on either.
 #[derive(Debug, Drop)]
@@ -33,9 +28,9 @@ pub(crate) fn root_prices(
     requires { IsRegion problem.now region.now }
 {
     let mut rise = Rise::from_penalties(alloc, problem, region)?;
-    for step in 0..MOST_STEPS {
+    for step in 0..ROOT_STEPS {
         let room = rise.room(region);
-        let is_worth = rise.ascent.look(problem, &rise.part, room)?;
+        let is_worth = rise.ascent.look(alloc, problem, &rise.part, room)?;
         if !rise.goes_on(alloc, problem, region, is_worth, step)? {
             break;
         }
@@ -55,7 +50,7 @@ pub(crate) fn root_prices_by_threads<R: Threads + Sync>(
     requires threads { 0 < threads }
 {
     let mut rise = Rise::from_penalties(alloc, problem, region)?;
-    for step in 0..MOST_STEPS {
+    for step in 0..ROOT_STEPS {
         let room = rise.room(region);
         let is_worth = rise
             .ascent
@@ -85,7 +80,7 @@ impl Rise {
     {
         let penalties = DualPrices::of_penalties(alloc, problem, region)?;
         Ok(Rise {
-            ascent: Ascent::new(alloc, &penalties)?,
+            ascent: Ascent::at_root(alloc, problem, region, &penalties)?,
             part: region.copy(alloc)?,
             most: i64::MAX,
         })
@@ -113,16 +108,29 @@ impl Rise {
         if !self.fix(alloc, problem, is_worth)? {
             return Ok(false);
         }
-        if step % STEPS_A_ROUNDING == 0 {
+        let knows = !self.ascent.is_sampling();
+        if knows && step % STEPS_A_ROUNDING == 0 {
             self.round(alloc, problem, step)?;
         }
-        if self.ascent.is_decided()
-            || self.ascent.bound() > room(region, self.most.saturating_sub(1))
-        {
-            return Ok(false);
+        if step + 1 == ROOT_STEPS || (knows && self.is_at_end(region)) {
+            if step + 1 == ROOT_STEPS || self.ascent.is_full() {
+                self.ascent.confirm(alloc, problem, &self.part)?;
+                return Ok(false);
+            }
+            self.ascent.look_at_all();
+            return Ok(true);
+        }
+        if knows {
+            let room = self.room(region);
+            self.ascent.sharpen_to_gap(room);
         }
         self.ascent.step(problem, &self.part)?;
         Ok(true)
+    }
+
+    /// Whether all is decided, or nothing cheaper is left, as far as is known.
+    fn is_at_end(&self, region: &Region) -> bool {
+        self.ascent.is_decided() || self.ascent.bound() > room(region, self.most.saturating_sub(1))
     }
 
     /// Leaves out of the part what costs more than may be paid, if that is worth its time. False if all does.
@@ -130,11 +138,17 @@ impl Rise {
         requires { IsRegion problem.now self.old.part }
         ensures { IfOk result (λ left. IsTrue left → IsRegion problem.now self.new.part) }
     {
-        if !is_worth || self.ascent.is_decided() {
+        if !is_worth || self.ascent.is_decided() || self.ascent.lines() > FEW_LINES_TO_FIX {
             return Ok(true);
         }
-        self.part
-            .tighten(alloc, problem, self.ascent.prices(), self.most)
+        if !self
+            .part
+            .tighten(alloc, problem, self.ascent.prices(), self.most)?
+        {
+            return Ok(false);
+        }
+        self.ascent.renew(problem, &self.part)?;
+        Ok(true)
     }
 
     /// Rounds a roster, which says how much may be paid if it costs less.
@@ -181,7 +195,7 @@ fn cheaper(
 ) -> Result<i64, AllocError>
     requires { IsRegion problem.now region.now }
 {
-    let places = rounded(alloc, problem, region, ascent.prices(), i64::MAX, turn)?;
+    let places = ascent.rounded(alloc, problem, region, i64::MAX, turn)?;
     if let Some(places) = places {
         let cost = roster_cost(problem, &places);
         if cost < most {

@@ -1,0 +1,23 @@
+//! Numbers that were found by measuring, and what was measured. Each may be another one: nothing that a
+//! search answers rests on them, only how long it takes.
+
+/// How often prices move before a search, at most. With 150 there were 4,400 nodes for six dense books of
+/// 20 crew and 7 days, and 630 with twice as many.
+pub(crate) const ROOT_STEPS: usize = 300;
+
+/// After so many of these steps a roster is rounded again.
+pub(crate) const STEPS_A_ROUNDING: usize = 8;
+
+/// With more lines than this a root fixes nothing: to write the lines that are left takes as long as some
+/// looks at all of them, and few of those come.
+pub(crate) const FEW_LINES_TO_FIX: usize = 100_000;
+
+/// How often prices move at a node, at most. With none or 5 there were a hundred times the nodes.
+pub(crate) const NODE_STEPS: usize = 20;
+
+/// After this step a roster is rounded, and after the last one.
+pub(crate) const FIRST_ROUNDING: usize = 1;
+
+/// How much larger each step of the cost that is asked for is than the one before. Five dense books of 12
+/// to 20 crew and 7 or 10 days had 4,000 nodes with 4, and 1,700 with this.
+pub(crate) const STEP_GROWTH: i64 = 2;
