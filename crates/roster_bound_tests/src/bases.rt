@@ -1,10 +1,9 @@
-//! Bases that threads settle before spans are searched, or leave to them.
+//! Bases that threads settle before spans are searched.
 
-ghost use Rattle.std.specs.Prelude.{◌≡◌, ◌<◌, IfOk, MatchOption, unwrap_or};
+ghost use Rattle.std.specs.Prelude.{◌≡◌, ◌<◌, IfOk, unwrap_or};
 ghost use Rattle.std.specs.Arc.{arc_value};
 ghost use Rattle.roster_lines.specs.Person.{IsTableOf};
 ghost use Rattle.roster_model.specs.Settled.{Anywhere, IsHeld, IsNotAfter};
-ghost use Rattle.roster_search.specs.Lefts.{IsLeftOf};
 ghost use Rattle.roster_bounds.specs.Chosen.{priced_table};
 
 use crate::books::{AS_EQUAL, EQUAL_SHARES, problem_of};
@@ -13,7 +12,7 @@ use roster_bounds::{Tables, choose_tables};
 use roster_branchtree::{Path, Sight, Span};
 use roster_lines::{Table, table_of};
 use roster_problem::{Problem, Roster};
-use roster_search::{Left, search_bases};
+use roster_search::search_bases;
 use std::alloc::{AllocError, Global};
 use std::sync::Arc;
 use std::test::Fail;
@@ -32,11 +31,9 @@ impl Sight for Looks {
     }
 }
 
-/// What threads did before spans are searched, and what a search of all that is left then does.
+/// What threads did before spans are searched, and what a search of all then does.
 #[derive(Clone, Copy)]
 struct Seen {
-    // Whether a base is left.
-    left: bool,
     // Whether the tables know that nothing comes before what is answered, and before leaving all open.
     none_before: [bool; 2],
     // Whether the search of all lists of line numbers answers the best roster, and its nodes.
@@ -66,7 +63,7 @@ fn searched_by<R: Threads + Sync>(rt: &R, alloc: Global, threads: usize) -> Resu
     searched_over(rt, alloc, &problem, threads)
 }
 
-/// What so many threads do in this problem, and what a search of all that they leave then does.
+/// What so many threads do in this problem, and what a search of all then does.
 fn searched_over<R: Threads + Sync>(
     rt: &R,
     alloc: Global,
@@ -97,7 +94,7 @@ fn searched_under<R: Threads + Sync>(
     looked(alloc, problem, table, &tables, &best, opening)
 }
 
-/// The best roster that the threads know, and tables that know it or what is left.
+/// The best roster that the threads find, and tables that know it.
 fn informed<'a, R: Threads + Sync>(
     rt: &R,
     alloc: Global,
@@ -113,30 +110,25 @@ fn informed<'a, R: Threads + Sync>(
     ensures tables { IfOk result (λ informed.
         informed.1 ≡ priced_table problem.now table.now informed.1.prices) }
 {
-    let (better, left) = search_bases(rt, alloc, problem, table, opening, threads)?;
+    let better = search_bases(rt, alloc, problem, table, opening, threads)?;
     let best = better_or(alloc, better, opening)?;
-    let tables = told(alloc, problem, table, &best, left)?;
+    let tables = told(alloc, problem, table, &best)?;
     Ok((best, tables))
 }
 
-/// Tables that know the best roster, or what is left.
+/// Tables that know the best roster.
 fn told<'a>(
     alloc: Global,
     problem: &'a Problem,
     table: &'a Table,
     best: &Arc<Roster>,
-    left: Option<Left>,
 ) -> Result<Tables<'a>, AllocError>
     requires table { IsTableOf problem.now table.now }
-    requires left { MatchOption left
-        (IsNotAfter problem.now Anywhere (arc_value best.now)) (IsLeftOf problem.now) }
+    requires best { IsNotAfter problem.now Anywhere (arc_value best.now) }
     ensures { IfOk result (λ tables. tables ≡ priced_table problem.now table.now tables.prices) }
 {
     let tables = choose_tables(alloc, problem, table)?;
-    match left {
-        Some(left) => Ok(tables.leaving(left)),
-        None => Ok(tables.knowing(Arc::try_clone(best)?)),
-    }
+    Ok(tables.knowing(Arc::try_clone(best)?))
 }
 
 /// What these tables know, and what the search of all lists of line numbers then does.
@@ -160,25 +152,26 @@ fn looked(
     let mut looks = Looks { count: 0 };
     let best = searched(alloc, problem, table, tables, span, &mut looks, 1, known)?;
     Ok(Seen {
-        left: tables.left().is_some(),
         none_before: [tables.none_before(known), tables.none_before(opening)],
         finds_best: is(&best, AS_EQUAL, 4),
         nodes: looks.count,
     })
 }
 
+/// Whether all bases are settled: the best roster is known, and a search ends at its first node.
+fn settles_all(seen: Seen) -> bool {
+    seen.none_before == [true, false] && seen.finds_best && seen.nodes == 1
+}
+
 #[test]
 fn one_thread_settles_all_bases(rt: HostRuntime) -> Result<(), Fail> {
-    let seen = searched_by(&rt, rt.alloc(), 1)?;
-    assert!(rt; !seen.left && seen.none_before == [true, false]);
-    assert!(rt; seen.finds_best && seen.nodes == 1);
+    assert!(rt; settles_all(searched_by(&rt, rt.alloc(), 1)?));
     Ok(())
 }
 
 #[test]
-fn two_threads_leave_a_base(rt: HostRuntime) -> Result<(), Fail> {
-    let seen = searched_by(&rt, rt.alloc(), 2)?;
-    assert!(rt; seen.left && seen.none_before == [false, false]);
-    assert!(rt; seen.finds_best && seen.nodes > 1);
+fn several_threads_settle_all_bases(rt: HostRuntime) -> Result<(), Fail> {
+    assert!(rt; settles_all(searched_by(&rt, rt.alloc(), 2)?));
+    assert!(rt; settles_all(searched_by(&rt, rt.alloc(), 5)?));
     Ok(())
 }

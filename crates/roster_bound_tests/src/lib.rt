@@ -4,7 +4,7 @@
 //! - `books`: small problems
 //! - `bounds`: prices, nodes and their bounds
 //! - `spans`: searches of spans under sights that show wrong rosters
-//! - `bases`: bases that threads settle before spans are searched, or leave to them
+//! - `bases`: bases that threads settle before spans are searched
 //! - `incumbents`: the incumbent, and what it shows
 #![tactic(auto)]
 

@@ -81,14 +81,12 @@ fn best_of<S: Sight>(
         (Some (arc_value known.now)) (arc_value best)) }
 {
     let mut watch = Watch::new(problem, table, sight, every, Arc::try_clone(known)?);
-    watch.node()?;
+    watch.node();
     let held = watch.best()?;
     if is_settled(alloc, tables, span, &held)? {
         return Ok(held);
     }
-    let found = least_in(
-        alloc, problem, table, tables, span, every, &held, &mut watch,
-    )?;
+    let found = least_in(alloc, problem, table, span, &held, &mut watch)?;
     let seen = watch.best()?;
     let best = earlier_if(alloc, found, seen)?;
     Ok(best)
@@ -127,36 +125,25 @@ fn is_settled(
     }
 }
 
-/// A roster that comes before the given one and isn't after any of the span; or none, and then the given one
-/// isn't after any of it. It lies in the span, unless the tables know what is left to search and the answer
-/// may lie elsewhere: then only that is searched.
+/// A roster of the span that comes before the given one and isn't after any of the span; or none, and then the
+/// given one isn't after any of it.
 fn least_in<N: Nodes>(
     alloc: Global,
     problem: &Problem,
     table: &Table,
-    tables: &Tables<'_>,
     span: &Span,
-    every: usize,
     best: &Roster,
     nodes: &mut N,
 ) -> Result<Option<Roster>, AllocError>
     requires table { IsTableOf problem.now table.now }
-    requires tables { tables.now ≡ priced_table problem.now table.now tables.now.prices }
     requires person { length span.now.path < length problem.now.persons }
     requires path { AreLineNumbers table.now span.now.path }
     requires best { IsHeld problem.now best.now }
     ensures settled { IfOk result (λ found. Settles problem.now (IsInSpan table.now span.now)
-        (λ places. every ≡ 0 → IsInSpan table.now span.now places)
-        (Some best.now) (unwrap_or found best.now)) }
+        (IsInSpan table.now span.now) (Some best.now) (unwrap_or found best.now)) }
     ensures goes_on { N.goes_on nodes.old nodes.new }
 {
     let ranges = ranges_of(alloc, problem, table, span)?;
-    if every > 0 {
-        if let Some(left) = tables.left() {
-            let found = left.least_of_box(alloc, problem, table, &ranges, best, nodes)?;
-            return Ok(found);
-        }
-    }
     let found = least_of_box(alloc, problem, table, &ranges, best, nodes)?;
     Ok(found)
 }

@@ -105,13 +105,12 @@ impl<'a, S: Sight> Nodes for Watch<'a, S> {
 
     ghost goes_on = { KeepsWatch };
 
-    fn node(&mut self) -> Result<(), AllocError> {
+    fn node(&mut self) {
         if self.is_due() {
             if let Some(shown) = self.seen() {
                 self.best = shown;
             }
         }
-        Ok(())
     }
 
     ghost stays = { keeps_nothing };

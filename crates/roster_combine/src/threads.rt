@@ -1,6 +1,6 @@
 //! A search by several threads.
 
-ghost use Rattle.std.specs.Prelude.{◌≡◌, ◌+◌, ◌<◌, ◌≤◌, [], All, IfErr, IfNone, IfOk, IfSome, List, length, map, unwrap_or, vec_len};
+ghost use Rattle.std.specs.Prelude.{◌≡◌, ◌+◌, ◌<◌, ◌≤◌, [], All, IfErr, IfOk, List, length, map, unwrap_or, vec_len};
 ghost use Rattle.std.specs.Arc.{arc_value};
 ghost use Rattle.std.specs.Thread.{IsSync};
 ghost use Rattle.roster_model.specs.Problem.{Problem as PlainProblem};
@@ -8,7 +8,6 @@ ghost use Rattle.roster_model.specs.Settled.{Anywhere, IsHeld, IsNotAfter};
 ghost use Rattle.roster_lines.specs.Entries.{Entry};
 ghost use Rattle.roster_lines.specs.Person.{IsTableOf};
 ghost use Rattle.roster_bounds.specs.Chosen.{priced_table};
-ghost use Rattle.roster_search.specs.Lefts.{IsLeftOf};
 ghost use Rattle.roster_combine.specs.Parts.{AreSettled, IsBestKey};
 
 use crate::combining::{Solved, combine, solved_again};
@@ -19,7 +18,7 @@ use roster_bounds::{Tables, choose_tables};
 use roster_incumbent::Incumbent;
 use roster_lines::Table;
 use roster_problem::{Problem, Roster};
-use roster_search::{Left, search_bases};
+use roster_search::search_bases;
 use roster_subtreepool::{Pool, PoolState, Settled, Share};
 use std::alloc::{AllocError, Global};
 use std::marker::Brand;
@@ -61,8 +60,8 @@ pub(crate) fn solve_over<R: Threads + Wait + Sync, G: Gate + Sync>(
     )
 }
 
-/// A roster to begin with, and the tables for the searches of spans, for which so many threads search the
-/// bases. The tables know that the roster is the best, or what is left to search.
+/// The best roster, for which so many threads search the bases, and the tables for the searches of spans, which
+/// know it.
 fn begun<'a, R: Threads + Sync>(
     rt: &R,
     alloc: Global,
@@ -77,30 +76,25 @@ fn begun<'a, R: Threads + Sync>(
     ensures held { IfOk result (λ begun. IsHeld problem.now (arc_value begun.0)) }
 {
     let known = first_known(alloc, problem)?;
-    let (better, left) = search_bases(rt, alloc, problem, table, &known, threads)?;
+    let better = search_bases(rt, alloc, problem, table, &known, threads)?;
     let best = better_or(alloc, better, known)?;
-    let tables = informed(alloc, problem, table, &best, left)?;
+    let tables = informed(alloc, problem, table, &best)?;
     Ok((best, tables))
 }
 
-/// The tables for the searches of spans. They know what is left to search, or that the roster is the best.
+/// The tables for the searches of spans, which know that the roster is the best.
 fn informed<'a>(
     alloc: Global,
     problem: &'a Problem,
     table: &'a Table,
     best: &Arc<Roster>,
-    left: Option<Left>,
 ) -> Result<Tables<'a>, AllocError>
     requires table { IsTableOf problem.now table.now }
-    requires left { IfSome left (IsLeftOf problem.now) }
-    requires best { IfNone left (IsNotAfter problem.now Anywhere (arc_value best.now)) }
+    requires best { IsNotAfter problem.now Anywhere (arc_value best.now) }
     ensures { IfOk result (λ tables. tables ≡ priced_table problem.now table.now tables.prices) }
 {
     let tables = choose_tables(alloc, problem, table)?;
-    match left {
-        Some(left) => Ok(tables.leaving(left)),
-        None => Ok(tables.knowing(Arc::try_clone(best)?)),
-    }
+    Ok(tables.knowing(Arc::try_clone(best)?))
 }
 
 /// The better roster, if there is one, or the known one.

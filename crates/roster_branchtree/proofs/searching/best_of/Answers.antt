@@ -3,6 +3,7 @@ use Rattle.std.specs.Prelude.{unwrap_or, MatchOption}
 use Rattle.std.specs.Arc.{arc_value}
 use Rattle.roster_model.specs.Rosters.{Key}
 use Rattle.roster_model.specs.Settled.{Settles}
+use Rattle.roster_model.proofs.SettledLemmas.{Settles-wider}
 use Rattle.roster_branchtree.specs.Shown.{IsEarlierOf, KeepsWatch, Watched}
 use Rattle.roster_branchtree.specs.Spans.{IsInSpan}
 use Rattle.roster_branchtree.proofs.Settling.{found_settles, watch_of}
@@ -20,6 +21,7 @@ returns g c =
     let first = subst (λ (w : Watched). KeepsWatch w mid) start c.node.ensures in
     let second : KeepsWatch mid now = c.in_ok-found.ensures.goes_on in
     let held = c.deref-2.ensures ∙ c.in_ok-held.ensures in
-    let settled = subst (λ (key : Key). Settles problem region (λ places. every ≡ 0 → region places) (Some key) (unwrap_or c.in_ok-found.found key)) held c.in_ok-found.ensures.settled in
+    let inside = subst (λ (key : Key). Settles problem region region (Some key) (unwrap_or c.in_ok-found.found key)) held c.in_ok-found.ensures.settled in
+    let settled = Settles-wider problem region region (λ places. every ≡ 0 → region places) (Some mid.best) (unwrap_or c.in_ok-found.found mid.best) inside (λ places legal own _. own) in
     let one = subst (λ (key : Key). MatchOption c.in_ok-found.found (arc_value c.in_ok-best.best ≡ key) (λ roster. IsEarlierOf roster key (arc_value c.in_ok-best.best))) c.in_ok-seen.ensures c.in_ok-best.ensures in
     found_settles problem region every known mid now c.in_ok-found.found (arc_value c.in_ok-best.best) c.requires.known first second settled one
