@@ -1,4 +1,4 @@
-use Rattle.std.proofs.Common.{◌≡◌, ℕ, List, Some, subst}
+use Rattle.std.proofs.Common.{ℕ, List, Some, subst}
 use Rattle.std.specs.Prelude.{unwrap_or}
 use Rattle.roster_model.specs.Settled.{Settles}
 use Rattle.roster_regions.specs.Regions.{IsInRanges}
