@@ -232,8 +232,9 @@ impl Look {
     // Weighs the choices from the last to the first, and gives the weight of all lines.
     fn weigh(&mut self, choices: &PersonLines<'_>, least: i64, softness: u32) -> u64 {
         let mut total: u64 = 0;
-        for back in 0..choices.len() {
-            let i = choices.len() - 1 - back;
+        let count = choices.len();
+        for back in 0..count {
+            let i = count - 1 - back;
             let choice = choices.at(i);
             let weight = if choice.live {
                 let value = number_at(&self.values, i);

@@ -9,7 +9,7 @@ use crate::person_lines::PersonLines;
 use crate::reading::number_at;
 use crate::tuning::MOST_CHOOSING;
 use roster_problem::{Problem, open_number};
-use roster_regions::Region;
+use roster_regions::{Choice, Region};
 use std::alloc::{AllocError, Global};
 
 /// What a pairing earns that must not be open.
