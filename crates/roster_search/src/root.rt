@@ -3,7 +3,7 @@
 ghost use Rattle.std.specs.Prelude.{◌≡◌, ◌<◌, IfOk, IsTrue};
 ghost use Rattle.roster_regions.specs.Regions.{IsRegion};
 
-use crate::tuning::{FEW_LINES_TO_FIX, ROOT_STEPS, STEPS_A_ROUNDING};
+use crate::tuning::{FEW_LINES_TO_FIX, LAST_ROOT_STEP, ROOT_STEPS, STEPS_A_ROUNDING};
 use roster_cost::roster_cost;
 use roster_prices::{Ascent, DualPrices};
 use roster_problem::Problem;
@@ -108,22 +108,37 @@ impl Rise {
         if !self.fix(alloc, problem, is_worth)? {
             return Ok(false);
         }
-        let knows = !self.ascent.is_sampling();
-        if knows && step % STEPS_A_ROUNDING == 0 {
+        self.moves(alloc, problem, region, step)
+    }
+
+    /// After a look, rounds a roster now and then, and moves the prices. False if that is no longer worth it.
+    fn moves(
+        &mut self,
+        alloc: Global,
+        problem: &Problem,
+        region: &Region,
+        step: usize,
+    ) -> Result<bool, AllocError>
+        requires { IsRegion problem.now self.old.part }
+        ensures { self.new.part ≡ self.old.part }
+    {
+        if self.ascent.is_sampling() {
+            self.ascent.step(problem, &self.part)?;
+            return Ok(true);
+        }
+        if step % STEPS_A_ROUNDING == 0 {
             self.round(alloc, problem, step)?;
         }
-        if step + 1 == ROOT_STEPS || (knows && self.is_at_end(region)) {
-            if step + 1 == ROOT_STEPS || self.ascent.is_full() {
-                self.ascent.confirm(alloc, problem, &self.part)?;
-                return Ok(false);
-            }
+        if step >= LAST_ROOT_STEP || (self.is_at_end(region) && self.ascent.is_full()) {
+            self.ascent.confirm(alloc, problem, &self.part)?;
+            return Ok(false);
+        }
+        if self.is_at_end(region) {
             self.ascent.look_at_all();
             return Ok(true);
         }
-        if knows {
-            let room = self.room(region);
-            self.ascent.sharpen_to_gap(room);
-        }
+        let room = self.room(region);
+        self.ascent.sharpen_to_gap(room);
         self.ascent.step(problem, &self.part)?;
         Ok(true)
     }

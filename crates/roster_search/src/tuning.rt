@@ -5,6 +5,9 @@
 /// 20 crew and 7 days, and 630 with twice as many.
 pub(crate) const ROOT_STEPS: usize = 300;
 
+/// The number of the last of them.
+pub(crate) const LAST_ROOT_STEP: usize = ROOT_STEPS - 1;
+
 /// After so many of these steps a roster is rounded again.
 pub(crate) const STEPS_A_ROUNDING: usize = 8;
 
