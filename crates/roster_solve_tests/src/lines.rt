@@ -4,12 +4,12 @@ ghost use Rattle.roster_lines.specs.Person.{IsTableOf};
 
 use crate::books::{problem_of, problem_with, read};
 use roster_lines::{
-    Lines, LinesFault, Table, TableFault, all_lines, few_are_not_crowded, has_numbers, lines_of,
-    nobody_is_crowded, one_list_of_lines, one_list_of_numbers, table_of,
+    Lines, LinesFault, SharedLines, Table, TableFault, all_lines, few_are_not_crowded, has_numbers,
+    lines_of, nobody_is_crowded, one_list_of_lines, one_list_of_numbers, table_of,
 };
 use roster_model::limits::MOST_PAIRINGS;
 use roster_problem::{Problem, Set};
-use std::alloc::Global;
+use std::alloc::{AllocError, Global};
 use std::process::Abort;
 use std::test::Fail;
 use std::thread::Threads;
@@ -220,6 +220,25 @@ fn go_on(rt: &impl Abort, lines: &Lines) {
     assert!(rt; lines.parent_and_last(35) == (0, 9));
 }
 
+/// Checks what rows of the two days have behind those before them.
+fn have_behind(rt: &impl Abort, lines: &Lines) {
+    let rows = lines.rows();
+    assert!(rt; rows.len() == 36);
+    assert!(rt; (rows[0].depth, rows[0].cost) == (0, 0));
+    assert!(rt; (rows[1].depth, rows[1].last) == (1, 0));
+    assert!(rt; (rows[2].depth, rows[2].last) == (2, 5));
+    assert!(rt; (rows[6].depth, rows[6].last) == (2, 9));
+    assert!(rt; (rows[7].depth, rows[7].last) == (1, 1));
+    assert!(rt; (rows[35].depth, rows[35].last) == (1, 9));
+}
+
+#[test]
+fn rows_have_their_last_pairing_behind_those_before(rt: HostRuntime) -> Result<(), Fail> {
+    let lines = lines_with(&rt, rt.alloc(), &TWO_DAYS)?;
+    have_behind(&rt, &lines);
+    Ok(())
+}
+
 #[test]
 fn lines_go_on_from_earlier_ones(rt: HostRuntime) -> Result<(), Fail> {
     let lines = lines_with(&rt, rt.alloc(), &TWO_DAYS)?;
@@ -244,6 +263,24 @@ fn a_table_has_the_lines_of_each_person(rt: HostRuntime) -> Result<(), Fail> {
     let problem = problem_of(rt.alloc(), &TWO_DAYS)?;
     let table = table_of(rt.alloc(), &problem)?;
     has_lines(&rt, &problem, &table);
+    Ok(())
+}
+
+/// A copy of the lines of the one person, whose table is gone.
+fn beside(rt: &impl Abort, problem: &Problem, table: Table) -> Result<SharedLines, AllocError>
+    requires table { IsTableOf problem.now table }
+{
+    assert!(rt; problem.persons().len() == 1);
+    let lines = table.shared(0)?;
+    lines.copy()
+}
+
+#[test]
+fn lines_are_had_beside_their_table(rt: HostRuntime) -> Result<(), Fail> {
+    let problem = problem_of(rt.alloc(), &TWO_DAYS)?;
+    let table = table_of(rt.alloc(), &problem)?;
+    let lines = beside(&rt, &problem, table)?;
+    assert!(rt; lines.lines().width() == 36);
     Ok(())
 }
 
