@@ -1,0 +1,104 @@
+-- What pairings cost at least in a legal roster, one after another.
+use Rattle.std.proofs.Common.{◌≡◌, ℕ, ◌+◌, ◌<◌, ◌≤◌, true, false, Bool, eqb, ltb, cond, List, [], ◌∷◌, length, drop, get_or, Some, refl, sym, ap, ◌∙◌, subst, inl, inr, arith, ℤ, pos, ◌+ℤ◌, ◌≤ℤ◌, eq-eqb}
+use Rattle.std.specs.Prelude.{All, slice_get}
+use Rattle.std.proofs.lemmas.Option.{get_or_from_slice_get, slice_get-get_or}
+use Rattle.std.proofs.lemmas.List.{drop_more, drop_all}
+use Rattle.std.specs.List.{sum_by, range_with_len}
+use Rattle.std.proofs.lemmas.Bool.{cases_eq, cases_lt, eqb-true, lt-ltb, le-ltb, ne_eqb, false≢true}
+use Rattle.std.proofs.lemmas.Int.{ints}
+use Rattle.roster_model.specs.records.Pairing.{Pairing}
+use Rattle.roster_model.specs.Problem.{Problem, units_of}
+use Rattle.roster_model.specs.Places.{set_of, open_number}
+use Rattle.roster_model.specs.Rules.{is_among, IsLegal}
+use Rattle.roster_model.specs.Costs.{cost_of, open_penalties, placed_units, missed_target, total}
+use Rattle.roster_model.specs.Rosters.{IsLegalRoster}
+use Rattle.roster_model.specs.Settled.{IsLowerBound}
+use Rattle.roster_model.proofs.CostLemmas.{total-pos}
+use Rattle.roster_model.proofs.SetLemmas.{is_among-later}
+use Rattle.roster_model.proofs.PlacesParts.{in_set_of_number}
+use Rattle.roster_model.specs.declared.limits.TheConstants.{MOST_UNITS}
+use Rattle.roster_cost.specs.Amounts.{IsWithin}
+use Rattle.roster_plan.specs.Floors.{IsFloor, IsFloorAmong, IsFloorOf}
+
+-- what the pairings from p on cost
+abbrev pub cost_behind : Problem → ℕ → List ℕ → ℤ
+cost_behind problem p places =
+    pos (open_penalties (open_number problem) (drop p problem.pairings) (drop p places)) +ℤ placed_units problem p (drop p places)
+
+-- what is legal in parts
+abbrev pub PartsAreLegal : Problem → Type 0
+PartsAreLegal problem = (k : ℕ) (set part : List ℕ) → ((p : ℕ) → is_among part p ≡ true → is_among set p ≡ true) → IsLegal problem k set → IsLegal problem k part
+
+-- a pairing is legal alone for who has it in a legal roster
+alone_legal : (problem : Problem) (p k : ℕ) (places : List ℕ) → PartsAreLegal problem → IsLegalRoster problem places → p < length places → k < length problem.persons → get_or places p 0 ≡ k → IsLegal problem k (p ∷ [])
+alone_legal problem p k places parts roster inside person has =
+    parts k (set_of k places) (p ∷ []) (λ q among.
+    let same : q ≡ p = elim (cases_eq q p) [
+      | inl e ↦ e
+      | inr other ↦ absurd (false≢true (sym (is_among-later p q [] (λ e. other (sym e))) ∙ among))
+    ] in
+    subst (λ i. is_among (set_of k places) i ≡ true) (sym same) (in_set_of_number k p places inside has)) (roster.legal k person)
+
+-- what one pairing costs, left open or flown
+amount : (n x : ℕ) (penalty : ℕ) (units floor : ℤ) → x ≤ n → floor ≤ℤ pos penalty → (x < n → floor ≤ℤ units) → floor ≤ℤ (pos (cond (eqb x n) penalty 0) +ℤ cond (ltb x n) units (pos 0))
+amount n x penalty units floor most unflown flown =
+    elim (cases_eq x n) [
+      | inl same ↦ rw (eq-eqb x n same, le-ltb x n (omega arith)) omega (arith, ints, unflown)
+      | inr other ↦ rw (ne_eqb x n other, lt-ltb x n (omega arith)) omega (arith, ints, flown (omega arith))
+    ]
+
+-- what the pairings from p on cost, by its own and the next
+behind : (problem : Problem) (p : ℕ) (pairing : Pairing) (pairings : List Pairing) (x : ℕ) (places left : List ℕ) → drop p problem.pairings ≡ pairing ∷ pairings → drop p left ≡ x ∷ places
+    → cost_behind problem p left ≡ (pos (cond (eqb x (open_number problem)) pairing.penalty 0) +ℤ cond (ltb x (open_number problem)) (units_of problem x p) (pos 0)) +ℤ (pos (open_penalties (open_number problem) pairings places) +ℤ placed_units problem (p + 1) places)
+behind problem p pairing pairings x places left e f =
+    let n = open_number problem in
+    let open_ones : open_penalties n (drop p problem.pairings) (drop p left) ≡ cond (eqb x n) pairing.penalty 0 + open_penalties n pairings places = rw (e, f) refl in
+    let placed : placed_units problem p (drop p left) ≡ cond (ltb x n) (units_of problem x p) (pos 0) +ℤ placed_units problem (p + 1) places = rw f refl in
+    omega (arith, ints, open_ones, placed)
+
+-- a pairing of no list
+none : Pairing
+none = record { id = []; base = 0; penalty = 0; row = 0 }
+
+pub one_more : (problem : Problem) (p : ℕ) (floor bound : ℤ) (places : List ℕ) → PartsAreLegal problem → IsLegalRoster problem places → p < length problem.pairings → IsFloor problem p floor → bound ≤ℤ cost_behind problem (p + 1) places → (bound +ℤ floor) ≤ℤ cost_behind problem p places
+one_more problem p floor bound places parts roster inside floored below =
+    let pairing : Pairing = get_or problem.pairings p none in
+    let is : slice_get problem.pairings p ≡ Some pairing = slice_get-get_or problem.pairings p none inside in
+    let n = length problem.persons in
+    let covers = roster.covers in
+    let x : ℕ = get_or places p 0 in
+    let there : p < length places = omega (arith, covers) in
+    let most : x ≤ n = roster.numbers p 0 there in
+    let e : drop p problem.pairings ≡ pairing ∷ drop (p + 1) problem.pairings = drop_more problem.pairings p pairing inside ∙ ap (λ q. q ∷ drop (p + 1) problem.pairings) (get_or_from_slice_get problem.pairings p pairing pairing is) in
+    let split = behind problem p pairing (drop (p + 1) problem.pairings) x (drop (p + 1) places) places e (drop_more places p 0 there) in
+    let own = amount n x pairing.penalty (units_of problem x p) floor most (floored.unflown pairing is) (λ person. floored.flown x person (alone_legal problem p x places parts roster there person refl)) in
+    omega (arith, ints, split, own, below)
+
+pub nothing_behind : (problem : Problem) (p : ℕ) (places : List ℕ) → IsLegalRoster problem places → p ≡ length problem.pairings → pos 0 ≤ℤ cost_behind problem p places
+nothing_behind problem p places roster end =
+    let covers = roster.covers in
+    let e : drop p problem.pairings ≡ [] = drop_all p problem.pairings (omega arith) in
+    let f : drop p places ≡ [] = drop_all p places (omega arith) in
+    rw (e, f) omega (arith, ints)
+
+pub one_person_more : (problem : Problem) (k p : ℕ) (least floor : ℤ) → IsFloorAmong problem k p least → IsFloorOf problem k p least floor → IsFloorAmong problem (k + 1) p floor
+one_person_more problem k p least floor among is =
+    let most = is.at_most in
+    record {
+      unflown = λ pairing there. let u = among.unflown pairing there in omega (arith, ints, u, most);
+      flown = λ j below legal. elim (cases_eq j k) [
+        | inl same ↦ subst (λ i. floor ≤ℤ units_of problem i p) (sym same) (is.flown (subst (λ i. IsLegal problem i (p ∷ [])) same legal))
+        | inr other ↦ let f = among.flown j (omega arith) legal in omega (arith, ints, f, most)
+      ];
+      within = elim is.from [
+        | inl same ↦ subst (IsWithin MOST_UNITS) (sym same) among.within
+        | inr within ↦ within
+      ];
+    }
+
+pub is_bound : (problem : Problem) (p : ℕ) (bound : ℤ) → p ≡ 0 → ((places : List ℕ) → IsLegalRoster problem places → bound ≤ℤ cost_behind problem p places) → IsLowerBound problem bound
+unfolding cost_of
+is_bound problem p bound first below places roster =
+    let missed = total-pos (λ k. missed_target problem k (set_of k places)) (range_with_len 0 (length problem.persons)) in
+    let here : bound ≤ℤ cost_behind problem 0 places = subst (λ q. bound ≤ℤ cost_behind problem q places) first (below places roster) in
+    omega (arith, ints, here, missed)

@@ -1,0 +1,4 @@
+mod Reassigned
+mod KeptLemmas
+mod FloorLemmas
+mod PlanLemmas

@@ -1,0 +1,37 @@
+-- A plan is the earliest of some legal rosters.
+use Rattle.std.proofs.Common.{◌≡◌, ℕ, true, List, length, refl, sym, ap, ◌∙◌, subst, inl, inr, ℤ}
+use Rattle.std.specs.Prelude.{◌⊎◌}
+use Rattle.roster_model.specs.Problem.{Problem}
+use Rattle.roster_model.specs.Plans.{IsKeptOf, IsPlan, all_open}
+use Rattle.roster_model.specs.Rosters.{IsLegalRoster, Key, key_le, key_of}
+use Rattle.roster_model.specs.Settled.{IsHeld, IsLowerBound}
+use Rattle.roster_model.proofs.KeyLemmas.{key_le-trans}
+use Rattle.roster_model.proofs.RosterLemmas.{all_open_legal}
+
+-- a legal roster with its cost
+held : (problem : Problem) (places : List ℕ) (key : Key) → key ≡ key_of problem places → IsLegalRoster problem places → IsHeld problem key
+held problem places key is legal = subst (IsHeld problem) (sym is) (record { legal = legal; cost = refl })
+
+-- one of two that are held is held
+either : (problem : Problem) (a b key : Key) → IsHeld problem a → IsHeld problem b → (key ≡ a) ⊎ (key ≡ b) → IsHeld problem key
+either problem a b key first second (inl is) = subst (IsHeld problem) (sym is) first
+either problem a b key first second (inr is) = subst (IsHeld problem) (sym is) second
+
+pub planned : (problem : Problem) (given kept found : List ℕ) (start open_one best known key : Key) (bound : ℤ)
+    → IsLegalRoster problem kept → IsKeptOf problem given kept → IsLegalRoster problem found → IsLowerBound problem bound
+    → start ≡ key_of problem kept → open_one ≡ key_of problem (all_open problem) → best ≡ key_of problem found
+    → (known ≡ start) ⊎ (known ≡ open_one) → key_le known start ≡ true → key_le known open_one ≡ true
+    → (key ≡ best) ⊎ (key ≡ known) → key_le key known ≡ true
+    → IsPlan problem given key bound
+planned problem given kept found start open_one best known key bound legal is_kept better bounded starts opens finds from not_after_start not_after_open chosen not_after =
+    let first = held problem kept start starts legal in
+    let second = held problem (all_open problem) open_one opens (all_open_legal problem) in
+    let third = held problem found best finds better in
+    record {
+      held = either problem best known key third (either problem start open_one known first second from) chosen;
+      kept = kept;
+      is_kept = is_kept;
+      not_after_kept = subst (λ k. key_le key k ≡ true) starts (key_le-trans key known start not_after not_after_start);
+      not_after_open = subst (λ k. key_le key k ≡ true) opens (key_le-trans key known open_one not_after not_after_open);
+      bounded = bounded;
+    }

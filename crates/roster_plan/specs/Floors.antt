@@ -1,0 +1,24 @@
+-- What a pairing costs at least.
+use Rattle.std.specs.Prelude.{ℕ, ◌<◌, List, [], ◌∷◌, length, slice_get, Some, ◌≡◌, ◌⊎◌, ℤ, pos, neg_ℤ, ◌≤ℤ◌}
+use Rattle.roster_model.specs.declared.limits.TheConstants.{MOST_UNITS}
+use Rattle.roster_model.specs.records.Pairing.{Pairing}
+use Rattle.roster_model.specs.Problem.{Problem, units_of}
+use Rattle.roster_model.specs.Rules.{IsLegal}
+use Rattle.roster_cost.specs.Amounts.{IsWithin}
+
+-- The pairing at place p costs no less, be it left open or flown by one of the first n persons, for whom it
+-- is legal alone. The amount is within the limit of units, which is that of penalties too.
+pub record IsFloorAmong (problem : Problem) (n p : ℕ) (floor : ℤ) : Type 0 where
+  pub unflown : (pairing : Pairing) → slice_get problem.pairings p ≡ Some pairing → floor ≤ℤ pos pairing.penalty
+  pub flown : (k : ℕ) → k < n → IsLegal problem k (p ∷ []) → floor ≤ℤ units_of problem k p
+  pub within : IsWithin MOST_UNITS floor
+
+-- the same of all persons
+abbrev pub IsFloor : Problem → ℕ → ℤ → Type 0
+IsFloor problem p floor = IsFloorAmong problem (length problem.persons) p floor
+
+-- no more than the least so far, nor than the units of person k if the pairing is legal alone
+pub record IsFloorOf (problem : Problem) (k p : ℕ) (least floor : ℤ) : Type 0 where
+  pub at_most : floor ≤ℤ least
+  pub flown : IsLegal problem k (p ∷ []) → floor ≤ℤ units_of problem k p
+  pub from : (floor ≡ least) ⊎ IsWithin MOST_UNITS floor

@@ -1,0 +1,31 @@
+//! A legal roster of any month with its cost, and a number that no roster costs less than.
+//!
+//! `plan` answers every problem, also one with far more legal sets than can be listed. It begins with what
+//! is legal of a given roster, improves it by a fixed number of random changes, and promises neither the
+//! best roster nor a near one: each step keeps the roster legal, and the result is the earliest of what was
+//! given, of no pairings at all, and of what was found. In reading order:
+//!
+//! - `kept`: what is legal of a given roster
+//! - `bound`: what no roster costs less than
+//! - `draft`: a roster that is legal at every moment
+//! - `random`: numbers that look random, the same in each run
+//! - `sets`: what a search asks of sets
+//! - `tables`: what a search looks up
+//! - `changes`: persons who are to have other sets
+//! - `search`: changes tried one after another
+//! - `moves`: which change is tried next
+//! - `planning`: the plan
+#![tactic(auto)]
+
+mod bound;
+mod changes;
+mod draft;
+mod kept;
+mod moves;
+mod planning;
+mod random;
+mod search;
+mod sets;
+mod tables;
+
+pub use planning::{Planned, plan};

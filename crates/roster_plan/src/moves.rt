@@ -1,0 +1,154 @@
+//! Which change is tried next.
+
+use crate::search::Search;
+use crate::sets::{joined, only, without};
+use roster_problem::Set;
+use std::alloc::AllocError;
+
+/// The minutes of a day.
+const DAY: i64 = 24 * 60;
+
+/// So often two persons give each other what hinders what they get; more would be most of what they have.
+const MOST_ROUNDS: usize = 8;
+
+impl<'a> Search<'a> {
+    /// Makes the next changes: none, if nothing comes to mind.
+    pub(crate) fn change(&mut self) -> Result<(), AllocError> {
+        self.changes.clear();
+        let p = self.next_pairing();
+        let Some(holder) = self.holder(p) else {
+            let nobody = self.tables.persons();
+            let k = self.taker(p, nobody);
+            return self.give(p, k);
+        };
+        match self.random.below(8) {
+            0 => self.leave(p, holder),
+            1 | 2 => {
+                let k = self.taker(p, holder);
+                self.leave(p, holder)?;
+                self.give(p, k)
+            }
+            _ => {
+                let k = self.taker(p, holder);
+                self.exchange(p, holder, k)
+            }
+        }
+    }
+
+    /// Places an open pairing with whom it costs least.
+    pub(crate) fn fill(&mut self, p: usize) -> Result<(), AllocError> {
+        self.changes.clear();
+        self.place(p)
+    }
+
+    // A random pairing, more often than not an open one, if there is one.
+    fn next_pairing(&mut self) -> usize {
+        let p = self.random.below(self.tables.pairings());
+        if self.random.below(2) == 0 {
+            return p;
+        }
+        match self.open().first_from(p) {
+            Some(q) => q,
+            None => self.open().first_from(0).unwrap_or(p),
+        }
+    }
+
+    // A random person who can fly the pairing and hasn't got it; past all, if there is none.
+    fn taker(&mut self, p: usize, holder: usize) -> usize {
+        let count = self.tables.persons();
+        let first = self.random.below(count);
+        for step in 0..count {
+            let k = first.wrapping_add(step) % count;
+            if k != holder && self.tables.able(k).has(p) {
+                return k;
+            }
+        }
+        count
+    }
+
+    // Person `k` loses the pairing.
+    fn leave(&mut self, p: usize, k: usize) -> Result<(), AllocError> {
+        let rest = without(&self.set(k), &only(p));
+        self.changes.put(k, rest)
+    }
+
+    // Person `k` gets the pairing, and what they can't fly with it goes to others, if somebody takes it.
+    fn give(&mut self, p: usize, k: usize) -> Result<(), AllocError> {
+        if k >= self.tables.persons() {
+            return Ok(());
+        }
+        let had = self.set(k);
+        let loose = had.and(&self.tables.rivals(p));
+        self.changes
+            .put(k, joined(&without(&had, &loose), &only(p)))?;
+        let mut from = 0;
+        while let Some(q) = loose.first_from(from) {
+            self.place(q)?;
+            from = q + 1;
+        }
+        Ok(())
+    }
+
+    // Gives the pairing, which nobody has, to whom it costs least and less than to leave it open.
+    fn place(&mut self, p: usize) -> Result<(), AllocError> {
+        let rivals = self.tables.rivals(p);
+        let mut least = self.tables.penalty(p);
+        let mut best = None;
+        for k in 0..self.tables.persons() {
+            let had = self.set(k);
+            if !self.tables.able(k).has(p) || had.meets(&rivals) {
+                continue;
+            }
+            let with = joined(&had, &only(p));
+            let extra = self
+                .tables
+                .line(k, &with)
+                .wrapping_sub(self.tables.line(k, &had));
+            if extra < least {
+                least = extra;
+                best = Some((k, with));
+            }
+        }
+        if let Some((k, with)) = best {
+            self.changes.put(k, with)?;
+        }
+        Ok(())
+    }
+
+    // Two persons exchange a pairing, or what begins in some days from it on, and what that hinders.
+    fn exchange(&mut self, p: usize, holder: usize, k: usize) -> Result<(), AllocError> {
+        if k >= self.tables.persons() {
+            return Ok(());
+        }
+        let (first, second) = (self.set(holder), self.set(k));
+        let begin = self.tables.begin(p);
+        let (mut from_first, mut from_second) = (only(p), Set::empty());
+        let days = self.days();
+        if days > 0 {
+            let last = begin.wrapping_add(days.wrapping_mul(DAY));
+            from_first = self.tables.between(&first, begin, last);
+            from_second = self.tables.between(&second, begin, last);
+        }
+        for _ in 0..MOST_ROUNDS {
+            from_second = joined(&from_second, &self.tables.meeting(&second, &from_first));
+            from_first = joined(&from_first, &self.tables.meeting(&first, &from_second));
+        }
+        if !without(&from_first, &self.tables.able(k)).is_empty()
+            || !without(&from_second, &self.tables.able(holder)).is_empty()
+        {
+            return Ok(());
+        }
+        self.changes.put(holder, joined(&without(&first, &from_first), &from_second))?;
+        self.changes
+            .put(k, joined(&without(&second, &from_second), &from_first))
+    }
+
+    // How many days two persons exchange; 0 for a single pairing.
+    fn days(&mut self) -> i64 {
+        match self.random.below(4) {
+            0 | 1 => 0,
+            2 => self.random.below(8) as i64,
+            _ => 100,
+        }
+    }
+}

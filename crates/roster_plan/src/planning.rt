@@ -1,0 +1,177 @@
+//! The plan.
+
+ghost use Rattle.std.specs.Prelude.{◌≡◌, ◌≤◌, ◌⊎◌, All, IfOk, length, true};
+ghost use Rattle.roster_model.specs.Plans.{IsPlan};
+ghost use Rattle.roster_model.specs.Rosters.{IsLegalRoster, key_le, key_of};
+
+use crate::bound::lower_bound;
+use crate::changes::Change;
+use crate::draft::Draft;
+use crate::kept::kept;
+use crate::search::Search;
+use roster_cost::{comes_before, keys_are_in_order, roster_cost};
+use roster_problem::{Places, Problem, Roster, open_number};
+use std::alloc::{AllocError, Global};
+
+/// How many changes are tried at effort 0. Each effort more doubles them.
+const FEWEST_TRIES: u32 = 20_000;
+
+/// The most effort.
+pub(crate) const MOST_EFFORT: u32 = 9;
+
+/// How many changes are looked at to learn what changes cost.
+const SAMPLES: u32 = 500;
+
+/// A legal roster with its cost, and what no roster costs less than, in cost units.
+#[derive(Debug, Drop)]
+pub struct Planned {
+    /// The roster.
+    pub roster: Roster,
+    /// No legal roster costs less.
+    pub bound: i64,
+}
+
+/// A plan that isn't after what is kept of the given places, nor after no pairings at all. Effort, from 0 to
+/// 9, is how much is tried: each one more doubles it. It is the same in each run.
+pub fn plan(
+    alloc: Global,
+    problem: &Problem,
+    given: &[u16],
+    effort: u32,
+) -> Result<Planned, AllocError>
+    requires covers { length given.now ≡ length problem.now.pairings }
+    requires numbers { All (λ x. x ≤ length problem.now.persons) given.now }
+    ensures { IfOk result
+        (λ planned. IsPlan problem.now given.now planned.roster planned.bound) }
+{
+    keys_are_in_order();
+    let bound = lower_bound(alloc, problem)?;
+    let open = vec![in alloc; open_number(problem); problem.pairings().len()]?;
+    let start = kept(alloc, problem, given)?;
+    let found = improved(alloc, problem, &start, effort)?;
+    let known = earlier(costed(problem, start), costed(problem, open));
+    let roster = earlier(costed(problem, found), known);
+    Ok(Planned { roster, bound })
+}
+
+/// The roster with its cost.
+fn costed(problem: &Problem, places: Vec<u16>) -> Roster
+    requires { length places.items ≡ length problem.now.pairings }
+    ensures { result ≡ key_of problem.now places.items }
+{
+    let cost = roster_cost(problem, &places);
+    Roster {
+        places: Places::new(places),
+        cost,
+    }
+}
+
+/// The earlier of two rosters by their keys: the second if they are equal.
+fn earlier(first: Roster, second: Roster) -> Roster
+    ensures from { (result ≡ first) ⊎ (result ≡ second) }
+    ensures first { key_le result first ≡ true }
+    ensures second { key_le result second ≡ true }
+{
+    keys_are_in_order();
+    if comes_before(&first, &second) {
+        first
+    } else {
+        second
+    }
+}
+
+/// A legal roster, found by changes to the one given.
+fn improved(
+    alloc: Global,
+    problem: &Problem,
+    start: &[u16],
+    effort: u32,
+) -> Result<Vec<u16>, AllocError>
+    requires { IsLegalRoster problem.now start.now }
+    ensures { IfOk result (λ found. IsLegalRoster problem.now found.items) }
+{
+    let mut draft = Draft::new(alloc, problem, start)?;
+    let mut search = Search::new(alloc, problem, start)?;
+    fill(&mut draft, &mut search)?;
+    let warmth = usual_extra(&mut search)? / 4;
+    let tries = tries_of(effort);
+    for i in 0..tries {
+        search.change()?;
+        let extra = search.extra();
+        if extra <= allowed(&mut search, warmth, i, tries) {
+            try_changes(&mut draft, &mut search, extra)?;
+        }
+    }
+    draft.best(alloc)
+}
+
+/// Places open pairings one after another, each with whom it costs least.
+fn fill(draft: &mut Draft<'_>, search: &mut Search<'_>) -> Result<(), AllocError>
+    ensures { draft.new ≡ draft.old }
+{
+    for p in 0..search.tables.pairings() {
+        if search.open().has(p) {
+            search.fill(p)?;
+            let extra = search.extra();
+            try_changes(draft, search, extra)?;
+        }
+    }
+    Ok(())
+}
+
+/// Makes the changes if they are legal. Else all is as before.
+fn try_changes(draft: &mut Draft<'_>, search: &mut Search<'_>, extra: i64) -> Result<(), AllocError>
+    ensures { draft.new ≡ draft.old }
+{
+    if search.changes.as_slice().is_empty() {
+        return Ok(());
+    }
+    if !assign_all(draft, search.changes.as_slice())? {
+        draft.go_back();
+        return Ok(());
+    }
+    draft.settle();
+    if search.take(extra) {
+        draft.note();
+    }
+    Ok(())
+}
+
+/// Makes the changes one after another, as far as they are legal. Whether all are.
+fn assign_all(draft: &mut Draft<'_>, changes: &[Change]) -> Result<bool, AllocError>
+    ensures { draft.new ≡ draft.old }
+{
+    for change in changes {
+        if !draft.assign(change.person, &change.set)? {
+            return Ok(false);
+        }
+    }
+    Ok(true)
+}
+
+/// How many changes an effort tries.
+fn tries_of(effort: u32) -> u32 {
+    if effort < MOST_EFFORT {
+        FEWEST_TRIES << effort
+    } else {
+        FEWEST_TRIES << MOST_EFFORT
+    }
+}
+
+/// What a change costs or saves on average.
+fn usual_extra(search: &mut Search<'_>) -> Result<i64, AllocError> {
+    let mut sum: i64 = 0;
+    for _ in 0..SAMPLES {
+        search.change()?;
+        sum = sum.wrapping_add(search.extra().wrapping_abs());
+    }
+    Ok(sum / i64::from(SAMPLES))
+}
+
+/// What a change may cost more: less and less, and sometimes more than at other times.
+fn allowed(search: &mut Search<'_>, warmth: i64, i: u32, tries: u32) -> i64 {
+    let left = i64::from(tries.wrapping_sub(i));
+    let part = left.wrapping_mul(1024) / i64::from(tries).max(1);
+    let cooled = warmth.wrapping_mul(part.wrapping_mul(part).wrapping_mul(part) >> 10) >> 20;
+    cooled.wrapping_mul(search.random.waiting()) >> 16
+}
