@@ -1,0 +1,41 @@
+-- What is answered to a book, where it was answered to its problem.
+use Rattle.std.proofs.Common.{◌≡◌, ℕ, List, Option, Some, None, refl, sym, ◌∙◌, subst, inl, inr, ℤ}
+use Rattle.roster_book.specs.Reading.{IsBookOf, OfTold}
+use Rattle.roster_book.specs.declared.book.Book.{Book}
+use Rattle.roster_model.specs.Answer.{IsFirstFault, IsRefusal, records_of}
+use Rattle.roster_model.specs.Faults.{Fault, first_fault}
+use Rattle.roster_model.specs.Plans.{IsPlan, IsPlanAnswer, IsPlanReport, IsPlanned}
+use Rattle.roster_model.specs.Problem.{Problem}
+use Rattle.roster_model.specs.Record.{Check, Record}
+use Rattle.roster_model.specs.records.Assign.{assigned_in}
+use Rattle.roster_model.specs.Rosters.{Key}
+use Rattle.roster_model.specs.Texts.{IsPlanOf}
+
+text-weaker : (P Q Out : List ℕ → Type 0) → ((text : List ℕ) → P text → Q text) → (text : List ℕ) × P text × Out text → (text : List ℕ) × Q text × Out text
+text-weaker P Q Out more w = (w.0, more w.0 w.1, w.2)
+
+-- a text is written of the records of a book, where one of its problem is
+pub text_of_book : (book : Book) (told : Option (List ℕ)) (P Out : List ℕ → Type 0) (Q : List Record → List ℕ → Type 0) → ((records : List Record) → IsBookOf Check records book → (text : List ℕ) → P text → Q records text) → (text : List ℕ) × P text × Out text → OfTold (λ records. IsBookOf Check records book) told → OfTold (λ records. (text : List ℕ) × Q records text × Out text) told
+text_of_book book None P Out Q more w read = (read.0, text-weaker P (Q read.0) Out (more read.0 read.1) w)
+text_of_book book (Some bytes) P Out Q more w read = text-weaker P (Q (records_of bytes)) Out (more (records_of bytes) read) w
+
+-- records without a fault have none as a check has them
+no_fault : (records : List Record) (fault : Fault) → first_fault Check records ≡ None → IsFirstFault Check records fault → ⊥
+no_fault records fault none (inl is) =
+    let both : Some fault ≡ None = sym is ∙ none in
+    absurd cc
+no_fault records fault none (inr is) = is.later
+
+pub plan_of_book : (records : List Record) (book : Book) → IsBookOf Check records book → (text : List ℕ) → IsPlanReport book.problem book.assigned text → IsPlanned records text
+plan_of_book records book is text p = record {
+  faultless = λ fault first. no_fault records fault is.faultless first;
+  reports = subst (λ tables. IsPlanReport tables (assigned_in records) text) is.problem_is (subst (λ places. IsPlanReport book.problem places text) is.assigned_is p);
+}
+
+pub answer_of_book : (records : List Record) (book : Book) → IsBookOf Check records book → (text : List ℕ) → IsPlanReport book.problem book.assigned text → IsPlanAnswer records text
+answer_of_book records book is text p = inr (plan_of_book records book is text p)
+
+-- the text of a plan, of a roster and a bound that are one
+pub report_of_plan : (problem : Problem) (given : List ℕ) (key : Key) (bound : ℤ) (Out : List ℕ → Type 0) → IsPlan problem given key bound → (text : List ℕ) × IsPlanOf problem bound key.places text × Out text → (text : List ℕ) × IsPlanReport problem given text × Out text
+report_of_plan problem given key bound Out plan w =
+    (w.0, record { key = key; bound = bound; plan = plan; written = w.1 }, w.2)

@@ -1,0 +1,18 @@
+-- How a run ends that answers a book with a plan.
+use Rattle.std.specs.Prelude.{◌≡◌, ℕ, List, Result, Ok, Err}
+use Rattle.roster_model.specs.Texts.{fault_text}
+use Rattle.roster_report.specs.declared.fault.TextFault.{TextFault}
+use Rattle.roster_report.specs.declared.fault.TextFault.TheVariants as faults
+use Rattle.roster_desk_run.specs.declared.status.Status.{Status}
+use Rattle.roster_desk_run.specs.declared.status.Status.TheVariants as statuses
+
+abbrev pub IsFaultLine : ℕ → ℕ → List ℕ → Type 0
+IsFaultLine row code text = text ≡ fault_text (record { row = row; code = code })
+
+-- the exit status of each outcome
+abbrev pub exit_number : Status → ℕ
+exit_number statuses.Answered = 0
+exit_number statuses.Refused = 1
+exit_number statuses.Memory = 3
+exit_number statuses.ReadFailed = 4
+exit_number statuses.WriteFailed = 4
