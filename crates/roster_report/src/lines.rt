@@ -172,11 +172,7 @@ pub(crate) fn push_verdicts(
 }
 
 /// Appends the line of the pairings that are left open.
-fn push_open(
-    out: &mut Vec<u8>,
-    problem: &Problem,
-    places: &[u16],
-) -> Result<(), AllocError>
+fn push_open(out: &mut Vec<u8>, problem: &Problem, places: &[u16]) -> Result<(), AllocError>
     requires { length places.now ≡ length problem.now.pairings }
     ensures { let left_open = set_of (open_number problem.now) places.now in
         OnOk result (out.new.items ≡ out.old.items
