@@ -21,9 +21,9 @@ const LINE_REFUSED: u8 = 2;
 const STANDARD_INPUT: &str = "-";
 
 fn main(rt: HostRuntime) -> ExitCode {
-    let Ok(words) = words(&rt) else {
-        let _ = eprintln!(rt; "error: a word of the command line is not UTF-8");
-        return ExitCode::from(LINE_REFUSED);
+    let words = match words(&rt) {
+        Ok(words) => words,
+        Err(error) => return unread(&rt, &error),
     };
     match read_line(rt.alloc(), words.as_slice()) {
         Ok(line) => plan(&rt, line.book, line.effort),
@@ -37,6 +37,15 @@ fn words<R: env::Env + AllocGlobal>(rt: &R) -> io::Result<Vec<String>> {
     Ok(env::args(rt)?.collect(rt.alloc())?)
 }
 
+/// A word of the command line is no text, or memory ran out on the way.
+fn unread(rt: &HostRuntime, error: &io::Error) -> ExitCode {
+    if error.kind() == io::ErrorKind::OutOfMemory {
+        return ended(rt, Status::Memory);
+    }
+    let _ = eprintln!(rt; "error: a word of the command line is not UTF-8");
+    ExitCode::from(LINE_REFUSED)
+}
+
 /// Plans the book at the path with so much effort.
 fn plan(rt: &HostRuntime, book: &str, effort: u32) -> ExitCode {
     let mut writer = Watched::new(io::writer(rt));
@@ -44,12 +53,21 @@ fn plan(rt: &HostRuntime, book: &str, effort: u32) -> ExitCode {
         let mut reader = Watched::new(rt.reader());
         return ended(rt, run(rt.alloc(), effort, &mut reader, &mut writer));
     }
-    let Ok(file) = File::open(rt, book) else {
-        let _ = eprintln!(rt; "error: {book} can't be opened");
-        return Status::ReadFailed.exit_code();
+    let file = match File::open(rt, book) {
+        Ok(file) => file,
+        Err(error) => return unopened(rt, book, &error),
     };
     let mut reader = Watched::new(file);
     ended(rt, run(rt.alloc(), effort, &mut reader, &mut writer))
+}
+
+/// The book can't be opened, or memory ran out on the way.
+fn unopened(rt: &HostRuntime, book: &str, error: &io::Error) -> ExitCode {
+    if error.kind() == io::ErrorKind::OutOfMemory {
+        return ended(rt, Status::Memory);
+    }
+    let _ = eprintln!(rt; "error: {book} can't be opened");
+    Status::ReadFailed.exit_code()
 }
 
 /// Tells why the words are refused, or what help they ask for.
