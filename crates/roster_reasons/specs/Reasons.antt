@@ -1,0 +1,47 @@
+-- Why a person mustn't have a set.
+use Rattle.std.specs.Prelude.{◌≡◌, ℕ, List, Some}
+use Rattle.roster_model.specs.Problem.{Problem, home_of, year_of, eleven_of}
+use Rattle.roster_model.specs.Rules.{duty_list, Rule, BaseRule, OverlapRule, LeaveRule, RestRule, RecoveryRule, LimitRule, DaysOffRule, IsFirstBroken}
+use Rattle.roster_model.specs.records.Duty.{Duty}
+use Rattle.roster_problem.specs.View.{limit_of}
+use Rattle.roster_reasons.specs.declared.value.Reason.{Reason}
+use Rattle.roster_reasons.specs.declared.value.Reason.TheVariants as reasons
+use Rattle.roster_reasons.specs.Amounts.{IsOver}
+use Rattle.roster_reasons.specs.Base.{IsFirstOffBase}
+use Rattle.roster_reasons.specs.Bounds.{bound_of}
+use Rattle.roster_reasons.specs.DaysOff.{IsFewDaysOff}
+use Rattle.roster_reasons.specs.Leave.{IsFirstDutyInLeave}
+use Rattle.roster_reasons.specs.Overlap.{IsFirstOverlap}
+use Rattle.roster_reasons.specs.Recovery.{IsFirstLongBlock}
+use Rattle.roster_reasons.specs.Rest.{IsFirstShortRest}
+
+-- the rule that the reason speaks of
+abbrev pub rule_told : Reason → Rule
+rule_told (reasons.Base p) = BaseRule
+rule_told (reasons.Overlap shared) = OverlapRule
+rule_told (reasons.Leave told) = LeaveRule
+rule_told (reasons.Rest short) = RestRule
+rule_told (reasons.Recovery block) = RecoveryRule
+rule_told (reasons.Limit limit amount) = LimitRule (limit_of limit)
+rule_told (reasons.DaysOff few) = DaysOffRule
+
+-- What the reason tells is so of person k with the set and the duties of the list.
+abbrev pub TellsOn : Problem → ℕ → List ℕ → List Duty → Reason → Type 0
+TellsOn problem k set list (reasons.Base p) = IsFirstOffBase problem k set p
+TellsOn problem k set list (reasons.Overlap shared) = IsFirstOverlap list shared
+TellsOn problem k set list (reasons.Leave told) = IsFirstDutyInLeave problem k list told
+TellsOn problem k set list (reasons.Rest short) = IsFirstShortRest (home_of problem k) list short
+TellsOn problem k set list (reasons.Recovery block) = IsFirstLongBlock (home_of problem k).days list block
+TellsOn problem k set list (reasons.Limit limit amount) =
+    IsOver (home_of problem k).days list (bound_of (year_of problem k) (eleven_of problem k) (limit_of limit)) amount
+TellsOn problem k set list (reasons.DaysOff few) = IsFewDaysOff (home_of problem k).days list few
+
+-- The reason speaks of the rule, and what it tells is so.
+pub record IsReasonOn (problem : Problem) (k : ℕ) (set : List ℕ) (list : List Duty) (law : Rule) (reason : Reason) : Type 0 where
+  pub rule : rule_told reason ≡ law
+  pub tells : TellsOn problem k set list reason
+
+-- The reason speaks of the first rule that person k breaks with the set, and what it tells is so.
+pub record IsReason (problem : Problem) (k : ℕ) (set : List ℕ) (reason : Reason) : Type 0 where
+  pub first : IsFirstBroken problem k set (Some (rule_told reason))
+  pub tells : TellsOn problem k set (duty_list problem k set) reason
