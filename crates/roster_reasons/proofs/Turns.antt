@@ -1,6 +1,6 @@
 -- Duties of which each ends before the next begins, up to some place.
 use Rattle.std.proofs.Common.{◌≡◌, ℕ, zero, suc, ◌+◌, ◌-◌, ◌<◌, ◌≤◌, List, Some, length, get_or, sym, ◌∙◌, subst, inl, inr, arith}
-use Rattle.std.specs.Prelude.{AllPairs, slice_get, min, max}
+use Rattle.std.specs.Prelude.{slice_get, min, max}
 use Rattle.std.proofs.lemmas.Bool.{cases_eq}
 use Rattle.std.proofs.lemmas.Option.{get_or_from_slice_get, same_Some, slice_get-get_or, slice_get_within}
 use Rattle.roster_model.proofs.OrderLemmas.{reports-later}

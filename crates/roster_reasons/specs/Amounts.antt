@@ -1,5 +1,5 @@
 -- What breaks a limit, and how much of it is used.
-use Rattle.std.specs.Prelude.{◌≡◌, ℕ, ◌+◌, ◌<◌, List}
+use Rattle.std.specs.Prelude.{◌≡◌, ℕ, ◌+◌, ◌-◌, ◌<◌, List}
 use Rattle.roster_model.specs.Calendar.{Days}
 use Rattle.roster_model.specs.records.Duty.{Duty}
 use Rattle.roster_model.specs.Sums.{month_flight}
@@ -35,3 +35,8 @@ IsUse days list (bounds.Run measure n most) (amounts.Run run) = IsGreatestRun (m
 IsUse days list (bounds.Run measure n most) (amounts.Month month) = ⊥
 IsUse days list (bounds.Month carried most) (amounts.Run run) = ⊥
 IsUse days list (bounds.Month carried most) (amounts.Month month) = IsMonthFlight days list carried most month
+
+-- the minutes that it leaves of the limit
+abbrev pub left_of : Amount → ℕ
+left_of (amounts.Run run) = run.most - run.minutes
+left_of (amounts.Month month) = month.most - (month.carried + month.flown)

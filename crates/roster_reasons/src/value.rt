@@ -3,7 +3,12 @@
 //! A duty is named by its place on the duty list of the person with the set, from 0, and a day by its
 //! number in the window of the home base, from 0: the month begins with day `DAYS_BEFORE`.
 
-use roster_problem::Limit;
+ghost use Rattle.std.specs.Prelude.{◌≡◌};
+ghost use Rattle.roster_problem.specs.View.{rule_of};
+ghost use Rattle.roster_reasons.specs.Amounts.{left_of};
+ghost use Rattle.roster_reasons.specs.Reasons.{rule_told};
+
+use roster_problem::{Limit, Rule};
 
 /// Two duties that follow one another on the list and share minutes.
 #[derive(Clone, Copy, Debug, PartialEq, Eq)]
@@ -80,6 +85,21 @@ pub enum Amount {
     Month(MonthFlight),
 }
 
+impl Amount {
+    /// The minutes that are left of the limit, from 0.
+    pub fn left(self) -> u64
+        ensures { result ≡ left_of self }
+    {
+        match self {
+            Amount::Run(run) => run.most.saturating_sub(run.minutes),
+            Amount::Month(month) => month
+                .most
+                .saturating_sub(month.carried)
+                .saturating_sub(month.flown),
+        }
+    }
+}
+
 /// Fewer days off in a row than twice two.
 #[derive(Clone, Copy, Debug, PartialEq, Eq)]
 pub enum FewDaysOff {
@@ -108,4 +128,21 @@ pub enum Reason {
     Limit(Limit, Amount),
     /// Too few days off.
     DaysOff(FewDaysOff),
+}
+
+impl Reason {
+    /// The rule that it breaks.
+    pub fn rule(self) -> Rule
+        ensures { rule_of result ≡ rule_told self }
+    {
+        match self {
+            Reason::Base(_) => Rule::Base,
+            Reason::Overlap(_) => Rule::Overlap,
+            Reason::Leave(_) => Rule::Leave,
+            Reason::Rest(_) => Rule::Rest,
+            Reason::Recovery(_) => Rule::Recovery,
+            Reason::Limit(limit, _) => limit.rule(),
+            Reason::DaysOff(_) => Rule::Days2,
+        }
+    }
 }

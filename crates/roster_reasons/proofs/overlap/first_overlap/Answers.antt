@@ -1,5 +1,4 @@
-use Rattle.std.proofs.Common.{◌≡◌, ◌+◌, ◌-◌, Some, subst, sym, arith}
-use Rattle.std.specs.Prelude.{slice_get}
+use Rattle.std.proofs.Common.{arith}
 use Rattle.roster_reasons.proofs.Turns.{no_overlap_to, nothing_shared_past, nothing_shared_to, turn-more}
 use Rattle.roster_reasons.proofs.overlap.first_overlap.Goals as goal
 
