@@ -1,0 +1,22 @@
+//! What the desk tells of a roster in sentences: why a person mustn't have a pairing, or what it would cost,
+//! and how near to each limit a person is.
+//!
+//! The numbers are those of `roster_reasons`, which are proved; the words are only tested. Times are hours and
+//! minutes, and days are local days of the home base. In reading order:
+//!
+//! - `words`: times, days and names
+//! - `sentences`: a reason in words
+//! - `asked`: which pairings and persons are asked for
+//! - `why`: who could have a pairing, and why others mustn't
+//! - `limits`: how near to each limit each person is
+#![tactic(auto)]
+
+mod asked;
+mod limits;
+mod sentences;
+mod why;
+mod words;
+
+pub use asked::{Asked, Unknown, find};
+pub use limits::limits_text;
+pub use why::why_text;

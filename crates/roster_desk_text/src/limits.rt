@@ -1,0 +1,107 @@
+//! How near to each limit each person is.
+
+ghost use Rattle.std.specs.Prelude.{◌≡◌, ◌<◌, length};
+
+use crate::sentences::counted;
+use crate::why::set_of;
+use crate::words::{day, push_all, time};
+use roster_instants::BaseDays;
+use roster_legal::merge;
+use roster_problem::{DutyList, Limit, Problem};
+use roster_reasons::{Amount, standing};
+use std::alloc::{AllocError, Global};
+
+/// Appends how much is used of the limit.
+fn push_use(
+    alloc: Global,
+    out: &mut Vec<u8>,
+    problem: &Problem,
+    days: &BaseDays,
+    limit: Limit,
+    amount: Amount,
+) -> Result<(), AllocError> {
+    match amount {
+        Amount::Run(run) => {
+            let minutes = time(alloc, run.minutes)?;
+            let most = time(alloc, run.most)?;
+            let to = day(alloc, problem.period(), days.month_days(), run.last)?;
+            out.extend_from_slice(minutes.as_bytes())?;
+            out.extend_from_slice(counted(limit))?;
+            push_all(out, &[to.as_bytes(), b" of ", most.as_bytes()])
+        }
+        Amount::Month(month) => {
+            let flown = time(alloc, month.flown)?;
+            let carried = time(alloc, month.carried)?;
+            let most = time(alloc, month.most)?;
+            push_all(
+                out,
+                &[
+                    flown.as_bytes(),
+                    b" of flight in the month and ",
+                    carried.as_bytes(),
+                    b" before it of ",
+                    most.as_bytes(),
+                ],
+            )
+        }
+    }
+}
+
+/// Appends the line of a limit: how much of it the person uses, and what is left.
+fn push_limit(
+    alloc: Global,
+    out: &mut Vec<u8>,
+    problem: &Problem,
+    k: usize,
+    list: &DutyList,
+    limit: Limit,
+) -> Result<(), AllocError>
+    requires { k < length problem.now.persons }
+{
+    let person = problem.person(k).id.as_bytes();
+    let amount = standing(problem, k, list, limit);
+    let left = time(alloc, amount.left())?;
+    push_all(out, &[person, b" "])?;
+    out.extend_from_slice(limit.rule().word().as_bytes())?;
+    out.extend_from_slice(b": ")?;
+    push_use(alloc, out, problem, problem.days_of(k), limit, amount)?;
+    push_all(out, &[b", ", left.as_bytes(), b" left\n"])
+}
+
+/// Appends the lines of person `k`, one for each limit.
+fn push_person(
+    alloc: Global,
+    out: &mut Vec<u8>,
+    problem: &Problem,
+    places: &[u16],
+    k: usize,
+) -> Result<(), AllocError>
+    requires covers { length places.now ≡ length problem.now.pairings }
+    requires person { k < length problem.now.persons }
+{
+    let set = set_of(problem, places, k);
+    let list = merge(alloc, problem, k, &set)?;
+    for limit in Limit::ALL {
+        push_limit(alloc, out, problem, k, &list, limit)?;
+    }
+    Ok(())
+}
+
+/// For each person, or the one that is named by a place, a line for each limit: how much of it is used with
+/// the roster, and what is left. The places are the roster, which needn't be legal.
+pub fn limits_text(
+    alloc: Global,
+    problem: &Problem,
+    places: &[u16],
+    person: Option<usize>,
+) -> Result<Vec<u8>, AllocError>
+    requires { length places.now ≡ length problem.now.pairings }
+{
+    let mut out = Vec::new(alloc);
+    for k in 0..problem.persons().len() {
+        if person.is_none_or(|asked| asked == k) {
+            push_person(alloc, &mut out, problem, places, k)?;
+        }
+    }
+    Ok(out)
+}

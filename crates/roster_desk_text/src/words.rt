@@ -1,0 +1,62 @@
+//! Times, days and names.
+
+use roster_instants::Period;
+use roster_model::limits::DAYS_BEFORE;
+use roster_problem::{DutyList, Problem};
+use std::alloc::{AllocError, Global};
+
+/// Appends the parts one behind another.
+pub(crate) fn push_all(out: &mut Vec<u8>, parts: &[&[u8]]) -> Result<(), AllocError> {
+    for part in parts {
+        out.extend_from_slice(part)?;
+    }
+    Ok(())
+}
+
+/// Minutes as hours and minutes, as in `12:59`.
+pub(crate) fn time(alloc: Global, minutes: u64) -> Result<String, AllocError> {
+    let hours = minutes / 60;
+    let (tens, ones) = (minutes % 60 / 10, minutes % 10);
+    format!(in alloc; "{hours}:{tens}{ones}")
+}
+
+/// A date as in `2024-03-09`.
+fn date(alloc: Global, year: i16, month: u8, day: usize) -> Result<String, AllocError> {
+    let (month_tens, month_ones) = (month / 10, month % 10);
+    let (tens, ones) = (day / 10, day % 10);
+    format!(in alloc; "{year}-{month_tens}{month_ones}-{tens}{ones}")
+}
+
+/// The date of a day of the window that is of the month, which has so many days, or of the next one.
+pub(crate) fn day(
+    alloc: Global,
+    period: Period,
+    month_days: usize,
+    day: usize,
+) -> Result<String, AllocError> {
+    let (year, month) = (period.year(), period.month() as u8);
+    let number = day.saturating_sub(DAYS_BEFORE).saturating_add(1);
+    if number <= month_days {
+        return date(alloc, year, month, number);
+    }
+    if month < 12 {
+        return date(alloc, year, month + 1, number - month_days);
+    }
+    date(alloc, year + 1, 1, number - month_days)
+}
+
+/// The name of the duty at a place of the list; `-` if it has none there.
+pub(crate) fn duty_name<'a>(list: &'a DutyList<'a>, i: usize) -> &'a [u8] {
+    if i >= list.len() {
+        return b"-";
+    }
+    list.duty(i).id.as_bytes()
+}
+
+/// The name of the pairing at a place of the book; `-` if it has none there.
+pub(crate) fn pairing_name(problem: &Problem, p: usize) -> &[u8] {
+    if p >= problem.pairings().len() {
+        return b"-";
+    }
+    problem.pairing(p).id.as_bytes()
+}
