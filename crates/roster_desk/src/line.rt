@@ -7,13 +7,44 @@ use std::alloc::{AllocError, Global};
 /// How much is tried if nothing is said of it.
 const USUAL_EFFORT: u32 = 5;
 
-/// What the words ask for: a plan of a book.
+/// What the words ask for.
 #[derive(Debug, Drop)]
-pub(crate) struct Line<'a> {
+pub(crate) enum Line<'a> {
+    /// A plan of a book.
+    Plan(PlanLine<'a>),
+    /// Why persons of a book mustn't have pairings.
+    Why(WhyLine<'a>),
+    /// How near to each limit persons of a book are.
+    Limits(LimitsLine<'a>),
+}
+
+/// A plan of a book.
+#[derive(Debug, Drop)]
+pub(crate) struct PlanLine<'a> {
     /// The path of the book, or `-`.
     pub(crate) book: &'a str,
     /// How much is to be tried, from 0 to 9.
     pub(crate) effort: u32,
+}
+
+/// Why persons of a book mustn't have pairings.
+#[derive(Debug, Drop)]
+pub(crate) struct WhyLine<'a> {
+    /// The path of the book, or `-`.
+    pub(crate) book: &'a str,
+    /// The name of the pairing, if one is named.
+    pub(crate) pairing: Option<&'a str>,
+    /// The name of the person, if one is named.
+    pub(crate) person: Option<&'a str>,
+}
+
+/// How near to each limit persons of a book are.
+#[derive(Debug, Drop)]
+pub(crate) struct LimitsLine<'a> {
+    /// The path of the book, or `-`.
+    pub(crate) book: &'a str,
+    /// The name of the person, if one is named.
+    pub(crate) person: Option<&'a str>,
 }
 
 /// Why the words ask for nothing.
@@ -31,12 +62,24 @@ impl From<AllocError> for LineFault {
     }
 }
 
-/// `plan`, with its book and its effort.
-fn plan<'a>(alloc: Global) -> Result<Command<'a>, AllocError> {
-    let book = Arg::new(alloc, "book")
+/// The book, which each command has.
+fn book<'a>(alloc: Global) -> Arg<'a> {
+    Arg::new(alloc, "book")
         .value_name("BOOK")
         .required(true)
-        .help("The book's path, or - for standard input");
+        .help("The book's path, or - for standard input")
+}
+
+/// The person, of whom alone lines are wanted.
+fn person<'a>(alloc: Global) -> Arg<'a> {
+    Arg::new(alloc, "person")
+        .long("person")
+        .value_name("PERSON")
+        .help("Only this person")
+}
+
+/// `plan`, with its book and its effort.
+fn plan<'a>(alloc: Global) -> Result<Command<'a>, AllocError> {
     let effort = Arg::new(alloc, "effort")
         .long("effort")
         .value_name("N")
@@ -45,17 +88,42 @@ fn plan<'a>(alloc: Global) -> Result<Command<'a>, AllocError> {
         .help("How much is tried, from 0 to 9: each one more doubles it");
     Command::new(alloc, "plan")
         .about("Writes a legal roster of the book, however large it is, and a bound of its cost")
-        .arg(book)?
+        .arg(book(alloc))?
         .arg(effort)
+}
+
+/// `why`, with its book, and what it may be asked of.
+fn why<'a>(alloc: Global) -> Result<Command<'a>, AllocError> {
+    let pairing = Arg::new(alloc, "pairing")
+        .long("pairing")
+        .value_name("PAIRING")
+        .help("Only this pairing, open or not");
+    Command::new(alloc, "why")
+        .about("Tells of each open pairing who could have it at what cost, and why others mustn't")
+        .arg(book(alloc))?
+        .arg(pairing)?
+        .arg(person(alloc))
+}
+
+/// `limits`, with its book, and whom it may be asked of.
+fn limits<'a>(alloc: Global) -> Result<Command<'a>, AllocError> {
+    Command::new(alloc, "limits")
+        .about("Tells how much of each limit each person uses, and what is left")
+        .arg(book(alloc))?
+        .arg(person(alloc))
 }
 
 /// The program's command line.
 fn desk<'a>(alloc: Global) -> Result<Command<'a>, AllocError> {
     let plan = plan(alloc)?;
+    let why = why(alloc)?;
+    let limits = limits(alloc)?;
     Command::new(alloc, "roster-desk")
         .about("Helps a planner with the books of roster")
         .subcommand_required(true)
-        .subcommand(plan)
+        .subcommand(plan)?
+        .subcommand(why)?
+        .subcommand(limits)
 }
 
 /// What the words ask for. The first word is the program's name.
@@ -65,7 +133,7 @@ pub(crate) fn read_line<'a>(alloc: Global, words: &'a [String]) -> Result<Line<'
         Ok(matches) => matches,
         Err(error) => return Err(refusal(error)),
     };
-    match planned(&matches) {
+    match asked(&matches) {
         Some(line) => Ok(line),
         None => Err(LineFault::Refused(command.error(
             ErrorKind::InvalidSubcommand,
@@ -74,12 +142,45 @@ pub(crate) fn read_line<'a>(alloc: Global, words: &'a [String]) -> Result<Line<'
     }
 }
 
+/// The command in the matches.
+fn asked<'a>(matches: &ArgMatches<'a>) -> Option<Line<'a>> {
+    if let Some(line) = planned(matches) {
+        return Some(Line::Plan(line));
+    }
+    if let Some(line) = why_asked(matches) {
+        return Some(Line::Why(line));
+    }
+    let line = limits_asked(matches)?;
+    Some(Line::Limits(line))
+}
+
 /// The book and the effort in the matches.
-fn planned<'a>(matches: &ArgMatches<'a>) -> Option<Line<'a>> {
+fn planned<'a>(matches: &ArgMatches<'a>) -> Option<PlanLine<'a>> {
     let found = matches.subcommand_matches("plan")?;
     let book = found.get_str("book")?;
     let effort = found.get_one::<u32>("effort").unwrap_or(USUAL_EFFORT);
-    Some(Line { book, effort })
+    Some(PlanLine { book, effort })
+}
+
+/// The book in the matches, and what is named, if `why` is asked.
+fn why_asked<'a>(matches: &ArgMatches<'a>) -> Option<WhyLine<'a>> {
+    let found = matches.subcommand_matches("why")?;
+    let book = found.get_str("book")?;
+    let pairing = found.get_str("pairing");
+    let person = found.get_str("person");
+    Some(WhyLine {
+        book,
+        pairing,
+        person,
+    })
+}
+
+/// The book in the matches, and who is named, if `limits` is asked.
+fn limits_asked<'a>(matches: &ArgMatches<'a>) -> Option<LimitsLine<'a>> {
+    let found = matches.subcommand_matches("limits")?;
+    let book = found.get_str("book")?;
+    let person = found.get_str("person");
+    Some(LimitsLine { book, person })
 }
 
 /// clap's want of memory by its own name.

@@ -1,8 +1,8 @@
 //! What the desk tells of a roster in sentences: why a person mustn't have a pairing, or what it would cost,
 //! and how near to each limit a person is.
 //!
-//! The numbers are those of `roster_reasons`, which are proved; the words are only tested. Times are hours and
-//! minutes, and days are local days of the home base. In reading order:
+//! The numbers are those of `roster_reasons`, which are proved; the words are only tested. Times are hours
+//! and minutes, and days are local days of the home base. In reading order:
 //!
 //! - `words`: times, days and names
 //! - `sentences`: a reason in words
