@@ -43,7 +43,8 @@ impl<'a> Rows<'a> {
         requires near { All (λ entry. IsWithin most_extra (extra_in lines.now entry)) lines.now }
         ensures lines { lines_in result ≡ picked marks.now (map (allowed_in scale lines.now) lines.now) }
         ensures others { (others : List Bool) → length others ≡ length result
-            → lines_in (remarked others result) ≡ picked others (map (allowed_in scale lines.now) lines.now) }
+            → lines_in (remarked others result)
+            ≡ picked others (map (allowed_in scale lines.now) lines.now) }
         ensures live { marks.now ≡ [] → AreAllLive result }
     {
         let _some = lines.width();
