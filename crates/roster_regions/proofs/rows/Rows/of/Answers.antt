@@ -1,7 +1,7 @@
 use Rattle.std.proofs.Common.{w64, to_z, of_z, sym, ap, ◌∙◌}
 use Rattle.std.specs.Prelude.{Some}
 use Rattle.std.proofs.lemmas.Int.{to_z-of_z}
-use Rattle.roster_regions.specs.Marks.{picked, remarked}
+use Rattle.roster_regions.specs.Marks.{picked}
 use Rattle.roster_regions.specs.Rows.{choices_of}
 use Rattle.roster_regions.specs.Trees.{lines_in}
 use Rattle.roster_regions.proofs.MarkLemmas.{length-remarked, lines_in-remarked, live-unmarked, remarked-again}

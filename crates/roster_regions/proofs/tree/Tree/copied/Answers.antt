@@ -1,5 +1,4 @@
 use Rattle.std.proofs.Common.{true, take, ap, refl, sym, ◌∙◌, arith}
-use Rattle.std.specs.Prelude.{filter}
 use Rattle.std.proofs.lemmas.List.{take_all}
 use Rattle.roster_regions.specs.Trees.{lines_after, lines_in, next_path, path_after}
 use Rattle.roster_regions.proofs.MarkLemmas.{filter-all}
