@@ -5,11 +5,12 @@ ghost use Rattle.roster_regions.specs.Regions.{IsRegion};
 
 use crate::dual_prices::DualPrices;
 use crate::near::NearLines;
-use crate::person_lines::PersonLines;
+use crate::person_lines::{ChoiceList, PersonLines};
 use crate::picking::lines_within;
 use crate::powers::halved;
 use crate::reading::number_at;
 use crate::scope::Scope;
+use crate::tuning::{FEW_NEAR_LINES, MOST_CUTS, NEAR_PART};
 use roster_problem::Problem;
 use roster_regions::{Choice, Region};
 use std::alloc::{AllocError, Global};
@@ -115,7 +116,8 @@ impl Look {
         let least = self.add(&all, scope, prices.prices(), prices.softness())?;
         self.bound = self.bound.wrapping_add(least);
         if let Some(reach) = reach {
-            let most = least.saturating_add(reach);
+            let few = self.values.len() / NEAR_PART + FEW_NEAR_LINES;
+            let most = most_of_few(&self.values, least, reach, few);
             let choices = lines_within(alloc, &all, &self.values, most)?;
             self.lists.push(List { k, choices })?;
         }
@@ -195,6 +197,20 @@ impl Look {
         prices: &[i64],
         softness: u32,
     ) -> Result<i64, AllocError> {
+        match choices.rows() {
+            Some(rows) => self.add_list(rows, scope, prices, softness),
+            None => self.add_list(&choices.written(), scope, prices, softness),
+        }
+    }
+
+    // Adds what the lines of a list hold.
+    fn add_list<L: ChoiceList>(
+        &mut self,
+        choices: &L,
+        scope: &Scope,
+        prices: &[i64],
+        softness: u32,
+    ) -> Result<i64, AllocError> {
         let least = self.read(choices, prices)?;
         let total = self.weigh(choices, least, softness);
         self.share(total, scope.pairings());
@@ -202,11 +218,11 @@ impl Look {
     }
 
     // Reads the value of each choice, and gives the least of a line.
-    fn read(&mut self, choices: &PersonLines<'_>, prices: &[i64]) -> Result<i64, AllocError> {
+    fn read<L: ChoiceList>(&mut self, choices: &L, prices: &[i64]) -> Result<i64, AllocError> {
         self.values.clear();
         let mut least = i64::MAX;
-        for i in 0..choices.len() {
-            let choice = choices.at(i);
+        for i in 0..choices.count() {
+            let choice = choices.choice(i);
             let value = self.value(&choice, prices);
             self.values.push(value)?;
             if choice.live && value < least {
@@ -230,12 +246,12 @@ impl Look {
     }
 
     // Weighs the choices from the last to the first, and gives the weight of all lines.
-    fn weigh(&mut self, choices: &PersonLines<'_>, least: i64, softness: u32) -> u64 {
+    fn weigh<L: ChoiceList>(&mut self, choices: &L, least: i64, softness: u32) -> u64 {
         let mut total: u64 = 0;
-        let count = choices.len();
+        let count = choices.count();
         for back in 0..count {
             let i = count - 1 - back;
-            let choice = choices.at(i);
+            let choice = choices.choice(i);
             let weight = if choice.live {
                 let value = number_at(&self.values, i);
                 halved(value.wrapping_sub(least).unsigned_abs(), softness)
@@ -281,4 +297,25 @@ impl Look {
             self.weights[1] = 0;
         }
     }
+}
+
+/// The most that a value may be to be within this reach of the least, or within a shorter one if too many are.
+fn most_of_few(values: &[i64], least: i64, reach: i64, few: usize) -> i64 {
+    let mut reach = reach;
+    for _ in 0..MOST_CUTS {
+        if count_within(values, least.saturating_add(reach)) <= few {
+            return least.saturating_add(reach);
+        }
+        reach /= 4;
+    }
+    least.saturating_sub(1)
+}
+
+/// How many of the values are at most so much.
+fn count_within(values: &[i64], most: i64) -> usize {
+    let mut count: usize = 0;
+    for value in values {
+        count = count.wrapping_add(usize::from(*value <= most));
+    }
+    count
 }

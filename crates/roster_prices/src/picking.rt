@@ -1,6 +1,6 @@
 //! Some of a person's lines, as a tree of their own.
 
-use crate::person_lines::PersonLines;
+use crate::person_lines::{ChoiceList, PersonLines};
 use roster_regions::Choice;
 use std::alloc::{AllocError, Global};
 
@@ -63,9 +63,22 @@ pub(crate) fn lines_within(
     values: &[i64],
     most: i64,
 ) -> Result<Vec<Choice>, AllocError> {
+    match choices.rows() {
+        Some(rows) => list_within(alloc, rows, values, most),
+        None => list_within(alloc, &choices.written(), values, most),
+    }
+}
+
+/// `lines_within`, of a list.
+fn list_within<L: ChoiceList>(
+    alloc: Global,
+    choices: &L,
+    values: &[i64],
+    most: i64,
+) -> Result<Vec<Choice>, AllocError> {
     let mut picker = Picker::new(alloc);
-    for i in 0..choices.len() {
-        let choice = choices.at(i);
+    for i in 0..choices.count() {
+        let choice = choices.choice(i);
         picker.pass(&choice)?;
         if choice.live && i < values.len() && values[i] <= most {
             picker.pick(&choice)?;
@@ -80,9 +93,21 @@ pub(crate) fn sample(
     choices: &PersonLines<'_>,
     of: usize,
 ) -> Result<Vec<Choice>, AllocError> {
+    match choices.rows() {
+        Some(rows) => sample_of(alloc, rows, of),
+        None => sample_of(alloc, &choices.written(), of),
+    }
+}
+
+/// `sample`, of a list.
+fn sample_of<L: ChoiceList>(
+    alloc: Global,
+    choices: &L,
+    of: usize,
+) -> Result<Vec<Choice>, AllocError> {
     let mut picker = Picker::new(alloc);
-    for i in 0..choices.len() {
-        let choice = choices.at(i);
+    for i in 0..choices.count() {
+        let choice = choices.choice(i);
         picker.pass(&choice)?;
         if choice.live && is_drawn(i, of) {
             picker.pick(&choice)?;

@@ -5,7 +5,7 @@ ghost use Rattle.roster_regions.specs.Regions.{IsRegion};
 
 use crate::dual_prices::scaled_penalty;
 use crate::near::NearLines;
-use crate::person_lines::PersonLines;
+use crate::person_lines::{ChoiceList, PersonLines};
 use crate::reading::number_at;
 use crate::tuning::MOST_CHOOSING;
 use roster_problem::{Problem, open_number};
@@ -263,12 +263,26 @@ impl Draft {
         k: usize,
         places: &[u16],
     ) -> Option<usize> {
+        match choices.rows() {
+            Some(rows) => self.best_in(rows, prices, k, places),
+            None => self.best_in(&choices.written(), prices, k, places),
+        }
+    }
+
+    // The choice of least value in a list.
+    fn best_in<L: ChoiceList>(
+        &mut self,
+        choices: &L,
+        prices: &[i64],
+        k: usize,
+        places: &[u16],
+    ) -> Option<usize> {
         let mut best = None;
         let mut least = i64::MAX;
         // Choices deeper than this go on from one whose pairing somebody else has.
         let mut free = usize::MAX;
-        for i in 0..choices.len() {
-            let choice = choices.at(i);
+        for i in 0..choices.count() {
+            let choice = choices.choice(i);
             let depth = usize::from(choice.depth);
             if depth > free {
                 continue;

@@ -40,6 +40,17 @@ pub(crate) const SAMPLE_STEPS: u32 = 24;
 /// half as many lines more are looked at.
 pub(crate) const NEAR_HALVINGS: i64 = 12;
 
+/// No more than one in so many of a person's lines count as near, but for `FEW_NEAR_LINES`: the reach is cut to
+/// a quarter until it is so, `MOST_CUTS` times at most, and then all lines count. Without that 128 crew of one base with
+/// 196,527 lines each took 260 MB for lists.
+pub(crate) const NEAR_PART: usize = 12;
+
+/// See `NEAR_PART`.
+pub(crate) const FEW_NEAR_LINES: usize = 4_096;
+
+/// See `NEAR_PART`.
+pub(crate) const MOST_CUTS: usize = 8;
+
 /// So many looks at near lines come before the next one at all, at first and at most: twice as many as
 /// before if no other line had become the least, else half as many.
 pub(crate) const LEAST_NEAR_LOOKS: u32 = 8;

@@ -1,4 +1,5 @@
 pub mod TreeLemmas
+pub mod MarkLemmas
 pub mod RowLemmas
 pub mod StepLemmas
 pub mod SumLemmas

@@ -19,6 +19,7 @@ use Rattle.roster_regions.specs.Building.{allowed_in, extra_in, AreCounted}
 use Rattle.roster_regions.specs.Regions.{AllowedLine, allowed}
 use Rattle.roster_regions.specs.Rows.{choice_of, choices_of, AreReadable}
 use Rattle.roster_regions.specs.Trees.{has_last, lines_after, lines_in, next_path, path_after, ArePossible, IsLimited}
+use Rattle.roster_regions.proofs.MarkLemmas.{limited-remarked}
 use Rattle.roster_regions.proofs.TreeLemmas.{lines_at-live, next_path-deep, next_path-root, or_false, path_at, possible_more}
 
 -- ---- what rows are
@@ -63,14 +64,14 @@ limited-rows scale empty (row ∷ rows) limits counted =
     (record { depth = here.depth; last = here.last; extra = All-head P row rows counted })
     (limited-rows scale empty rows (All-tail IsWithinLimits row rows limits) (All-tail P row rows counted))
 
-pub readable-rows : (scale : ℕ) (empty : ℤ) (rows : List Row) (entries : List Entry) → entries_after [] rows ≡ entries → slice_get (costs_of entries) 0 ≡ Some empty → All IsWithinLimits rows → AreCounted scale entries → All (λ entry. IsWithin most_extra (extra_in entries entry)) entries → AreReadable scale empty rows
-readable-rows scale empty rows entries read first limits counted near =
+pub readable-rows : (scale : ℕ) (empty : ℤ) (marks : List Bool) (rows : List Row) (entries : List Entry) → entries_after [] rows ≡ entries → slice_get (costs_of entries) 0 ≡ Some empty → All IsWithinLimits rows → AreCounted scale entries → All (λ entry. IsWithin most_extra (extra_in entries entry)) entries → AreReadable scale empty marks rows
+readable-rows scale empty marks rows entries read first limits counted near =
     let is = get_or_from_slice_get (costs_of entries) 0 empty (pos 0) first in
     let near' : All (λ entry. IsWithin most_extra (entry.cost -ℤ empty)) entries = subst (λ z. All (λ (entry : Entry). IsWithin most_extra (entry.cost -ℤ z)) entries) is near in
     let counted' : All (λ entry. IsWithin MOST_EXTRA (pos scale *ℤ (entry.cost -ℤ empty))) entries = subst (λ z. All (λ (entry : Entry). IsWithin MOST_EXTRA (pos scale *ℤ (entry.cost -ℤ z))) entries) is counted in
     record {
       near = All-rows (λ z. IsWithin most_extra (z -ℤ empty)) [] rows (subst (All (λ (entry : Entry). IsWithin most_extra (entry.cost -ℤ empty))) (sym read) near');
-      limited = limited-rows scale empty rows limits (All-rows (λ z. IsWithin MOST_EXTRA (pos scale *ℤ (z -ℤ empty))) [] rows (subst (All (λ (entry : Entry). IsWithin MOST_EXTRA (pos scale *ℤ (entry.cost -ℤ empty)))) (sym read) counted'));
+      limited = limited-remarked marks (choices_of scale empty rows) (limited-rows scale empty rows limits (All-rows (λ z. IsWithin MOST_EXTRA (pos scale *ℤ (z -ℤ empty))) [] rows (subst (All (λ (entry : Entry). IsWithin MOST_EXTRA (pos scale *ℤ (entry.cost -ℤ empty)))) (sym read) counted')));
     }
 
 -- ---- the pairings that some of the lines have

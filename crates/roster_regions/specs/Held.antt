@@ -2,11 +2,12 @@
 use Rattle.std.specs.Prelude.{◌≡◌, ℕ, List, length, All}
 use Rattle.roster_regions.specs.declared.tree.Held.{Held}
 use Rattle.roster_regions.specs.declared.tree.Held.TheVariants.{Table, Own}
+use Rattle.roster_regions.specs.Marks.{picked}
 use Rattle.roster_regions.specs.Regions.{AllowedLine}
 use Rattle.roster_regions.specs.Trees.{lines_in, ArePossible, AreCertain, IsLimited}
 
 abbrev pub lines_held : Held → List AllowedLine
-lines_held (Table lines) = lines
+lines_held (Table lines) = picked lines.marks lines.all
 lines_held (Own choices) = lines_in choices.items
 
 -- no number of a choice is beyond its limit; those of the table's rows are none

@@ -1,5 +1,6 @@
 pub mod Regions
 pub mod Trees
+pub mod Marks
 pub mod Rows
 pub mod Sources
 pub mod Held

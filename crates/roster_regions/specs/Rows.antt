@@ -1,8 +1,9 @@
 -- The rows of a person's lines in the table, as choices of a region.
-use Rattle.std.specs.Prelude.{ℕ, List, true, map, ℤ, pos, ◌-ℤ◌, ◌*ℤ◌, All}
+use Rattle.std.specs.Prelude.{ℕ, Bool, List, true, map, ℤ, pos, ◌-ℤ◌, ◌*ℤ◌, All}
 use Rattle.roster_cost.specs.Amounts.{IsWithin, most_extra}
 use Rattle.roster_lines.specs.declared.lines.Row.{Row}
 use Rattle.roster_regions.specs.declared.choice.Choice.{Choice}
+use Rattle.roster_regions.specs.Marks.{remarked}
 use Rattle.roster_regions.specs.Trees.{IsLimited}
 
 -- what a row costs more than the empty line, at so many parts a cost unit, and all that it has
@@ -12,7 +13,7 @@ choice_of scale empty row = record { extra = pos scale *ℤ (row.cost -ℤ empty
 abbrev pub choices_of : ℕ → ℤ → List Row → List Choice
 choices_of scale empty rows = map (choice_of scale empty) rows
 
--- no number is beyond its limit while rows are read so
-pub record AreReadable (scale : ℕ) (empty : ℤ) (rows : List Row) : Type 0 where
+-- no number is beyond its limit while rows are read so, with these marks
+pub record AreReadable (scale : ℕ) (empty : ℤ) (marks : List Bool) (rows : List Row) : Type 0 where
   pub near : All (λ row. IsWithin most_extra (row.cost -ℤ empty)) rows
-  pub limited : All IsLimited (choices_of scale empty rows)
+  pub limited : All IsLimited (remarked marks (choices_of scale empty rows))

@@ -197,7 +197,7 @@ fn tree_of(
 {
     if range.0 == 0 && table.width(k) <= range.1 {
         let lines = table.shared(k)?;
-        return Ok(Tree::whole(lines, scale));
+        return Ok(Tree::whole(alloc, lines, scale));
     }
     copy_of(alloc, table.lines(k), range, scale)
 }

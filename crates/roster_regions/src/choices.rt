@@ -1,6 +1,6 @@
 //! The choices of a tree of lines, wherever they stand.
 
-ghost use Rattle.std.specs.Prelude.{◌≡◌, ◌<◌, All, Some, length, slice_get};
+ghost use Rattle.std.specs.Prelude.{◌≡◌, ◌<◌, All, IfSome, Some, length, slice_get};
 ghost use Rattle.roster_regions.specs.Trees.{IsLimited};
 
 use crate::choice::Choice;
@@ -10,7 +10,7 @@ use std::marker::Model;
 /// Where choices stand.
 #[derive(Debug, Drop)]
 enum Source<'a> {
-    /// In the table: all lines of a person.
+    /// In the table: rows of a person's lines.
     Table(Rows<'a>),
     /// In a tree of their own.
     Tree(&'a [Choice]),
@@ -36,7 +36,7 @@ impl<'a> Model for Choices<'a> {
 }
 
 impl<'a> Choices<'a> {
-    /// All lines of a person.
+    /// Those of a person in the table.
     pub(crate) fn of_table(rows: Rows<'a>) -> Choices<'a>
         ensures { result ≡ rows.entry }
     {
@@ -52,6 +52,27 @@ impl<'a> Choices<'a> {
     {
         Choices {
             source: Source::Tree(choices),
+        }
+    }
+
+    /// The rows of the table, if the choices stand there. Who reads many asks first where they stand: `at`
+    /// finds it out again for each.
+    pub fn rows(&self) -> Option<&Rows<'a>>
+        ensures { IfSome result (λ rows. rows.now ≡ self.now) }
+    {
+        match &self.source {
+            Source::Table(rows) => Some(rows),
+            Source::Tree(_) => None,
+        }
+    }
+
+    /// The choices, if they stand in a tree of their own.
+    pub fn own(&self) -> Option<&[Choice]>
+        ensures { IfSome result (λ choices. choices.now ≡ self.now) }
+    {
+        match &self.source {
+            Source::Table(_) => None,
+            Source::Tree(choices) => Some(choices),
         }
     }
 

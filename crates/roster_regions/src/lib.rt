@@ -3,11 +3,13 @@
 //! - `choice`: a step in the tree of a person's lines
 //! - `parts`: costs in parts of a cost unit
 //! - `rows`: the rows of a person's lines in the table, read as choices
-//! - `all_lines`: all lines of a person, which the table has too
+//! - `all_lines`: lines of a person that the table has too, and marks of those that are left
 //! - `choices`: the choices of a tree, wherever they stand
 //! - `path`: the set that a walk through the tree has come to
 //! - `writer`: a tree, line after line
+//! - `marker`: marks of the choices of a tree that are left
 //! - `sums`: the prices of a path's pairings
+//! - `marking`: which choices of the table's rows are left
 //! - `tree`: the lines that a person may still have
 //! - `shared`: trees that several regions have
 //! - `region`: regions, and what makes them smaller
@@ -26,6 +28,8 @@ mod choice;
 mod choices;
 mod deciding;
 mod inside;
+mod marker;
+mod marking;
 mod parts;
 mod path;
 mod propagate;
@@ -40,3 +44,4 @@ mod writer;
 pub use choice::{Choice, MOST_EXTRA, MOST_PRICE, MOST_SCALE};
 pub use choices::Choices;
 pub use region::Region;
+pub use rows::Rows;

@@ -1,9 +1,10 @@
 //! The rows of a person's lines in the table, read as choices.
 
-ghost use Rattle.std.specs.Prelude.{◌≡◌, ◌<◌, ◌||◌, ℕ, true, All, Some, length, map, slice_get};
+ghost use Rattle.std.specs.Prelude.{◌≡◌, ◌<◌, ◌||◌, ℕ, [], true, All, Bool, List, Some, length, map, slice_get, slice_index_or};
 ghost use Rattle.roster_model.specs.Rules.{is_among};
 ghost use Rattle.roster_cost.specs.Amounts.{IsWithin, most_extra};
 ghost use Rattle.roster_regions.specs.Building.{allowed_in, extra_in, AreCounted};
+ghost use Rattle.roster_regions.specs.Marks.{picked, remarked, AreAllLive};
 ghost use Rattle.roster_regions.specs.Trees.{has_last, lines_in, ArePossible, IsLimited};
 
 use crate::choice::Choice;
@@ -12,11 +13,12 @@ use roster_lines::{Lines, Row};
 use roster_problem::Set;
 use std::marker::Model;
 
-/// The rows of all lines of a person. Contracts see them as choices: each costs so much more than the
-/// empty line, at so many parts a cost unit.
+/// The rows of all lines of a person, and for each whether it is live, or no marks if all are. Contracts see
+/// them as choices: each costs so much more than the empty line, at so many parts a cost unit.
 #[derive(Debug, Drop)]
-pub(crate) struct Rows<'a> {
+pub struct Rows<'a> {
     rows: &'a [Row],
+    marks: &'a [bool],
     empty: i64,
     scale: u32,
 }
@@ -24,32 +26,38 @@ pub(crate) struct Rows<'a> {
 impl<'a> Model for Rows<'a> {
     ghost use Rattle.std.specs.Prelude.{List};
     ghost use Rattle.roster_regions.specs.declared.choice.Choice.{Choice};
+    ghost use Rattle.roster_regions.specs.Marks.{remarked};
     ghost use Rattle.roster_regions.specs.Rows.{choices_of, AreReadable};
 
     ghost Value = { List Choice };
 
-    ghost view = { λ r. choices_of r.scale r.empty r.rows.now };
+    ghost view = { λ r. remarked r.marks.now (choices_of r.scale r.empty r.rows.now) };
 
-    ghost invariant = { λ r. AreReadable r.scale r.empty r.rows.now };
+    ghost invariant = { λ r. AreReadable r.scale r.empty r.marks.now r.rows.now };
 }
 
 impl<'a> Rows<'a> {
-    /// Those of the list.
-    pub(crate) fn of(lines: &'a Lines, scale: u32) -> Rows<'a>
+    /// Those of the list that are marked, or all if there are no marks.
+    pub(crate) fn of(lines: &'a Lines, marks: &'a [bool], scale: u32) -> Rows<'a>
         requires counted { AreCounted scale lines.now }
         requires near { All (λ entry. IsWithin most_extra (extra_in lines.now entry)) lines.now }
-        ensures { lines_in result ≡ map (allowed_in scale lines.now) lines.now }
+        ensures lines { lines_in result ≡ picked marks.now (map (allowed_in scale lines.now) lines.now) }
+        ensures others { (others : List Bool) → length others ≡ length result
+            → lines_in (remarked others result)
+            ≡ picked others (map (allowed_in scale lines.now) lines.now) }
+        ensures live { marks.now ≡ [] → AreAllLive result }
     {
         let _some = lines.width();
         Rows {
             rows: lines.rows(),
+            marks,
             empty: lines.cost(0),
             scale,
         }
     }
 
     /// How many there are.
-    pub(crate) fn len(&self) -> usize
+    pub fn len(&self) -> usize
         ensures { result ≡ length self.now }
     {
         self.rows.len()
@@ -57,29 +65,29 @@ impl<'a> Rows<'a> {
 
     /// The choice at a place.
     #[inline]
-    pub(crate) fn at(&self, i: usize) -> Choice
+    pub fn at(&self, i: usize) -> Choice
         requires { i < length self.now }
         ensures value { slice_get self.now i ≡ Some result }
         ensures limited { IsLimited result }
-        ensures live { result.live ≡ true }
     {
         let row = row_at(self.rows, i);
         Choice {
             extra: times(self.scale, above(row.cost, self.empty)),
             depth: row.depth,
             last: row.last,
-            live: true,
+            live: is_marked(self.marks, i),
         }
     }
 
-    /// The pairings that some of the lines have: each is the last one of some line.
+    /// The pairings that some of the lines have: each is the last one of some line, as all are live.
     pub(crate) fn possible(&self) -> Set
+        requires { AreAllLive self.now }
         ensures { ArePossible (lines_in self.now) result }
     {
         let mut possible = Set::empty();
         for i in 0..self.len() {
             let choice = self.at(i);
-            possible = with_last(possible, &choice);
+            put_last(&mut possible, &choice);
         }
         possible
     }
@@ -94,13 +102,21 @@ fn row_at(rows: &[Row], i: usize) -> Row
     rows[i]
 }
 
-/// The set with the last pairing of the choice, if it has one.
-fn with_last(set: Set, choice: &Choice) -> Set
-    requires { IsLimited choice.now }
-    ensures { (p : ℕ) → is_among result p ≡ (is_among set p || has_last choice.now p) }
+/// Whether the place is marked, or there are no marks.
+#[inline]
+fn is_marked(marks: &[bool], i: usize) -> bool
+    ensures { result ≡ slice_index_or marks.now i true }
 {
-    if choice.depth == 0 {
-        return set;
+    if i < marks.len() { marks[i] } else { true }
+}
+
+/// Puts the last pairing of the choice into the set, if it has one.
+#[inline]
+fn put_last(set: &mut Set, choice: &Choice)
+    requires { IsLimited choice.now }
+    ensures { (p : ℕ) → is_among set.new p ≡ (is_among set.old p || has_last choice.now p) }
+{
+    if choice.depth > 0 {
+        set.put(usize::from(choice.last));
     }
-    set.with(usize::from(choice.last)).unwrap()
 }

@@ -5,6 +5,8 @@ ghost use Rattle.roster_model.specs.Rules.{is_among};
 ghost use Rattle.roster_cost.specs.Amounts.{IsWithin, most_extra};
 ghost use Rattle.roster_lines.specs.Entries.{sets_of};
 ghost use Rattle.roster_regions.specs.Building.{allowed_in, extra_in, AreCounted};
+ghost use Rattle.roster_regions.specs.Marks.{picked, IsMarking};
+ghost use Rattle.roster_regions.specs.declared.choice.Choice.{Choice as PlainChoice};
 ghost use Rattle.roster_regions.specs.Prices.{value_of, ArePrices};
 ghost use Rattle.roster_regions.specs.Regions.{AllowedLine};
 ghost use Rattle.roster_regions.specs.Trees.{agrees, lines_in, AreCertain, ArePossible, HasJust, Offers};
@@ -12,6 +14,8 @@ ghost use Rattle.roster_regions.specs.Trees.{agrees, lines_in, AreCertain, ArePo
 use crate::all_lines::AllLines;
 use crate::choice::{Choice, MOST_VALUE};
 use crate::choices::Choices;
+use crate::marker::Marker;
+use crate::marking::{is_wanted, marks_having, marks_within};
 use crate::path::Path;
 use crate::sums::Sums;
 use crate::writer::{Writer, is_same};
@@ -20,10 +24,14 @@ use roster_problem::Set;
 use std::alloc::{AllocError, Global};
 use std::marker::Model;
 
+/// Lines stay in the table if more than one in so many is left. To read a line there takes as long whether
+/// it is left or not.
+const SPARSE: usize = 4;
+
 /// Where the choices of a tree stand.
 #[derive(Debug, Drop)]
 enum Held {
-    /// In the table: all lines of a person.
+    /// In the table: all lines of a person, of which some are left.
     Table(AllLines),
     /// In the tree itself.
     Own(Vec<Choice>),
@@ -49,13 +57,6 @@ impl Model for Tree {
     ghost view = { λ t. lines_held t.held };
 
     ghost invariant = { λ t. IsKnown t.held t.possible t.certain t.count };
-}
-
-/// Whether a test answers what is wanted.
-fn is_wanted(wanted: bool, answer: bool) -> bool
-    ensures { result ≡ agrees wanted answer }
-{
-    if wanted { answer } else { !answer }
 }
 
 /// The lower of a bound and the value of a line, if the line counts.
@@ -88,14 +89,14 @@ impl Tree {
     }
 
     /// All lines of a person, which stay in the table.
-    pub(crate) fn whole(lines: SharedLines, scale: u32) -> Tree
+    pub(crate) fn whole(alloc: Global, lines: SharedLines, scale: u32) -> Tree
         requires counted { AreCounted scale lines }
         requires near { All (λ entry. IsWithin most_extra (extra_in lines entry)) lines }
         requires first { slice_get (sets_of lines) 0 ≡ Some [] }
         ensures { result ≡ map (allowed_in scale lines) lines }
     {
         let count = lines.lines().width();
-        let all = AllLines::new(lines, scale);
+        let all = AllLines::new(alloc, lines, scale);
         let possible = all.rows().possible();
         // The empty line is one of them.
         let certain = Set::empty();
@@ -105,6 +106,54 @@ impl Tree {
             certain,
             count,
         }
+    }
+
+    /// Those of the lines that are marked, which stay in the table if they are many, and else are copied.
+    fn marked(alloc: Global, lines: &AllLines, marker: Marker) -> Result<Tree, AllocError>
+        requires { (choices : List PlainChoice) × (kept : List AllowedLine)
+            × IsMarking marker choices kept × (picked marker.marks.items lines.now.all ≡ kept) }
+        ensures { IfOk result (λ tree. tree ≡ picked marker.marks.items lines.now.all) }
+    {
+        let Marker {
+            marks,
+            possible,
+            certain,
+            count,
+        } = marker;
+        let rows = lines.len();
+        let tree = Tree {
+            held: Held::Table(lines.with_marks(marks)?),
+            possible,
+            certain,
+            count,
+        };
+        tree.copied_if(alloc, count < rows / SPARSE)
+    }
+
+    /// The same lines, copied if that is wanted.
+    fn copied_if(self, alloc: Global, wanted: bool) -> Result<Tree, AllocError>
+        ensures { IfOk result (λ tree. tree ≡ self) }
+    {
+        if wanted {
+            return self.copied(alloc);
+        }
+        Ok(self)
+    }
+
+    /// The same lines, copied.
+    fn copied(&self, alloc: Global) -> Result<Tree, AllocError>
+        ensures { IfOk result (λ tree. tree ≡ self.now) }
+    {
+        let choices = self.choices();
+        let mut path = Path::new(alloc);
+        let mut writer = Writer::new(alloc);
+        for i in 0..choices.len() {
+            let choice = choices.at(i);
+            path.step(&choice)?;
+            writer.pass(&choice);
+            writer.keep(&path, &choice, true)?;
+        }
+        Ok(Tree::of(writer))
     }
 
     /// The tree's choices.
@@ -143,6 +192,20 @@ impl Tree {
         ensures { IfOk result
             (λ tree. tree ≡ filter (λ line. agrees wanted (is_among line.set p)) self.now) }
     {
+        match &self.held {
+            Held::Table(lines) => {
+                let marker = marks_having(alloc, &lines.rows(), p, wanted)?;
+                Tree::marked(alloc, lines, marker)
+            }
+            Held::Own(_) => self.copied_having(alloc, p, wanted),
+        }
+    }
+
+    /// `having`, for lines that are copied.
+    fn copied_having(&self, alloc: Global, p: usize, wanted: bool) -> Result<Tree, AllocError>
+        ensures { IfOk result
+            (λ tree. tree ≡ filter (λ line. agrees wanted (is_among line.set p)) self.now) }
+    {
         let choices = self.choices();
         let mut path = Path::new(alloc);
         let mut writer = Writer::new(alloc);
@@ -162,6 +225,21 @@ impl Tree {
         prices: &[i64],
         most: i64,
     ) -> Result<Tree, AllocError>
+        requires { ArePrices prices.now }
+        ensures { IfOk result
+            (λ tree. tree ≡ filter (λ line. int_le (value_of prices.now line) most) self.now) }
+    {
+        match &self.held {
+            Held::Table(lines) => {
+                let marker = marks_within(alloc, &lines.rows(), prices, most)?;
+                Tree::marked(alloc, lines, marker)
+            }
+            Held::Own(_) => self.copied_within(alloc, prices, most),
+        }
+    }
+
+    /// `within`, for lines that are copied.
+    fn copied_within(&self, alloc: Global, prices: &[i64], most: i64) -> Result<Tree, AllocError>
         requires { ArePrices prices.now }
         ensures { IfOk result
             (λ tree. tree ≡ filter (λ line. int_le (value_of prices.now line) most) self.now) }

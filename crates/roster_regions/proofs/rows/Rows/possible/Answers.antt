@@ -15,7 +15,7 @@ loop-i-init c = record {
 
 pub loop-i-preserved : goal.loop-i-preserved
 loop-i-preserved c =
-    let next = possible-next c.args.self.now c.loop-i.i c.at-choice.result c.loop-i.possible c.with_last-possible.result c.at-choice.ensures.value c.at-choice.ensures.live c.loop-i.invariant.some c.loop-i.invariant.last c.with_last-possible.ensures in
+    let next = possible-next c.args.self.now c.loop-i.i c.at-choice.result c.loop-i.possible c.put_last.new.set c.at-choice.ensures.value (c.requires c.loop-i.i c.at-choice.result c.at-choice.ensures.value) c.loop-i.invariant.some c.loop-i.invariant.last c.put_last.ensures in
     record { some = next.0; last = next.1 }
 
 pub returns : goal.returns

@@ -5,7 +5,7 @@ use Rattle.roster_model.specs.Rules.{is_among}
 use Rattle.roster_regions.specs.Trees.{agrees, lines_after, lines_in, next_path, path_after}
 use Rattle.roster_regions.proofs.TreeLemmas.{path_at}
 use Rattle.roster_regions.proofs.Write.{kept_at, read_on}
-use Rattle.roster_regions.proofs.tree.Tree.having.Goals as goal
+use Rattle.roster_regions.proofs.tree.Tree.copied_having.Goals as goal
 
 pub loop-i-init : goal.loop-i-init
 unfolding path_after lines_after lines_in

@@ -3,7 +3,7 @@ use Rattle.std.specs.Prelude.{filter, int_le}
 use Rattle.roster_regions.specs.Prices.{value_of, AreSums}
 use Rattle.roster_regions.specs.Trees.{lines_in, path_after}
 use Rattle.roster_regions.specs.Writing.{IsWriting}
-use Rattle.roster_regions.proofs.tree.Tree.within.Given as goal
+use Rattle.roster_regions.proofs.tree.Tree.copied_within.Given as goal
 
 -- the path has come to the choice before, and the lines so far that pass are written
 abbrev pub invariant-loop-i : goal.invariant-loop-i

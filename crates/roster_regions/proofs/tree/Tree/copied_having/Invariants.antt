@@ -3,7 +3,7 @@ use Rattle.std.specs.Prelude.{filter}
 use Rattle.roster_model.specs.Rules.{is_among}
 use Rattle.roster_regions.specs.Trees.{agrees, lines_in, path_after}
 use Rattle.roster_regions.specs.Writing.{IsWriting}
-use Rattle.roster_regions.proofs.tree.Tree.having.Given as goal
+use Rattle.roster_regions.proofs.tree.Tree.copied_having.Given as goal
 
 -- the path has come to the choice before, and the lines so far that pass are written
 abbrev pub invariant-loop-i : goal.invariant-loop-i
