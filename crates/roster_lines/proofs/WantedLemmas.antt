@@ -1,7 +1,7 @@
 -- Which lines are wanted: all, or those between two sets.
-use Rattle.std.proofs.Common.{◌≡◌, ℕ, ◌+◌, ◌<◌, ◌≤◌, true, false, ◌||◌, List, [], ◌∷◌, ◌++◌, Ok, Err, Result, sym, subst, inl, inr, arith}
-use Rattle.std.specs.Prelude.{IfErr, IfOk}
-use Rattle.std.proofs.lemmas.Bool.{both_ways, cases_lt, eqb-true, or_cases}
+use Rattle.std.proofs.Common.{◌≡◌, ℕ, ◌<◌, true, false, ◌||◌, List, [], ◌∷◌, ◌++◌, Ok, Err, Result, Bool, sym, inl, inr, arith}
+use Rattle.std.specs.Prelude.{◌↔◌, IfErr, IfOk, IsTrue}
+use Rattle.std.proofs.lemmas.Bool.{both_ways, eqb-true, or_cases}
 use Rattle.roster_model.specs.declared.limits.TheConstants.{MOST_LINES}
 use Rattle.roster_model.specs.Lines.{AreLines, IsLine}
 use Rattle.roster_model.specs.Problem.{Problem}
@@ -50,21 +50,6 @@ has_before problem k must may set p rest line between q before is =
       ])
     ]
 
--- up to the next of the first set, if it is there
-pub HasBefore-with : (set must : List ℕ) (from p : ℕ) → HasBefore set must from → ((q : ℕ) → from ≤ q → q < p → is_among must q ≡ false) → is_among set p ≡ true → HasBefore set must (p + 1)
-HasBefore-with set must from p has least is q before among =
-    elim (cases_lt q from) [
-      | inl old ↦ has q old among
-      | inr new ↦ elim (cases_lt q p) [
-        | inl skipped ↦ absurd (both_ways _ (least q new skipped) among)
-        | inr here ↦ let same : q ≡ p = omega arith in subst (λ r. is_among set r ≡ true) (sym same) is
-      ]
-    ]
-
--- there is none of it from there on
-pub HasBefore-all : (set must : List ℕ) (from p : ℕ) → HasBefore set must from → ((q : ℕ) → from ≤ q → q < p → is_among must q ≡ false) → HasBefore set must p
-HasBefore-all set must from p has none q before among =
-    elim (cases_lt q from) [
-      | inl old ↦ has q old among
-      | inr new ↦ absurd (both_ways _ (none q new before) among)
-    ]
+-- where the answer is no, something is missing
+pub not_before : (set must : List ℕ) (p : ℕ) (answer : Bool) → answer ≡ false → IsTrue answer ↔ HasBefore set must p → HasBefore set must p → ⊥
+not_before set must p answer refused is has = both_ways answer refused (is.1 has)

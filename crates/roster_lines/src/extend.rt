@@ -98,7 +98,9 @@ pub fn wanted_lines<W: Wanted>(
     let root = Stem::root(problem, k, pairs.alone);
     let mut lines = Lines::empty(alloc, root.cost(problem, k))?;
     let mut spare = Spare::new(alloc);
-    extend(&mut spare, &judged, problem, k, wanted, most, &pairs, &root, &mut lines)?;
+    extend(
+        &mut spare, &judged, problem, k, wanted, most, &pairs, &root, &mut lines,
+    )?;
     Ok(lines)
 }
 
@@ -144,7 +146,9 @@ fn extend<W: Wanted>(
             let set = stem.set.with(p)?;
             let below = stem.below(problem, k, pairs, p, set, lines.width());
             lines.push(stem.number, p, below.cost(problem, k))?;
-            extend(spare, &longer, problem, k, wanted, most, pairs, &below, lines)?;
+            extend(
+                spare, &longer, problem, k, wanted, most, pairs, &below, lines,
+            )?;
             longer.done(spare);
         }
         from = p + 1;

@@ -29,7 +29,8 @@ mod wanted;
 
 pub use extend::{LinesFault, lines_between, lines_of, wanted_lines};
 pub use laws::{
-    few_are_not_crowded, has_numbers, nobody_is_crowded, one_list_of_lines, one_list_of_numbers,
+    all_lines_are_some, few_are_not_crowded, has_numbers, nobody_is_crowded, one_list_of_lines,
+    one_list_of_numbers,
 };
 pub use lines::{Lines, Row};
 pub use shared::all_lines;

@@ -61,15 +61,7 @@ pub struct Between {
 impl Wanted for Between {
     ghost wants = { λ between problem k set. IsBetween between.must between.may set };
 
-    fn goes_on(
-        &self,
-        _: &Problem,
-        _: usize,
-        set: &Set,
-        p: usize,
-        _: i64,
-        _: u64,
-    ) -> bool {
+    fn goes_on(&self, _: &Problem, _: usize, set: &Set, p: usize, _: i64, _: u64) -> bool {
         if !is_in_either(&self.must, &self.may, p) {
             return false;
         }

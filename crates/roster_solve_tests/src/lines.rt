@@ -4,8 +4,9 @@ ghost use Rattle.roster_lines.specs.Person.{IsTableOf};
 
 use crate::books::{problem_of, problem_with, read};
 use roster_lines::{
-    Lines, LinesFault, SharedLines, Table, TableFault, all_lines, few_are_not_crowded, has_numbers,
-    lines_of, nobody_is_crowded, one_list_of_lines, one_list_of_numbers, table_of,
+    Lines, LinesFault, SharedLines, Table, TableFault, all_lines, all_lines_are_some,
+    few_are_not_crowded, has_numbers, lines_of, nobody_is_crowded, one_list_of_lines,
+    one_list_of_numbers, table_of,
 };
 use roster_model::limits::MOST_PAIRINGS;
 use roster_problem::{Problem, Set};
@@ -346,6 +347,7 @@ fn threads_may_have_nobody_to_work_for(rt: HostRuntime) -> Result<(), Fail> {
 #[test]
 fn laws_of_lines_can_be_called() {
     one_list_of_lines();
+    all_lines_are_some();
     few_are_not_crowded();
     nobody_is_crowded();
     has_numbers();

@@ -1,7 +1,6 @@
 //! The lines that are wanted, beside all lines.
 
-ghost use Rattle.std.specs.Prelude.{◌≡◌, ◌<◌, ◌≤◌, ◌×◌, length};
-ghost use Rattle.roster_model.specs.declared.limits.TheConstants.{MOST_LINES};
+ghost use Rattle.std.specs.Prelude.{◌<◌, ◌≤◌};
 
 use crate::books::{problem_of, read};
 use crate::lines::{COSTS, TWO_DAYS, set_of};

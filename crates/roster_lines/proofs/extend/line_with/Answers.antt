@@ -6,8 +6,5 @@ use Rattle.roster_lines.proofs.extend.line_with.Goals as goal
 pub with-requires : goal.with-requires
 with-requires g c = subst (λ (j : Stepped). IsNext j c.args.p) (sym c.requires.judged) (next_of c.args.problem.now c.args.k c.args.pairs.now.alone c.args.stem.now c.args.p c.requires.pairs.alone c.requires.stem c.requires.candidate)
 
-pub returns-then-goes_on : goal.returns-then-goes_on
-returns-then-goes_on g c = c.goes_on.ensures c.if-goes_on.true
-
 pub returns : goal.returns
 returns g c = line_with_next c.args.problem.now c.args.k c.args.pairs.now.alone (g.W.Wanted.wants c.args.wanted.now c.args.problem.now c.args.k) c.args.stem.now c.args.p c.args.judged.now c.in_ok-found.found c.requires.parts c.requires.judged c.requires.stem c.requires.candidate c.in_ok-found.ensures
