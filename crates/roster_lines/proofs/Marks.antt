@@ -6,7 +6,7 @@ use Rattle.std.proofs.lemmas.List.{append_assoc, length_push, get_or_append_left
 use Rattle.std.proofs.lemmas.List.Elements.{All-nil, All-cons, All-head, All-tail, All-push, All-weaker}
 use Rattle.std.proofs.lemmas.List.Kept.{AllPairs-cons}
 use Rattle.std.proofs.lemmas.Option.{slice_get_within, slice_get-get_or, get_or_from_slice_get}
-use Rattle.roster_model.specs.Lines.{AreLines, AreSomeLines, IsLine}
+use Rattle.roster_model.specs.Lines.{AreSomeLines, IsLine}
 use Rattle.roster_model.specs.Problem.{Problem}
 use Rattle.roster_model.specs.Places.{places_le}
 use Rattle.roster_model.proofs.PlacesOrder.{before-trans_right, between_marks, front_at_most, front_before, marks_at_most, nothing_between, places_le-append, places_le-trans, first_at_most, by_less}

@@ -1,12 +1,12 @@
 -- Which lines are wanted: all, or those between two sets.
-use Rattle.std.proofs.Common.{◌≡◌, ℕ, ◌<◌, true, false, ◌||◌, List, [], ◌∷◌, ◌++◌, Ok, Err, Result, Bool, sym, inl, inr, arith}
+use Rattle.std.proofs.Common.{◌≡◌, ℕ, false, ◌||◌, List, ◌∷◌, ◌++◌, Ok, Err, Result, Bool, inl, inr, arith}
 use Rattle.std.specs.Prelude.{◌↔◌, IfErr, IfOk, IsTrue}
 use Rattle.std.proofs.lemmas.Bool.{both_ways, eqb-true, or_cases}
 use Rattle.roster_model.specs.declared.limits.TheConstants.{MOST_LINES}
 use Rattle.roster_model.specs.Lines.{AreLines, IsLine}
 use Rattle.roster_model.specs.Problem.{Problem}
 use Rattle.roster_model.specs.Rules.{is_among}
-use Rattle.roster_model.proofs.SetLemmas.{Ascends-from_rising, is_among-append, is_among-before, is_among-here}
+use Rattle.roster_model.proofs.SetLemmas.{Ascends-from_rising, is_among-before, is_among-here}
 use Rattle.roster_lines.specs.declared.extend.LinesFault.{LinesFault}
 use Rattle.roster_lines.specs.declared.extend.LinesFault.TheVariants.{TooMany, Memory}
 use Rattle.roster_lines.specs.Between.{HasBefore, IsBetween}
