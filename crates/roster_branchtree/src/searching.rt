@@ -13,7 +13,7 @@ use crate::sight::Sight;
 use crate::watch::{Watch, earlier_if};
 use roster_bounds::Tables;
 use roster_cost::Key;
-use roster_lines::Table;
+use roster_lines::{Table, all_lines_are_some};
 use roster_problem::{Problem, Roster};
 use roster_search::{Nodes, least_of_box};
 use roster_spans::{Done, Piece, Span};
@@ -143,6 +143,7 @@ fn least_in<N: Nodes>(
         (IsInSpan table.now span.now) (Some best.now) (unwrap_or found best.now)) }
     ensures goes_on { N.goes_on nodes.old nodes.new }
 {
+    all_lines_are_some();
     let ranges = ranges_of(alloc, problem, table, span)?;
     let found = least_of_box(alloc, problem, table, &ranges, best, nodes)?;
     Ok(found)

@@ -2,6 +2,7 @@ pub mod Preorder
 pub mod TreeLemmas
 pub mod Listed
 pub mod Marks
+pub mod WantedLemmas
 pub mod Stems
 pub mod Walk
 pub mod Judged

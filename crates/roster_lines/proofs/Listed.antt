@@ -17,10 +17,10 @@ use Rattle.roster_lines.specs.Listing.{AreAlone, ArePartsLegal, AreTogether, IsS
 among_front : (front more : List ℕ) (p : ℕ) → is_among front p ≡ true → is_among (front ++ more) p ≡ true
 among_front front more p h = is_among-append front more p ∙ or_left _ _ h
 
-among_behind : (front more : List ℕ) (p : ℕ) → is_among more p ≡ true → is_among (front ++ more) p ≡ true
+pub among_behind : (front more : List ℕ) (p : ℕ) → is_among more p ≡ true → is_among (front ++ more) p ≡ true
 among_behind front more p h = is_among-append front more p ∙ or_right _ _ h
 
-among_cases : (front more : List ℕ) (p : ℕ) → is_among (front ++ more) p ≡ true → (is_among front p ≡ true) ⊎ (is_among more p ≡ true)
+pub among_cases : (front more : List ℕ) (p : ℕ) → is_among (front ++ more) p ≡ true → (is_among front p ≡ true) ⊎ (is_among more p ≡ true)
 among_cases front more p h = or_cases _ _ (sym (is_among-append front more p) ∙ h)
 
 pub among_single : (p q : ℕ) → is_among (p ∷ []) q ≡ true → p ≡ q

@@ -1,6 +1,6 @@
 -- Lists of lines in order: one within another, and the same.
-use Rattle.std.proofs.Common.{◌≡◌, ℕ, zero, suc, ◌<◌, ◌≤◌, List, [], ◌∷◌, length, get_or, Some, refl, sym, ◌∙◌, subst, inl, inr, arith}
-use Rattle.std.specs.Prelude.{All, slice_get}
+use Rattle.std.proofs.Common.{◌≡◌, ℕ, zero, suc, ◌<◌, ◌≤◌, List, [], ◌∷◌, length, get_or, Some, refl, sym, ap, ◌∙◌, subst, inl, inr, arith}
+use Rattle.std.specs.Prelude.{All, option_map, slice_get}
 use Rattle.std.proofs.lemmas.Bool.{both_ways, cases_lt}
 use Rattle.std.proofs.lemmas.List.{same_lists, length-map}
 use Rattle.std.proofs.lemmas.Option.{slice_get_within, slice_get-get_or, slice_get-map, get_or_from_slice_get}
@@ -9,8 +9,9 @@ use Rattle.roster_model.specs.Lines.{AreLines, AreOrdered, IsCrowded, IsLine}
 use Rattle.roster_model.specs.Problem.{Problem}
 use Rattle.roster_model.proofs.PlacesOrder.{places_le-refl}
 use Rattle.roster_lines.specs.Entries.{Entry, sets_of}
-use Rattle.roster_lines.specs.Person.{IsTableOf}
+use Rattle.roster_lines.specs.Person.{AreListed, IsTableOf}
 use Rattle.roster_lines.proofs.Cuts.{one_place, ordered_at, still_before}
+use Rattle.roster_lines.proofs.Listed.{IsLine-empty}
 use Rattle.roster_lines.proofs.TreeLemmas.{length-sets_of}
 
 -- what holds of each element holds of the one at a place
@@ -81,3 +82,30 @@ nobody_crowded problem table k is person =
     let there = slice_get-get_or table k none inside in
     let lines = is.sets.each k (sets_of (get_or table k none)) (slice_get-map sets_of table k ∙ rw there refl) in
     not_crowded problem k _ lines (omega (arith, length-sets_of (get_or table k none), is.few k none inside))
+
+-- no set comes before the empty one
+pub empty_first : (problem : Problem) (k : ℕ) (sets : List (List ℕ)) → AreLines problem k sets → slice_get sets 0 ≡ Some []
+empty_first problem k sets are =
+    let found = are.every [] (IsLine-empty problem k) in
+    elim (cases_lt 0 found.0) [
+      | inl later ↦ absurd (both_ways _
+          (ordered_at sets are.some.ordered 0 found.0 (get_or sets 0 []) [] later (slice_get-get_or sets 0 [] (omega (arith, later, slice_get_within sets found.0 [] found.1))) found.1)
+          refl)
+      | inr here ↦
+          let first : found.0 ≡ 0 = omega arith in
+          subst (λ i. slice_get sets i ≡ Some []) first found.1
+    ]
+
+-- a table of all lines has some lines of each person
+pub AreListed-all : (problem : Problem) (table : List (List Entry)) → IsTableOf problem table → AreListed problem table
+AreListed-all problem table is = record {
+  covers = sym (length-map table sets_of) ∙ is.sets.covers;
+  each = λ k lines at.
+      let are = is.sets.each k (sets_of lines) (slice_get-map sets_of table k ∙ ap (option_map sets_of) at) in
+      record {
+        some = are.some;
+        first = empty_first problem k (sets_of lines) are;
+        costs = is.costs k lines at;
+        few = All-slice_get (λ (l : List Entry). length l ≤ MOST_LINES) table k lines is.few at;
+      };
+}

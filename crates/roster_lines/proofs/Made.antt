@@ -8,7 +8,7 @@ use Rattle.roster_model.specs.Lines.{AreLines, IsCrowded, IsFirstCrowded}
 use Rattle.roster_model.specs.Problem.{Problem}
 use Rattle.roster_lines.specs.declared.extend.LinesFault.{LinesFault}
 use Rattle.roster_lines.specs.Entries.{Entry, sets_of}
-use Rattle.roster_lines.specs.Listing.{IsFaultOf}
+use Rattle.roster_lines.specs.SomeLines.{IsFaultOf}
 use Rattle.roster_lines.specs.Made.{AreMade, IsMadeOf, IsTableSoFar}
 use Rattle.roster_lines.specs.Person.{AreCosted, IsTableOf}
 use Rattle.roster_lines.proofs.Lists.{not_crowded}

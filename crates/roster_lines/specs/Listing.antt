@@ -1,21 +1,14 @@
 -- What is kept while the lines of a person are listed.
 use Rattle.std.specs.Prelude.{◌≡◌, ℕ, ◌<◌, ◌≤◌, ◌↔◌, true, false, List, [], ◌∷◌, ◌++◌, Some, length, slice_get, All, Option, MatchOption}
 use Rattle.roster_model.specs.Costs.{flight_of, total}
-use Rattle.roster_model.specs.Lines.{AreSomeLines, IsCrowded, IsLine}
+use Rattle.roster_model.specs.Lines.{AreSomeLines, IsLine}
 use Rattle.roster_model.specs.Problem.{Problem, units_of}
 use Rattle.roster_model.specs.Places.{places_le}
 use Rattle.roster_model.specs.Rules.{is_among, IsLegal}
 use Rattle.roster_legal.specs.Stepping.{Stepped}
 use Rattle.roster_cost.specs.Amounts.{minutes_of_pairing, most_flight}
-use Rattle.roster_lines.specs.declared.extend.LinesFault.{LinesFault}
-use Rattle.roster_lines.specs.declared.extend.LinesFault.TheVariants.{TooMany, Memory}
 use Rattle.roster_lines.specs.declared.stem.Stem.{Stem}
 use Rattle.roster_lines.specs.declared.pairs.Pairs.{Pairs}
-
--- why the lines of person k aren't listed
-abbrev pub IsFaultOf : Problem → ℕ → LinesFault → Type 0
-IsFaultOf problem k TooMany = IsCrowded problem k
-IsFaultOf problem k Memory = Unit {0}
 
 -- what is part of a legal set of person k is legal
 abbrev pub ArePartsLegal : Problem → ℕ → Type 0
@@ -52,11 +45,12 @@ pub record ArePairs (problem : Problem) (k : ℕ) (pairs : Pairs) : Type 0 where
   pub rows : (p : ℕ) (row : List ℕ) → slice_get pairs.rows.items p ≡ Some row → IsRow problem k p row
   pub flights : AreFlights problem k pairs.flights.items
 
--- the sets are the lines of person k that stand before the mark
-pub record IsUpTo (problem : Problem) (k : ℕ) (mark : List ℕ) (sets : List (List ℕ)) : Type 0 where
+-- The sets are lines of person k that stand before the mark, and each that is wanted of those there is
+-- among them.
+pub record IsUpTo (problem : Problem) (k : ℕ) (wants : List ℕ → Type 0) (mark : List ℕ) (sets : List (List ℕ)) : Type 0 where
   pub some : AreSomeLines problem k sets
   pub before : All (λ set. places_le mark set ≡ false) sets
-  pub every : (set : List ℕ) → IsLine problem k set → places_le mark set ≡ false → (i : ℕ) × (slice_get sets i ≡ Some set)
+  pub every : (set : List ℕ) → IsLine problem k set → wants set → places_le mark set ≡ false → (i : ℕ) × (slice_get sets i ≡ Some set)
 
 -- The stem is a line with its units and flight, and its candidates are pairings that may stand behind it:
 -- all that are behind it in some line. Each is legal alone, and with each pairing of it.
@@ -74,8 +68,13 @@ pub record IsStem (problem : Problem) (k : ℕ) (stem : Stem) : Type 0 where
 abbrev pub judged_as : Problem → ℕ → List ℕ → List ℕ → Stepped
 judged_as problem k alone set = record { loads = record { problem = problem; person = k; alone = alone }; set = set }
 
--- what is found of the stem with p behind: nothing if that is no line
-abbrev pub LineWith : Problem → ℕ → List ℕ → Stem → ℕ → Option Stepped → Type 0
-LineWith problem k alone stem p found =
-    MatchOption found (¬ IsLine problem k (stem.set ++ p ∷ []))
+-- no line of person k that begins with the set and p behind it is wanted
+abbrev pub NoneBehind : Problem → ℕ → (List ℕ → Type 0) → List ℕ → ℕ → Type 0
+NoneBehind problem k wants set p = (rest : List ℕ) → IsLine problem k (set ++ p ∷ rest) → ¬ wants (set ++ p ∷ rest)
+
+-- What is found of the stem with p behind: that line, or nothing, and then none that begins so is a line
+-- that is wanted.
+abbrev pub LineWith : Problem → ℕ → List ℕ → (List ℕ → Type 0) → Stem → ℕ → Option Stepped → Type 0
+LineWith problem k alone wants stem p found =
+    MatchOption found (NoneBehind problem k wants stem.set p)
     (λ longer. (longer ≡ judged_as problem k alone (stem.set ++ p ∷ [])) × IsLine problem k (stem.set ++ p ∷ []))

@@ -5,7 +5,7 @@ use Rattle.roster_model.specs.Lines.{AreLines}
 use Rattle.roster_model.specs.Problem.{Problem}
 use Rattle.roster_lines.specs.declared.extend.LinesFault.{LinesFault}
 use Rattle.roster_lines.specs.Entries.{Entry, sets_of}
-use Rattle.roster_lines.specs.Listing.{IsFaultOf}
+use Rattle.roster_lines.specs.SomeLines.{IsFaultOf}
 use Rattle.roster_lines.specs.Person.{AreCosted}
 
 -- the lines of person k with what they cost, no more than there may be

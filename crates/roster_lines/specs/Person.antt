@@ -2,7 +2,7 @@
 use Rattle.std.specs.Prelude.{◌≡◌, ℕ, ◌≤◌, List, [], Some, length, map, slice_get, slice_index_or, All}
 use Rattle.roster_model.specs.declared.limits.TheConstants.{MOST_LINES}
 use Rattle.roster_model.specs.Costs.{line_cost}
-use Rattle.roster_model.specs.Lines.{AreTables}
+use Rattle.roster_model.specs.Lines.{AreSomeLines, AreTables}
 use Rattle.roster_model.specs.Problem.{Problem}
 use Rattle.roster_lines.specs.Entries.{Entry, sets_of}
 
@@ -19,3 +19,15 @@ pub record IsTableOf (problem : Problem) (table : List (List Entry)) : Type 0 wh
   pub sets : AreTables problem (map sets_of table)
   pub costs : (k : ℕ) (lines : List Entry) → slice_get table k ≡ Some lines → AreCosted problem k lines
   pub few : All (λ lines. length lines ≤ MOST_LINES) table
+
+-- lines of person k in their order with what they cost, the empty one first, no more than there may be
+pub record AreListedOf (problem : Problem) (k : ℕ) (lines : List Entry) : Type 0 where
+  pub some : AreSomeLines problem k (sets_of lines)
+  pub first : slice_get (sets_of lines) 0 ≡ Some []
+  pub costs : AreCosted problem k lines
+  pub few : length lines ≤ MOST_LINES
+
+-- the table has some lines of each person, all of them or not
+pub record AreListed (problem : Problem) (table : List (List Entry)) : Type 0 where
+  pub covers : length table ≡ length problem.persons
+  pub each : (k : ℕ) (lines : List Entry) → slice_get table k ≡ Some lines → AreListedOf problem k lines

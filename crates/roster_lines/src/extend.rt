@@ -1,18 +1,21 @@
-//! All lines of a person, from each line to those that go on from it.
+//! The lines of a person, from each line to those that go on from it.
 
 ghost use Rattle.std.specs.Prelude.{◌≡◌, ◌<◌, ◌≤◌, ◌++◌, ◌∷◌, ℕ, [], true, IfErr, IfOk, List, OnOk, Some, length, slice_get};
 ghost use Rattle.roster_model.specs.Lines.{AreLines};
 ghost use Rattle.roster_model.specs.Rules.{is_among};
+ghost use Rattle.roster_lines.specs.Between.{IsBetween};
 ghost use Rattle.roster_lines.specs.Entries.{sets_of};
-ghost use Rattle.roster_lines.specs.Listing.{ArePairs, ArePartsLegal, IsFaultOf, IsFlightWithin, IsStem, IsUpTo, LineWith, judged_as};
+ghost use Rattle.roster_lines.specs.Listing.{ArePairs, ArePartsLegal, IsFlightWithin, IsStem, IsUpTo, LineWith, judged_as};
 ghost use Rattle.roster_lines.specs.Person.{AreCosted};
+ghost use Rattle.roster_lines.specs.SomeLines.{AreWantedLines, IsFaultOf, IsFaultWithin};
 
 use crate::lines::Lines;
 use crate::pairs::{Pairs, pairs_of};
 use crate::stem::Stem;
+use crate::wanted::{Between, Everything, Wanted};
 use roster_legal::{Judge, JudgedSet, Loads, Spare, part_of_legal_is_legal};
 use roster_model::limits::MOST_LINES;
-use roster_problem::Problem;
+use roster_problem::{Problem, Set};
 use std::alloc::{AllocError, Global};
 use thiserror::Error;
 
@@ -46,6 +49,47 @@ pub fn lines_of(alloc: Global, problem: &Problem, k: usize) -> Result<Lines, Lin
     ensures few { IfOk result (λ lines. length lines ≤ MOST_LINES) }
     ensures fault { IfErr result (IsFaultOf problem.now k) }
 {
+    wanted_lines(alloc, problem, k, &Everything, MOST_LINES)
+}
+
+/// The lines of person `k` that hold all of `must` and nothing but what is in `must` or `may`, with what
+/// they cost, if no more than `most` lines come up. Others may be among them: those that these go on from.
+pub fn lines_between(
+    alloc: Global,
+    problem: &Problem,
+    k: usize,
+    must: Set,
+    may: Set,
+    most: usize,
+) -> Result<Lines, LinesFault>
+    requires person { k < length problem.now.persons }
+    requires limit { (0 < most) × (most ≤ MOST_LINES) }
+    ensures lines { IfOk result
+        (λ lines. AreWantedLines problem.now k (IsBetween must may) (sets_of lines)) }
+    ensures costs { IfOk result (AreCosted problem.now k) }
+    ensures few { IfOk result (λ lines. length lines ≤ most) }
+    ensures fault { IfErr result (IsFaultWithin problem.now k most) }
+{
+    wanted_lines(alloc, problem, k, &Between { must, may }, most)
+}
+
+/// The lines of person `k` that are wanted, in their order, with what they cost, if no more than `most`
+/// lines come up. Others may be among them: each is a line, and each goes on from one that is there.
+pub fn wanted_lines<W: Wanted>(
+    alloc: Global,
+    problem: &Problem,
+    k: usize,
+    wanted: &W,
+    most: usize,
+) -> Result<Lines, LinesFault>
+    requires person { k < length problem.now.persons }
+    requires limit { (0 < most) × (most ≤ MOST_LINES) }
+    ensures lines { IfOk result (λ lines. AreWantedLines problem.now k
+        (W.wants wanted.now problem.now k) (sets_of lines)) }
+    ensures costs { IfOk result (AreCosted problem.now k) }
+    ensures few { IfOk result (λ lines. length lines ≤ most) }
+    ensures fault { IfErr result (IsFaultWithin problem.now k most) }
+{
     parts_are_legal(problem);
     let mut judge = Judge::new(alloc, problem);
     let pairs = pairs_of(alloc, &mut judge, problem, k)?;
@@ -54,47 +98,57 @@ pub fn lines_of(alloc: Global, problem: &Problem, k: usize) -> Result<Lines, Lin
     let root = Stem::root(problem, k, pairs.alone);
     let mut lines = Lines::empty(alloc, root.cost(problem, k))?;
     let mut spare = Spare::new(alloc);
-    extend(&mut spare, &judged, problem, k, &pairs, &root, &mut lines)?;
+    extend(
+        &mut spare, &judged, problem, k, wanted, most, &pairs, &root, &mut lines,
+    )?;
     Ok(lines)
 }
 
-/// Appends all lines that go on from the stem, in their order.
-fn extend(
+/// Appends the lines that go on from the stem, in their order: all but what isn't wanted, nor any behind.
+fn extend<W: Wanted>(
     spare: &mut Spare,
     judged: &JudgedSet<'_>,
     problem: &Problem,
     k: usize,
+    wanted: &W,
+    most: usize,
     pairs: &Pairs,
     stem: &Stem,
     lines: &mut Lines,
 ) -> Result<(), LinesFault>
     requires judged { judged.now ≡ judged_as problem.now k pairs.now.alone stem.now.set }
     requires person { k < length problem.now.persons }
+    requires limit { most ≤ MOST_LINES }
     requires parts { ArePartsLegal problem.now k }
     requires flown { IsFlightWithin problem.now k }
     requires pairs { ArePairs problem.now k pairs.now }
     requires stem { IsStem problem.now k stem.now }
     requires number { slice_get (sets_of lines.old) stem.now.number ≡ Some stem.now.set }
-    requires before { IsUpTo problem.now k (stem.now.set ++ 0 ∷ []) (sets_of lines.old) }
+    requires before { IsUpTo problem.now k (W.wants wanted.now problem.now k)
+        (stem.now.set ++ 0 ∷ []) (sets_of lines.old) }
     requires costs { AreCosted problem.now k lines.old }
-    ensures lines { OnOk result (IsUpTo problem.now k
+    requires few { length lines.old ≤ most }
+    ensures lines { OnOk result (IsUpTo problem.now k (W.wants wanted.now problem.now k)
         (stem.now.set ++ length problem.now.pairings ∷ []) (sets_of lines.new)) }
     ensures costs { OnOk result (AreCosted problem.now k lines.new) }
+    ensures few { OnOk result (length lines.new ≤ most) }
     ensures kept { OnOk result ((i : ℕ) (set : List ℕ)
         → slice_get (sets_of lines.old) i ≡ Some set
         → slice_get (sets_of lines.new) i ≡ Some set) }
-    ensures fault { IfErr result (IsFaultOf problem.now k) }
+    ensures fault { IfErr result (IsFaultWithin problem.now k most) }
 {
     let mut from = 0;
     while let Some(p) = stem.candidates.first_from(from) {
-        if let Some(longer) = line_with(spare, judged, problem, k, pairs, stem, p)? {
-            if lines.is_full() {
+        if let Some(longer) = line_with(spare, judged, problem, k, wanted, pairs, stem, p)? {
+            if lines.width() == most {
                 return Err(LinesFault::TooMany);
             }
             let set = stem.set.with(p)?;
             let below = stem.below(problem, k, pairs, p, set, lines.width());
             lines.push(stem.number, p, below.cost(problem, k))?;
-            extend(spare, &longer, problem, k, pairs, &below, lines)?;
+            extend(
+                spare, &longer, problem, k, wanted, most, pairs, &below, lines,
+            )?;
             longer.done(spare);
         }
         from = p + 1;
@@ -102,23 +156,30 @@ fn extend(
     Ok(())
 }
 
-/// The set of the stem with the candidate behind, if that is a line.
-fn line_with<'a>(
+/// The set of the stem with the candidate behind, if that is a line, and it or one that begins with it may
+/// be wanted.
+fn line_with<'a, W: Wanted>(
     spare: &mut Spare,
     judged: &JudgedSet<'a>,
     problem: &Problem,
     k: usize,
+    wanted: &W,
     pairs: &Pairs,
     stem: &Stem,
     p: usize,
 ) -> Result<Option<JudgedSet<'a>>, AllocError>
     requires judged { judged.now ≡ judged_as problem.now k pairs.now.alone stem.now.set }
     requires person { k < length problem.now.persons }
+    requires parts { ArePartsLegal problem.now k }
     requires pairs { ArePairs problem.now k pairs.now }
     requires stem { IsStem problem.now k stem.now }
     requires candidate { is_among stem.now.candidates p ≡ true }
-    ensures { IfOk result (LineWith problem.now k pairs.now.alone stem.now p) }
+    ensures { IfOk result (LineWith problem.now k pairs.now.alone
+        (W.wants wanted.now problem.now k) stem.now p) }
 {
+    if !wanted.goes_on(problem, k, &stem.set, p, stem.units, stem.flight) {
+        return Ok(None);
+    }
     let found = judged.with(p, spare)?;
     Ok(found)
 }

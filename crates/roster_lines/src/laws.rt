@@ -6,7 +6,7 @@ ghost use Rattle.roster_model.specs.Lines.{AreLines, AreNumbersOf, AreTables, Is
 ghost use Rattle.roster_model.specs.Problem.{Problem};
 ghost use Rattle.roster_model.specs.Rosters.{IsLegalRoster};
 ghost use Rattle.roster_lines.specs.Entries.{Entry};
-ghost use Rattle.roster_lines.specs.Person.{IsTableOf};
+ghost use Rattle.roster_lines.specs.Person.{AreListed, IsTableOf};
 
 /// The lines of a person are one list.
 pub fn one_list_of_lines()
@@ -24,6 +24,12 @@ pub fn few_are_not_crowded()
 pub fn nobody_is_crowded()
     ensures { (problem : Problem) (table : List (List Entry)) (k : ℕ)
         → IsTableOf problem table → k < length problem.persons → ¬ IsCrowded problem k }
+{}
+
+/// If a table has all lines of each person, it has some.
+pub fn all_lines_are_some()
+    ensures { (problem : Problem) (table : List (List Entry))
+        → IsTableOf problem table → AreListed problem table }
 {}
 
 /// Each legal roster has a list of line numbers,

@@ -9,7 +9,8 @@
 //! - `shared_lines`: lines that a table and others have together
 //! - `pairs`: which pairings are legal alone, and which of those together
 //! - `stem`: a line that others go on from
-//! - `extend`: `lines_of`, from each line to those that go on from it
+//! - `wanted`: which lines are wanted
+//! - `extend`: `lines_of`, and `wanted_lines`, from each line to those that go on from it
 //! - `table`: the lines of all persons
 //! - `shared`: the same table, by several threads
 //! - `laws`: what follows from the definitions
@@ -24,12 +25,15 @@ mod shared;
 mod shared_lines;
 mod stem;
 mod table;
+mod wanted;
 
-pub use extend::{LinesFault, lines_of};
+pub use extend::{LinesFault, lines_between, lines_of, wanted_lines};
 pub use laws::{
-    few_are_not_crowded, has_numbers, nobody_is_crowded, one_list_of_lines, one_list_of_numbers,
+    all_lines_are_some, few_are_not_crowded, has_numbers, nobody_is_crowded, one_list_of_lines,
+    one_list_of_numbers,
 };
 pub use lines::{Lines, Row};
 pub use shared::all_lines;
 pub use shared_lines::SharedLines;
 pub use table::{Table, TableFault, table_of};
+pub use wanted::{Between, Wanted};

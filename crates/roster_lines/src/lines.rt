@@ -167,13 +167,6 @@ impl Lines {
         low
     }
 
-    /// Whether there are as many as there may be.
-    pub(crate) fn is_full(&self) -> bool
-        ensures { IsTrue result ↔ (MOST_LINES ≤ length self.now) }
-    {
-        self.lines.len() == MOST_LINES
-    }
-
     /// Appends the line whose set is that of line `parent` with the pairing at place `last` behind, with
     /// its cost.
     pub(crate) fn push(&mut self, parent: usize, last: usize, cost: i64) -> Result<(), AllocError>

@@ -11,7 +11,7 @@ use Rattle.roster_model.specs.Problem.{Problem}
 use Rattle.roster_model.specs.Rosters.{IsLegalRoster}
 use Rattle.roster_model.specs.Rules.{is_among}
 use Rattle.roster_lines.specs.Entries.{Entry, sets_of as sets_in}
-use Rattle.roster_lines.specs.Person.{lines_at, IsTableOf}
+use Rattle.roster_lines.specs.Person.{lines_at, AreListed}
 use Rattle.roster_regions.specs.Building.{allowed_between, allowed_in}
 use Rattle.roster_regions.specs.Regions.{AllowedLine, Region, sets_of, idle_cost, IsAllowedLine, IsIn, IsInRanges, IsRegion}
 use Rattle.roster_regions.proofs.Copied.{no_entry}
@@ -46,7 +46,7 @@ sets-between scale entries low high =
     ∙ sym (drop-map (λ (entry : Entry). entry.set) low (take high entries))
     ∙ ap (drop low) (sym (take-map (λ (entry : Entry). entry.set) high entries))
 
-pub lines-between : (problem : Problem) (table : List (List Entry)) (scale k low high : ℕ) → IsTableOf problem table → k < length problem.persons → All (IsAllowedLine problem scale k) (allowed_between scale (lines_at table k) low high)
+pub lines-between : (problem : Problem) (table : List (List Entry)) (scale k low high : ℕ) → AreListed problem table → k < length problem.persons → All (IsAllowedLine problem scale k) (allowed_between scale (lines_at table k) low high)
 lines-between problem table scale k low high is person j d inside =
     let entries : List Entry = lines_at table k in
     let part : List Entry = drop low (take high entries) in
@@ -65,7 +65,7 @@ lines-between problem table scale k low high is person j d inside =
 
 -- each person has the lines of the person's range
 pub record HasRanges (problem : Problem) (table : List (List Entry)) (ranges : List (ℕ × ℕ)) (region : Region) : Type 0 where
-  pub is : IsTableOf problem table
+  pub is : AreListed problem table
   pub covers : length region.choices ≡ length problem.persons
   pub ranged : length ranges ≡ length problem.persons
   pub each : (k : ℕ) → k < length problem.persons → get_or region.choices k [] ≡ allowed_between region.scale (lines_at table k) (get_or ranges k (0, 0)).0 (get_or ranges k (0, 0)).1

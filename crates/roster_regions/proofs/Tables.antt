@@ -1,76 +1,50 @@
--- The table of all lines, person by person.
-use Rattle.std.proofs.Common.{◌≡◌, ℕ, ◌<◌, true, List, [], length, get_or, ℤ, pos, ◌-ℤ◌, refl, sym, ap, ap₂, ◌∙◌, subst, inl, inr, arith}
+-- A table of lines, person by person.
+use Rattle.std.proofs.Common.{◌≡◌, ℕ, ◌<◌, List, [], length, get_or, ℤ, pos, ◌-ℤ◌, refl, sym, ap, ap₂, ◌∙◌, subst, arith}
 use Rattle.std.specs.Prelude.{All, Some, slice_get, option_map}
-use Rattle.std.proofs.lemmas.Bool.{both_ways, cases_lt}
 use Rattle.std.proofs.lemmas.List.{length-map}
-use Rattle.std.proofs.lemmas.List.Elements.{All-nil}
 use Rattle.std.proofs.lemmas.Option.{get_or_from_slice_get, slice_get-get_or, slice_get-map, slice_get_within}
 use Rattle.roster_model.specs.Costs.{line_cost}
-use Rattle.roster_model.specs.Lines.{AreLines, IsLine}
-use Rattle.roster_model.specs.Places.{places_le}
+use Rattle.roster_model.specs.Lines.{IsLine}
 use Rattle.roster_model.specs.Problem.{Problem}
-use Rattle.roster_model.proofs.SetLemmas.{rising_from_Ascends}
 use Rattle.roster_cost.specs.Amounts.{IsWithin, most_extra}
 use Rattle.roster_lines.specs.Entries.{Entry, costs_of, sets_of}
-use Rattle.roster_lines.specs.Person.{lines_at, IsTableOf}
+use Rattle.roster_lines.specs.Person.{lines_at, AreListed, AreListedOf}
 use Rattle.roster_regions.specs.Building.{extra_in}
 use Rattle.roster_regions.specs.Regions.{extra_of}
 use Rattle.roster_regions.proofs.Copied.{no_entry}
 
 -- each person has lines
-pub table-at : (problem : Problem) (table : List (List Entry)) (k : ℕ) → IsTableOf problem table → k < length problem.persons → slice_get table k ≡ Some (lines_at table k)
+pub table-at : (problem : Problem) (table : List (List Entry)) (k : ℕ) → AreListed problem table → k < length problem.persons → slice_get table k ≡ Some (lines_at table k)
 table-at problem table k is person =
     let none : List Entry = [] in
-    slice_get-get_or table k none (omega (arith, is.sets.covers, length-map table sets_of))
+    slice_get-get_or table k none (omega (arith, is.covers))
 
 -- the lines of a person in the table
-pub lines_in_table : (problem : Problem) (table : List (List Entry)) (k : ℕ) → IsTableOf problem table → k < length problem.persons → AreLines problem k (sets_of (lines_at table k))
-lines_in_table problem table k is person =
-    is.sets.each k (sets_of (lines_at table k)) (slice_get-map sets_of table k ∙ ap (option_map sets_of) (table-at problem table k is person))
-
--- no pairings are a line
-empty_is_line : (problem : Problem) (k : ℕ) → IsLine problem k []
-empty_is_line problem k = record {
-  ascending = rising_from_Ascends [] tt;
-  places = All-nil (λ p. p < length problem.pairings);
-  legal = inl refl;
-}
+pub lines_in_table : (problem : Problem) (table : List (List Entry)) (k : ℕ) → AreListed problem table → k < length problem.persons → AreListedOf problem k (lines_at table k)
+lines_in_table problem table k is person = is.each k (lines_at table k) (table-at problem table k is person)
 
 -- the first line is the empty one
-pub first_line : (problem : Problem) (table : List (List Entry)) (k : ℕ) → IsTableOf problem table → k < length problem.persons → slice_get (sets_of (lines_at table k)) 0 ≡ Some []
-first_line problem table k is person =
-    let sets : List (List ℕ) = sets_of (lines_at table k) in
-    let are = lines_in_table problem table k is person in
-    let found = are.every [] (empty_is_line problem k) in
-    elim (cases_lt 0 found.0) [
-      | inl later ↦
-          let inside = slice_get_within sets found.0 [] found.1 in
-          let before = are.some.ordered 0 found.0 [] later inside in
-          let empty : get_or sets found.0 [] ≡ [] = get_or_from_slice_get sets found.0 [] [] found.1 in
-          absurd (both_ways _ before (subst (λ (set : List ℕ). places_le set (get_or sets 0 []) ≡ true) (sym empty) refl))
-      | inr here ↦
-          let first : found.0 ≡ 0 = omega arith in
-          subst (λ i. slice_get sets i ≡ Some []) first found.1
-    ]
+pub first_line : (problem : Problem) (table : List (List Entry)) (k : ℕ) → AreListed problem table → k < length problem.persons → slice_get (sets_of (lines_at table k)) 0 ≡ Some []
+first_line problem table k is person = (lines_in_table problem table k is person).first
 
 -- ---- what lines cost
 
 -- a person's entry is a line, and costs what its set does
-pub entry-costs : (problem : Problem) (table : List (List Entry)) (k i : ℕ) (entry : Entry) → IsTableOf problem table → k < length problem.persons → slice_get (lines_at table k) i ≡ Some entry → entry.cost ≡ line_cost problem k entry.set
+pub entry-costs : (problem : Problem) (table : List (List Entry)) (k i : ℕ) (entry : Entry) → AreListed problem table → k < length problem.persons → slice_get (lines_at table k) i ≡ Some entry → entry.cost ≡ line_cost problem k entry.set
 entry-costs problem table k i entry is person at =
     let entries : List Entry = lines_at table k in
     let same = get_or_from_slice_get entries i entry no_entry at in
-    let costed = is.costs k entries (table-at problem table k is person) i no_entry (slice_get_within entries i entry at) in
+    let costed = (lines_in_table problem table k is person).costs i no_entry (slice_get_within entries i entry at) in
     subst (λ (e : Entry). e.cost ≡ line_cost problem k e.set) same costed
 
-pub entry-line : (problem : Problem) (table : List (List Entry)) (k i : ℕ) (entry : Entry) → IsTableOf problem table → k < length problem.persons → slice_get (lines_at table k) i ≡ Some entry → IsLine problem k entry.set
+pub entry-line : (problem : Problem) (table : List (List Entry)) (k i : ℕ) (entry : Entry) → AreListed problem table → k < length problem.persons → slice_get (lines_at table k) i ≡ Some entry → IsLine problem k entry.set
 entry-line problem table k i entry is person at =
     let sets : List (List ℕ) = sets_of (lines_at table k) in
     let set_at = slice_get-map (λ (e : Entry). e.set) (lines_at table k) i ∙ ap (option_map (λ (e : Entry). e.set)) at in
     subst (IsLine problem k) (get_or_from_slice_get sets i entry.set [] set_at) ((lines_in_table problem table k is person).some.lines i [] (slice_get_within sets i entry.set set_at))
 
 -- the first entry costs what the empty line does
-first-costs : (problem : Problem) (table : List (List Entry)) (k : ℕ) → IsTableOf problem table → k < length problem.persons → get_or (costs_of (lines_at table k)) 0 (pos 0) ≡ line_cost problem k []
+first-costs : (problem : Problem) (table : List (List Entry)) (k : ℕ) → AreListed problem table → k < length problem.persons → get_or (costs_of (lines_at table k)) 0 (pos 0) ≡ line_cost problem k []
 first-costs problem table k is person =
     let entries : List Entry = lines_at table k in
     let inside : 0 < length entries = omega (arith, slice_get_within (sets_of entries) 0 [] (first_line problem table k is person), length-map entries (λ (e : Entry). e.set)) in
@@ -82,12 +56,12 @@ first-costs problem table k is person =
     get_or_from_slice_get (costs_of entries) 0 entry.cost (pos 0) costs ∙ entry-costs problem table k 0 entry is person at ∙ ap (line_cost problem k) none
 
 -- what an entry costs more than the first one is what its set costs more than no pairings
-pub entry-extra : (problem : Problem) (table : List (List Entry)) (k i : ℕ) (entry : Entry) → IsTableOf problem table → k < length problem.persons → slice_get (lines_at table k) i ≡ Some entry → extra_in (lines_at table k) entry ≡ extra_of problem k entry.set
+pub entry-extra : (problem : Problem) (table : List (List Entry)) (k i : ℕ) (entry : Entry) → AreListed problem table → k < length problem.persons → slice_get (lines_at table k) i ≡ Some entry → extra_in (lines_at table k) entry ≡ extra_of problem k entry.set
 entry-extra problem table k i entry is person at =
     ap₂ (λ (a b : ℤ). a -ℤ b) (entry-costs problem table k i entry is person at) (first-costs problem table k is person)
 
 -- no line costs much more or less than the first one
-pub table-near : (problem : Problem) (table : List (List Entry)) (k : ℕ) → ((set : List ℕ) → IsLine problem k set → IsWithin most_extra (extra_of problem k set)) → IsTableOf problem table → k < length problem.persons → All (λ entry. IsWithin most_extra (extra_in (lines_at table k) entry)) (lines_at table k)
+pub table-near : (problem : Problem) (table : List (List Entry)) (k : ℕ) → ((set : List ℕ) → IsLine problem k set → IsWithin most_extra (extra_of problem k set)) → AreListed problem table → k < length problem.persons → All (λ entry. IsWithin most_extra (extra_in (lines_at table k) entry)) (lines_at table k)
 table-near problem table k near is person i d inside =
     let entries : List Entry = lines_at table k in
     let entry : Entry = get_or entries i d in

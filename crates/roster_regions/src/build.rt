@@ -3,7 +3,7 @@
 ghost use Rattle.std.specs.Prelude.{[], ◌≡◌, ◌<◌, ◌≤◌, ◌+◌, ◌^◌, ◌*◌, ◌*ℤ◌, ℕ, pos, IsTrue, ◌↔◌, List, OnOk, IfOk, All, length, slice_get, slice_index, max, take, Some, ◌-ℤ◌};
 ghost use Rattle.roster_cost.specs.Amounts.{IsWithin, most_extra};
 ghost use Rattle.roster_lines.specs.Entries.{Entry, sets_of};
-ghost use Rattle.roster_lines.specs.Person.{lines_at, IsTableOf};
+ghost use Rattle.roster_lines.specs.Person.{lines_at, AreListed};
 ghost use Rattle.roster_regions.specs.Building.{allowed_between, extra_in, AreCounted};
 ghost use Rattle.roster_model.specs.Rosters.{IsLegalRoster};
 ghost use Rattle.roster_regions.specs.Regions.{AllowedLine, IsIn, IsInRanges, IsRegion};
@@ -220,7 +220,7 @@ fn scale_for(greatest: u64) -> u32
 
 /// How many parts a cost unit is counted in: as many as there is room for at the problem's lines.
 pub(crate) fn scale_of(problem: &Problem, table: &Table) -> u32
-    requires table { IsTableOf problem.now table.now }
+    requires table { AreListed problem.now table.now }
     ensures some { 0 < result }
     ensures most { result ≤ MOST_SCALE }
     ensures counted { (k : ℕ) → k < length problem.now.persons
@@ -247,7 +247,7 @@ impl Region {
         table: &Table,
         ranges: &[(usize, usize)],
     ) -> Result<Region, AllocError>
-        requires table { IsTableOf problem.now table.now }
+        requires table { AreListed problem.now table.now }
         requires ranges { length ranges.now ≡ length table.now }
         ensures region { IfOk result (IsRegion problem.now) }
         ensures same { IfOk result (λ region. (places : List ℕ) → IsIn problem.now region places

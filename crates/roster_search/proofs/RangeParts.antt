@@ -1,27 +1,26 @@
 -- Parts of a box by ranges of lines.
 use Rattle.std.proofs.Common.{◌≡◌, ℕ, ◌<◌, true, false, cond, eqb, List, [], length, get_or, Some, ℤ, Option, None, refl, sym, ap, ◌∙◌, subst, inl, inr, arith}
 use Rattle.std.specs.Prelude.{slice_get}
-use Rattle.std.proofs.lemmas.Bool.{both_ways, cases_Bool, cases_lt}
+use Rattle.std.proofs.lemmas.Bool.{cases_Bool}
 use Rattle.std.proofs.lemmas.List.{length-map}
-use Rattle.std.proofs.lemmas.List.Elements.{All-nil}
 use Rattle.std.proofs.lemmas.Option.{same_Some, get_or_from_slice_get, slice_get-get_or, slice_get-map, slice_get_within}
-use Rattle.roster_model.specs.Lines.{AreLines, IsLine}
-use Rattle.roster_model.specs.Places.{places_le, set_of}
+use Rattle.roster_model.specs.Lines.{AreLines}
+use Rattle.roster_model.specs.Places.{set_of}
 use Rattle.roster_model.specs.Problem.{Problem}
 use Rattle.roster_model.specs.Rosters.{IsLegalRoster, Key}
 use Rattle.roster_model.specs.Settled.{Anywhere, Settles}
 use Rattle.roster_model.proofs.SettledLemmas.{Settles-wider, Settles-within}
-use Rattle.roster_model.proofs.SetLemmas.{rising_from_Ascends}
 use Rattle.roster_lines.specs.Entries.{Entry, sets_of}
-use Rattle.roster_lines.specs.Person.{lines_at, IsTableOf}
+use Rattle.roster_lines.specs.Person.{lines_at, AreListed, IsTableOf}
 use Rattle.roster_regions.specs.Regions.{IsInRanges}
 use Rattle.roster_search.specs.Least.{IsLeastBelow}
 use Rattle.roster_search.specs.Parts.{base_of_person, AreOwnRanges, AreWhole, IsInPart, IsNumbered}
 use Rattle.roster_search.proofs.Bases.{found_at}
 use Rattle.roster_search.proofs.Limits.{given_line}
 
--- ---- the first line
+-- ---- the lines of a person
 
+-- if they are all lines,
 lines_in_table : (problem : Problem) (table : List (List Entry)) (k : ℕ) → IsTableOf problem table → k < length problem.persons → AreLines problem k (sets_of (lines_at table k))
 lines_in_table problem table k is person =
     let none : List Entry = [] in
@@ -29,33 +28,15 @@ lines_in_table problem table k is person =
     let there = slice_get-get_or table k none inside in
     is.sets.each k (sets_of (get_or table k none)) (slice_get-map sets_of table k ∙ rw there refl)
 
-empty_is_line : (problem : Problem) (k : ℕ) → IsLine problem k []
-empty_is_line problem k = record {
-  ascending = rising_from_Ascends [] tt;
-  places = All-nil (λ p. p < length problem.pairings);
-  legal = inl refl;
-}
-
--- the first line is the empty one
-pub first_line : (problem : Problem) (table : List (List Entry)) (k : ℕ) → IsTableOf problem table → k < length problem.persons → slice_get (sets_of (lines_at table k)) 0 ≡ Some []
+-- and the first line, which is the empty one
+first_line : (problem : Problem) (table : List (List Entry)) (k : ℕ) → AreListed problem table → k < length problem.persons → slice_get (sets_of (lines_at table k)) 0 ≡ Some []
 first_line problem table k is person =
-    let sets : List (List ℕ) = sets_of (lines_at table k) in
-    let are = lines_in_table problem table k is person in
-    let found = are.every [] (empty_is_line problem k) in
-    elim (cases_lt 0 found.0) [
-      | inl later ↦
-          let inside = slice_get_within sets found.0 [] found.1 in
-          let before = are.some.ordered 0 found.0 [] later inside in
-          let empty : get_or sets found.0 [] ≡ [] = get_or_from_slice_get sets found.0 [] [] found.1 in
-          absurd (both_ways _ before (subst (λ (set : List ℕ). places_le set (get_or sets 0 []) ≡ true) (sym empty) refl))
-      | inr here ↦
-          let first : found.0 ≡ 0 = omega arith in
-          subst (λ i. slice_get sets i ≡ Some []) first found.1
-    ]
+    let none : List Entry = [] in
+    (is.each k (lines_at table k) (slice_get-get_or table k none (omega (arith, is.covers)))).first
 
 -- ---- the ranges of a base
 
-module _ (problem : Problem) (table : List (List Entry)) (ranges own : List (ℕ × ℕ)) (base : ℕ) (is : IsTableOf problem table) (covers : length ranges ≡ length problem.persons) (are : AreOwnRanges problem base ranges own) where
+module _ (problem : Problem) (table : List (List Entry)) (ranges own : List (ℕ × ℕ)) (base : ℕ) (is : AreListed problem table) (covers : length ranges ≡ length problem.persons) (are : AreOwnRanges problem base ranges own) where
   choice : ℕ → ℕ × ℕ → ℕ × ℕ
   choice k range = cond (eqb (base_of_person problem k) base) range (0, 1)
 

@@ -1,7 +1,7 @@
 //! The least roster of a box.
 
 ghost use Rattle.std.specs.Prelude.{◌≡◌, ◌+◌, ◌<◌, false, true, IfOk, MatchOption, Some, length, not, unwrap_or};
-ghost use Rattle.roster_lines.specs.Person.{IsTableOf};
+ghost use Rattle.roster_lines.specs.Person.{AreListed, IsTableOf};
 ghost use Rattle.roster_model.specs.Rosters.{key_le, key_of};
 ghost use Rattle.roster_model.specs.Settled.{Anywhere, IsHeld, Settles};
 ghost use Rattle.roster_regions.specs.Regions.{IsInRanges};
@@ -14,15 +14,15 @@ use crate::nodes::{Nodes, Unseen};
 use crate::parts::{all_open, merged};
 use crate::shared::{Part, least_at, parts_by_threads};
 use roster_cost::{Key, order_of_keys, roster_cost, shares_add_up};
-use roster_lines::Table;
+use roster_lines::{Table, all_lines_are_some};
 use roster_model::limits::MOST_BASES;
 use roster_problem::{Places, Problem, Roster};
 use std::alloc::{AllocError, Global};
 use std::thread::Threads;
 
 /// The least roster of the box, with its cost, if its key is before that of the known roster. The box has
-/// the legal rosters in which the line of each person has a number in the person's range: from its first
-/// number up to the second, which isn't in it.
+/// the legal rosters in which each person has a line of the table, whose number is in the person's range:
+/// from its first number up to the second, which isn't in it. The table may have some lines only.
 ///
 /// No line has another base's pairing, so each base is searched apart, and the answers are merged. Two
 /// problems that share nothing take as long as one after the other.
@@ -34,7 +34,7 @@ pub fn least_of_box<N: Nodes>(
     known: &Roster,
     nodes: &mut N,
 ) -> Result<Option<Roster>, AllocError>
-    requires table { IsTableOf problem.now table.now }
+    requires table { AreListed problem.now table.now }
     requires ranges { length ranges.now ≡ length table.now }
     requires known { IsHeld problem.now known.now }
     ensures settled { IfOk result (λ found. Settles problem.now
@@ -63,6 +63,7 @@ pub fn search_bases<R: Threads + Sync>(
         (Some known.now) (unwrap_or found known.now)) }
     ensures before { IfOk result (IsBefore known.now) }
 {
+    all_lines_are_some();
     let ranges = whole(alloc, problem, table)?;
     let ranges = ranges.as_slice();
     let parts = parts_by_threads(rt, alloc, problem, table, ranges, threads)?;
@@ -71,7 +72,7 @@ pub fn search_bases<R: Threads + Sync>(
 
 /// The range of all lines, for each person.
 fn whole(alloc: Global, problem: &Problem, table: &Table) -> Result<Vec<(usize, usize)>, AllocError>
-    requires { IsTableOf problem.now table.now }
+    requires { AreListed problem.now table.now }
     ensures { IfOk result (λ ranges. AreWhole table.now (length table.now) ranges.items) }
 {
     let mut ranges = Vec::new(alloc);
@@ -92,7 +93,7 @@ fn least_with<F: Finder>(
     finder: &mut F,
 ) -> Result<Option<Roster>, AllocError>
     requires finder { F.may_find }
-    requires table { IsTableOf problem.now table.now }
+    requires table { AreListed problem.now table.now }
     requires ranges { length ranges.now ≡ length table.now }
     requires parts { AreBaseParts problem.now table.now ranges.now parts.now }
     requires known { IsHeld problem.now known.now }
@@ -121,7 +122,7 @@ fn merged_bases<F: Finder>(
     finder: &mut F,
 ) -> Result<Option<Vec<u16>>, AllocError>
     requires finder { F.may_find }
-    requires table { IsTableOf problem.now table.now }
+    requires table { AreListed problem.now table.now }
     requires ranges { length ranges.now ≡ length table.now }
     requires parts { AreBaseParts problem.now table.now ranges.now parts.now }
     ensures least { IfOk result (λ places. MatchOption places
@@ -153,7 +154,7 @@ fn with_base<F: Finder>(
     finder: &mut F,
 ) -> Result<Option<Vec<u16>>, AllocError>
     requires finder { F.may_find }
-    requires table { IsTableOf problem.now table.now }
+    requires table { AreListed problem.now table.now }
     requires ranges { length ranges.now ≡ length table.now }
     requires parts { AreBaseParts problem.now table.now ranges.now parts.now }
     requires least { IsLeast problem.now (IsInPart problem.now table.now ranges.now (before base))

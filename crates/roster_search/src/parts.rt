@@ -1,7 +1,7 @@
 //! The parts of a box: the persons of one base each.
 
 ghost use Rattle.std.specs.Prelude.{◌≡◌, ◌<◌, ◌<ℤ◌, ◌^◌, ◌-◌, ◌==◌, IfOk, length, pos, replicate};
-ghost use Rattle.roster_lines.specs.Person.{IsTableOf};
+ghost use Rattle.roster_lines.specs.Person.{AreListed};
 ghost use Rattle.roster_search.specs.Least.{IsLeastBelow};
 ghost use Rattle.roster_search.specs.Parts.{merge, AreOwnRanges, IsInPart, IsRegionOfPart};
 
@@ -27,7 +27,7 @@ pub(crate) fn least_of_base<F: Finder>(
     finder: &mut F,
 ) -> Result<Option<Roster>, AllocError>
     requires finder { F.may_find }
-    requires table { IsTableOf problem.now table.now }
+    requires table { AreListed problem.now table.now }
     requires ranges { length ranges.now ≡ length table.now }
     ensures least { IfOk result (IsLeastBelow problem.now
         (IsInPart problem.now table.now ranges.now (λ b. b == base)) (pos (2 ^ 63 - 1))) }
@@ -49,7 +49,7 @@ pub(crate) fn least_of_base_by_threads<R: Threads + Sync>(
     ranges: &[(usize, usize)],
     base: usize,
 ) -> Result<Option<Roster>, AllocError>
-    requires table { IsTableOf problem.now table.now }
+    requires table { AreListed problem.now table.now }
     requires ranges { length ranges.now ≡ length table.now }
     requires threads { 0 < threads }
     ensures { IfOk result (IsLeastBelow problem.now
@@ -77,7 +77,7 @@ pub(crate) fn region_of_base(
     ranges: &[(usize, usize)],
     base: usize,
 ) -> Result<Region, AllocError>
-    requires table { IsTableOf problem.now table.now }
+    requires table { AreListed problem.now table.now }
     requires ranges { length ranges.now ≡ length table.now }
     ensures { IfOk result (IsRegionOfPart problem.now table.now ranges.now base) }
 {

@@ -2,7 +2,7 @@
 
 ghost use Rattle.std.specs.Prelude.{◌≡◌, ◌<◌, ◌^◌, ◌-◌, ◌==◌, All, IfOk, length, pos};
 ghost use Rattle.std.specs.Thread.{IsSync};
-ghost use Rattle.roster_lines.specs.Person.{IsTableOf};
+ghost use Rattle.roster_lines.specs.Person.{AreListed};
 ghost use Rattle.roster_search.specs.Least.{IsLeastBelow};
 ghost use Rattle.roster_search.specs.Parts.{AreBaseParts, IsInPart};
 
@@ -27,7 +27,7 @@ pub(crate) fn parts_by_threads<R: Threads + Sync>(
     ranges: &[(usize, usize)],
     threads: usize,
 ) -> Result<Vec<Part>, AllocError>
-    requires table { IsTableOf problem.now table.now }
+    requires table { AreListed problem.now table.now }
     requires ranges { length ranges.now ≡ length table.now }
     requires threads { 0 < threads }
     ensures { IfOk result (λ parts. AreBaseParts problem.now table.now ranges.now parts.items) }
@@ -38,7 +38,7 @@ pub(crate) fn parts_by_threads<R: Threads + Sync>(
     let idle = AtomicUsize::new(0);
     let each = threads_a_base(problem, threads);
     let turns = |_: usize| -> Result<Vec<Part>, AllocError>
-        requires { IsSync R.row × IsTableOf problem.now table.now
+        requires { IsSync R.row × AreListed problem.now table.now
             × (length ranges.now ≡ length table.now) × (0 < each) }
         ensures { IfOk result (λ parts.
             AreBaseParts problem.entry.now table.entry.now ranges.entry.now parts.items) }
@@ -49,7 +49,7 @@ pub(crate) fn parts_by_threads<R: Threads + Sync>(
 
 /// All bases, those whose persons have the most lines first. No answer rests on the order.
 fn by_size(alloc: Global, problem: &Problem, table: &Table) -> Result<Vec<usize>, AllocError>
-    requires { IsTableOf problem.now table.now }
+    requires { AreListed problem.now table.now }
 {
     let mut sizes: Vec<(usize, usize)> = Vec::new(alloc);
     for base in 0..MOST_BASES {
@@ -65,7 +65,7 @@ fn by_size(alloc: Global, problem: &Problem, table: &Table) -> Result<Vec<usize>
 
 /// How many lines the persons of the base have.
 fn lines_of_base(problem: &Problem, table: &Table, base: usize) -> usize
-    requires { IsTableOf problem.now table.now }
+    requires { AreListed problem.now table.now }
 {
     let mut lines: usize = 0;
     for k in 0..problem.persons().len() {
@@ -104,7 +104,7 @@ fn parts_in_turn<R: Threads + Sync>(
     next: &AtomicUsize,
     idle: &AtomicUsize,
 ) -> Result<Vec<Part>, AllocError>
-    requires table { IsTableOf problem.now table.now }
+    requires table { AreListed problem.now table.now }
     requires ranges { length ranges.now ≡ length table.now }
     requires threads { 0 < threads }
     ensures { IfOk result (λ parts. AreBaseParts problem.now table.now ranges.now parts.items) }
@@ -157,7 +157,7 @@ pub(crate) fn least_at<F: Finder>(
     finder: &mut F,
 ) -> Result<Option<Roster>, AllocError>
     requires finder { F.may_find }
-    requires table { IsTableOf problem.now table.now }
+    requires table { AreListed problem.now table.now }
     requires ranges { length ranges.now ≡ length table.now }
     requires parts { AreBaseParts problem.now table.now ranges.now parts.now }
     ensures least { IfOk result (IsLeastBelow problem.now

@@ -5,6 +5,7 @@
 //! - `judged`: lines beside all sets that are judged from the first duty to the last
 //! - `lines`: the lines of persons, and their numbers
 //! - `random`: books that are put together at random
+//! - `wanted`: the lines that are wanted, beside all lines
 //! - `searches`: the search beside the walk of lines and the plain search
 #![tactic(auto)]
 
@@ -18,3 +19,5 @@ mod lines;
 mod random;
 #[cfg(test)]
 mod searches;
+#[cfg(test)]
+mod wanted;

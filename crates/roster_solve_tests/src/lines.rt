@@ -4,8 +4,9 @@ ghost use Rattle.roster_lines.specs.Person.{IsTableOf};
 
 use crate::books::{problem_of, problem_with, read};
 use roster_lines::{
-    Lines, LinesFault, SharedLines, Table, TableFault, all_lines, few_are_not_crowded, has_numbers,
-    lines_of, nobody_is_crowded, one_list_of_lines, one_list_of_numbers, table_of,
+    Lines, LinesFault, SharedLines, Table, TableFault, all_lines, all_lines_are_some,
+    few_are_not_crowded, has_numbers, lines_of, nobody_is_crowded, one_list_of_lines,
+    one_list_of_numbers, table_of,
 };
 use roster_model::limits::MOST_PAIRINGS;
 use roster_problem::{Problem, Set};
@@ -15,7 +16,7 @@ use std::test::Fail;
 use std::thread::Threads;
 
 /// Five pairings on one day, and five on the next.
-const TWO_DAYS: [u8; 10] = [4, 4, 4, 4, 4, 5, 5, 5, 5, 5];
+pub const TWO_DAYS: [u8; 10] = [4, 4, 4, 4, 4, 5, 5, 5, 5, 5];
 
 /// Eight pairings on the first day, and one on every other day after it: more than `MOST_LINES` sets.
 const MANY: [u8; 23] = [
@@ -41,7 +42,7 @@ leave,C,2024-03-01T00:00Z,2024-04-01T00:00Z
 
 /// A has a target of 500 minutes, and B none, but a fixed duty with 60 minutes of flight. P1 flies 480
 /// minutes, and P2 240. Each minute that a target is missed by costs 2.
-const COSTS: &[u8] = b"period,2024-03
+pub const COSTS: &[u8] = b"period,2024-03
 weight,2
 base,BAS,UTC0
 crew,A,BAS,500,0,0
@@ -59,7 +60,7 @@ cost,A,P2,-30
 ";
 
 /// The set of these pairings.
-fn set_of(pairings: &[usize]) -> Set {
+pub fn set_of(pairings: &[usize]) -> Set {
     let mut places = [1; MOST_PAIRINGS];
     for p in pairings {
         if *p < MOST_PAIRINGS {
@@ -346,6 +347,7 @@ fn threads_may_have_nobody_to_work_for(rt: HostRuntime) -> Result<(), Fail> {
 #[test]
 fn laws_of_lines_can_be_called() {
     one_list_of_lines();
+    all_lines_are_some();
     few_are_not_crowded();
     nobody_is_crowded();
     has_numbers();

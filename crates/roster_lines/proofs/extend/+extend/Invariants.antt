@@ -7,16 +7,17 @@ use Rattle.roster_lines.specs.Person.{AreCosted}
 use Rattle.roster_lines.proofs.extend.+extend.Given as goal
 
 abbrev pub decreases-extend : goal.decreases-extend
-decreases-extend l = MOST_PAIRINGS - length l.stem.now.set
+decreases-extend g l = MOST_PAIRINGS - length l.stem.now.set
 
 -- the lines before those that go on from the stem with a later candidate
 abbrev pub invariant-loop-p : goal.invariant-loop-p
-invariant-loop-p l = record {
+invariant-loop-p g l = record {
   within : l.from ≤ length l.problem.pairings;
-  lines : IsUpTo l.problem l.k (l.stem.set ++ l.from ∷ []) (sets_of l.lines);
+  lines : IsUpTo l.problem l.k (g.W.Wanted.wants l.wanted l.problem l.k) (l.stem.set ++ l.from ∷ []) (sets_of l.lines);
   costs : AreCosted l.problem l.k l.lines;
+  few : length l.lines ≤ l.most;
   kept : (i : ℕ) (set : List ℕ) → slice_get (sets_of l.initial.lines) i ≡ Some set → slice_get (sets_of l.lines) i ≡ Some set;
 }
 
 abbrev pub decreases-loop-p : goal.decreases-loop-p
-decreases-loop-p l = MOST_PAIRINGS - l.from
+decreases-loop-p g l = MOST_PAIRINGS - l.from

@@ -1,8 +1,6 @@
 use Rattle.std.proofs.Common.{◌≡◌, length, subst, arith}
 use Rattle.std.specs.Prelude.{MatchOption}
-use Rattle.std.proofs.lemmas.List.{length-map}
 use Rattle.std.proofs.lemmas.Option.{MatchOption-at_some}
-use Rattle.roster_lines.specs.Entries.{sets_of}
 use Rattle.roster_model.specs.Rosters.{key_of}
 use Rattle.roster_regions.specs.Regions.{IsInRanges}
 use Rattle.roster_search.specs.Least.{IsLeast}
@@ -15,7 +13,7 @@ returns-in-None-clause-settled g c =
     let problem = c.args.problem.now in
     let table = c.args.table.now in
     let ranges = c.args.ranges.now in
-    let covers : length ranges ≡ length problem.persons = omega (arith, c.requires.ranges, c.requires.table.sets.covers, length-map table sets_of) in
+    let covers : length ranges ≡ length problem.persons = omega (arith, c.requires.ranges, c.requires.table.covers) in
     let none : IsWithoutPart problem table ranges = subst (λ found. MatchOption found (IsWithoutPart problem table ranges) (λ places. IsLeast problem (IsInRanges table ranges) (key_of problem places.items))) c.in-None.is c.in_ok-places.ensures.least in
     settled_by_none problem table ranges none.0 c.args.known.now covers c.requires.known none.1 c.costs_fit.ensures.high
 
@@ -24,6 +22,6 @@ returns-in-Some-clause-settled g c =
     let problem = c.args.problem.now in
     let table = c.args.table.now in
     let ranges = c.args.ranges.now in
-    let covers : length ranges ≡ length problem.persons = omega (arith, c.requires.ranges, c.requires.table.sets.covers, length-map table sets_of) in
+    let covers : length ranges ≡ length problem.persons = omega (arith, c.requires.ranges, c.requires.table.covers) in
     let least = MatchOption-at_some _ _ _ c.in-Some.is c.in_ok-places.ensures.least in
     settled_by_earlier problem (IsInRanges table ranges) (IsInRanges table ranges) c.args.known.now c.in-Some.places.items c.if_before.result c.requires.known least.held.legal least.least least.inside c.if_before.ensures.earlier

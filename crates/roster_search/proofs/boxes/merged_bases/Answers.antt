@@ -1,6 +1,4 @@
 use Rattle.std.proofs.Common.{◌≡◌, length, arith}
-use Rattle.std.proofs.lemmas.List.{length-map}
-use Rattle.roster_lines.specs.Entries.{sets_of}
 use Rattle.roster_model.specs.Rosters.{key_of}
 use Rattle.roster_search.proofs.BoxLemmas.{least_of_all, least_of_none}
 use Rattle.roster_search.proofs.boxes.merged_bases.Goals as goal
@@ -16,5 +14,5 @@ returns-clause-least g c =
     let problem = c.args.problem.now in
     let table = c.args.table.now in
     let ranges = c.args.ranges.now in
-    let covers : length ranges ≡ length problem.persons = omega (arith, c.requires.ranges, c.requires.table.sets.covers, length-map table sets_of) in
+    let covers : length ranges ≡ length problem.persons = omega (arith, c.requires.ranges, c.requires.table.covers) in
     least_of_all problem table ranges c.loop-base.base (key_of problem c.loop-base.places.items) c.is_sound.ensures.sound covers (omega (arith, c.loop-base-test.false, c.loop-base.auto.base-end)) c.loop-base.invariant.least

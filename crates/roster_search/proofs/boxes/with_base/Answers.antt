@@ -1,6 +1,4 @@
 use Rattle.std.proofs.Common.{◌≡◌, ◌-◌, ◌^◌, ℕ, List, length, eqb, pos, ap, subst, ◌∙◌, arith}
-use Rattle.std.proofs.lemmas.List.{length-map}
-use Rattle.roster_lines.specs.Entries.{sets_of}
 use Rattle.roster_search.specs.Least.{IsLeastBelow}
 use Rattle.roster_search.specs.Parts.{merge, IsInPart}
 use Rattle.roster_search.proofs.BoxLemmas.{least_of_next}
@@ -17,7 +15,7 @@ returns-in-Some-clause-least g c =
     let problem = c.args.problem.now in
     let table = c.args.table.now in
     let ranges = c.args.ranges.now in
-    let covers : length ranges ≡ length problem.persons = omega (arith, c.requires.ranges, c.requires.table.sets.covers, length-map table sets_of) in
+    let covers : length ranges ≡ length problem.persons = omega (arith, c.requires.ranges, c.requires.table.covers) in
     let base : ℕ = c.args.base in
     let part = subst (λ found. IsLeastBelow problem (IsInPart problem table ranges (λ b. eqb b base)) (pos (2 ^ 63 - 1)) found) c.in-Some.is c.in_ok-part.ensures.least in
     let old : List ℕ = c.args.places.items in

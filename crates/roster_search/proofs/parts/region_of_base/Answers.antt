@@ -1,6 +1,4 @@
 use Rattle.std.proofs.Common.{◌≡◌, length, sym, subst, arith}
-use Rattle.std.proofs.lemmas.List.{length-map}
-use Rattle.roster_lines.specs.Entries.{sets_of}
 use Rattle.roster_search.specs.Parts.{AreOwnRanges, IsRegionOfPart}
 use Rattle.roster_search.proofs.FindLemmas.{both_if_ok}
 use Rattle.roster_search.proofs.RangeParts.{in_part_from_ranges, in_ranges_from_part}
@@ -13,7 +11,7 @@ returns c =
     let ranges = c.args.ranges.now in
     let base = c.args.base in
     let own = c.deref.result.now in
-    let covers : length ranges ≡ length problem.persons = omega (arith, c.requires.ranges, c.requires.table.sets.covers, length-map table sets_of) in
+    let covers : length ranges ≡ length problem.persons = omega (arith, c.requires.ranges, c.requires.table.covers) in
     let are = subst (AreOwnRanges problem base ranges) (sym c.deref.ensures.value) c.in_ok-own.ensures in
     both_if_ok c.of_ranges.result _ _ (IsRegionOfPart problem table ranges base) c.of_ranges.ensures.region c.of_ranges.ensures.same
     (λ region is same. record {

@@ -2,7 +2,7 @@ use Rattle.std.proofs.Common.{◌≡◌, ◌∙◌, ◌++◌, ◌∷◌, [], Lis
 use Rattle.std.proofs.lemmas.Result.{MatchResult-at_ok, MatchResult-at_err}
 use Rattle.roster_model.specs.Lines.{IsFirstCrowded}
 use Rattle.roster_lines.specs.Entries.{Entry}
-use Rattle.roster_lines.specs.Listing.{IsFaultOf}
+use Rattle.roster_lines.specs.SomeLines.{IsFaultOf}
 use Rattle.roster_lines.specs.Made.{AreMade, IsTableSoFar}
 use Rattle.roster_lines.proofs.Made.{IsFirstCrowded-next, IsTableSoFar-push}
 use Rattle.roster_lines.proofs.table.Table.add.Goals as goal

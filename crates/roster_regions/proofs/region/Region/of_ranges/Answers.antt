@@ -1,7 +1,5 @@
 use Rattle.std.proofs.Common.{◌≡◌, length, w64, to_z, of_z, refl, ap, ◌∙◌, arith}
 use Rattle.std.proofs.lemmas.Int.{to_z-of_z}
-use Rattle.std.proofs.lemmas.List.{length-map}
-use Rattle.roster_lines.specs.Entries.{sets_of}
 use Rattle.roster_cost.specs.Amounts.{cost_without_pairings}
 use Rattle.roster_model.specs.Problem.{Problem}
 use Rattle.roster_regions.specs.Regions.{idle_cost}
@@ -23,7 +21,7 @@ has c =
     record {
       is = c.requires.table;
       covers = omega (arith, persons, c.loop-k.invariant.covers);
-      ranged = omega (arith, c.requires.ranges, c.requires.table.sets.covers, length-map c.args.table.now sets_of);
+      ranged = omega (arith, c.requires.ranges, c.requires.table.covers);
       each = λ k person. c.loop-k.invariant.each k (omega (arith, persons));
       idle = to_z-of_z w64 c.cost_without_pairings.result (record { sfits = c.cost_without_pairings.type_inv }) ∙ c.cost_without_pairings.ensures.value ∙ idle_is c.args.problem.now;
       left_open = c.empty.ensures;

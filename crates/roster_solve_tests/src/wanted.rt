@@ -1,0 +1,121 @@
+//! The lines that are wanted, beside all lines.
+
+ghost use Rattle.std.specs.Prelude.{◌<◌, ◌≤◌};
+
+use crate::books::{problem_of, read};
+use crate::lines::{COSTS, TWO_DAYS, set_of};
+use roster_lines::{Lines, LinesFault, Wanted, lines_between, lines_of, wanted_lines};
+use roster_model::limits::MOST_LINES;
+use roster_problem::{Problem, Set};
+use std::alloc::Global;
+use std::process::Abort;
+use std::test::Fail;
+
+/// No line is wanted.
+#[derive(Clone, Copy)]
+struct Nothing;
+
+impl Wanted for Nothing {
+    ghost wants = { λ nothing problem k set. ⊥ };
+
+    fn goes_on(&self, _: &Problem, _: usize, _: &Set, _: usize, _: i64, _: u64) -> bool {
+        false
+    }
+}
+
+/// The lines of the first person between the two sets, no more than `most`.
+fn between(
+    rt: &impl Abort,
+    alloc: Global,
+    problem: &Problem,
+    must: &[usize],
+    may: &[usize],
+    most: usize,
+) -> Result<Lines, LinesFault>
+    requires { (0 < most) × (most ≤ MOST_LINES) }
+{
+    assert!(rt; !problem.persons().is_empty());
+    lines_between(alloc, problem, 0, set_of(must), set_of(may), most)
+}
+
+/// Whether the two have the same sets at the same cost.
+fn are_same(a: &Lines, b: &Lines) -> bool {
+    if a.width() != b.width() {
+        return false;
+    }
+    for i in 0..a.width() {
+        if a.set(i) != b.set(i) || a.cost(i) != b.cost(i) {
+            return false;
+        }
+    }
+    true
+}
+
+#[test]
+fn between_nothing_and_all_are_all_lines(rt: HostRuntime) -> Result<(), Fail> {
+    let problem = problem_of(rt.alloc(), &TWO_DAYS)?;
+    assert!(rt; !problem.persons().is_empty());
+    let all = [0, 1, 2, 3, 4, 5, 6, 7, 8, 9];
+    let lines = between(&rt, rt.alloc(), &problem, &[], &all, MOST_LINES)?;
+    assert!(rt; are_same(&lines, &lines_of(rt.alloc(), &problem, 0)?));
+    Ok(())
+}
+
+/// Checks the lines that hold the eighth pairing, and may hold the first or the sixth, which is on the
+/// day of the eighth. Those that hold none of the second day but the sixth are on the way.
+fn go_by_the_sixth(rt: &impl Abort, lines: &Lines) {
+    assert!(rt; lines.width() == 6);
+    assert!(rt; lines.find(&set_of(&[])) == Some(0));
+    assert!(rt; lines.find(&set_of(&[0])) == Some(1));
+    assert!(rt; lines.find(&set_of(&[0, 5])) == Some(2));
+    assert!(rt; lines.find(&set_of(&[0, 7])) == Some(3));
+    assert!(rt; lines.find(&set_of(&[5])) == Some(4));
+    assert!(rt; lines.find(&set_of(&[7])) == Some(5));
+}
+
+#[test]
+fn lines_hold_what_they_must(rt: HostRuntime) -> Result<(), Fail> {
+    let problem = problem_of(rt.alloc(), &TWO_DAYS)?;
+    let lines = between(&rt, rt.alloc(), &problem, &[7], &[0, 5], MOST_LINES)?;
+    go_by_the_sixth(&rt, &lines);
+    Ok(())
+}
+
+#[test]
+fn nothing_stands_behind_what_is_missing(rt: HostRuntime) -> Result<(), Fail> {
+    let problem = problem_of(rt.alloc(), &TWO_DAYS)?;
+    let lines = between(&rt, rt.alloc(), &problem, &[5], &[0, 9], 4)?;
+    assert!(rt; lines.width() == 4);
+    assert!(rt; lines.find(&set_of(&[0, 5])) == Some(2));
+    assert!(rt; lines.find(&set_of(&[5])) == Some(3));
+    Ok(())
+}
+
+#[test]
+fn more_lines_than_so_many_are_not_listed(rt: HostRuntime) -> Result<(), Fail> {
+    let problem = problem_of(rt.alloc(), &TWO_DAYS)?;
+    let lines = between(&rt, rt.alloc(), &problem, &[5], &[0, 9], 3);
+    assert!(rt; matches!(lines, Err(LinesFault::TooMany)));
+    Ok(())
+}
+
+#[test]
+fn lines_between_cost_what_they_do_among_all(rt: HostRuntime) -> Result<(), Fail> {
+    let problem = read(rt.alloc(), COSTS)?;
+    let lines = between(&rt, rt.alloc(), &problem, &[1], &[0], MOST_LINES)?;
+    assert!(rt; lines.width() == 4);
+    for (i, cost) in [1000, 47, 417, 490].iter().enumerate() {
+        assert!(rt; lines.cost(i) == *cost);
+    }
+    Ok(())
+}
+
+#[test]
+fn the_empty_line_is_there_if_nothing_is_wanted(rt: HostRuntime) -> Result<(), Fail> {
+    let problem = problem_of(rt.alloc(), &TWO_DAYS)?;
+    assert!(rt; !problem.persons().is_empty());
+    let lines = wanted_lines(rt.alloc(), &problem, 0, &Nothing, 1)?;
+    assert!(rt; lines.width() == 1);
+    assert!(rt; lines.set(0).is_empty());
+    Ok(())
+}
