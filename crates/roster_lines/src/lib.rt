@@ -30,6 +30,7 @@ pub use laws::{
     few_are_not_crowded, has_numbers, nobody_is_crowded, one_list_of_lines, one_list_of_numbers,
 };
 pub use lines::{Lines, Row};
+pub use pairs::{Pairs, pairs_of};
 pub use shared::all_lines;
 pub use shared_lines::SharedLines;
 pub use table::{Table, TableFault, table_of};
