@@ -1,7 +1,7 @@
 -- What chains bring, and that each line of a person is a chain.
-use Rattle.std.proofs.Common.{◌≡◌, ℕ, ◌+◌, ◌-◌, ◌*◌, ◌<◌, ◌≤◌, Bool, true, false, ltb, eqb, cond, List, [], ◌∷◌, length, get_or, Some, refl, sym, ap, ◌∙◌, subst, inl, inr, arith, ℤ, pos, ◌+ℤ◌, ◌-ℤ◌, ◌*ℤ◌, ◌≤ℤ◌}
+use Rattle.std.proofs.Common.{◌≡◌, ℕ, ◌+◌, ◌-◌, ◌*◌, ◌<◌, true, ltb, cond, List, [], ◌∷◌, length, get_or, refl, sym, ap, ◌∙◌, subst, inl, inr, arith, ℤ, pos, ◌+ℤ◌, ◌-ℤ◌, ◌*ℤ◌, ◌≤ℤ◌}
 use Rattle.std.proofs.Math.Nat.{add-mul}
-use Rattle.std.specs.Prelude.{All, slice_get}
+use Rattle.std.specs.Prelude.{All}
 use Rattle.std.specs.List.{sum_by}
 use Rattle.std.specs.List.Sorted.{IsStrictlyIncreasing}
 use Rattle.std.proofs.lemmas.Bool.{cases_eq, cases_lt, lt-ltb, le-ltb, false≢true}
@@ -9,9 +9,9 @@ use Rattle.std.proofs.lemmas.Int.{ints}
 use Rattle.std.proofs.lemmas.List.Elements.{All-head, All-tail}
 use Rattle.std.proofs.lemmas.List.Sums.{sum_by-cons}
 use Rattle.std.proofs.lemmas.Option.{slice_get-get_or}
-use Rattle.roster_model.specs.Costs.{distance, flight_of, line_cost, missed_target, total}
+use Rattle.roster_model.specs.Costs.{flight_of, total}
 use Rattle.roster_model.specs.Lines.{IsLine}
-use Rattle.roster_model.specs.Problem.{Problem, target_of, units_of, weight_of}
+use Rattle.roster_model.specs.Problem.{Problem, units_of}
 use Rattle.roster_model.specs.Rules.{is_among, IsLegal}
 use Rattle.roster_model.proofs.CostLemmas.{total-nil, total-cons}
 use Rattle.roster_model.proofs.SetLemmas.{is_among-here, is_among-later, All-is_among, Ascends, Ascends-from_rising}
@@ -79,7 +79,7 @@ chain_adds network values f (p ∷ rest) inside =
     let behind = chain_adds network values next rest (next_inside states f step (omega arith)) in
     let first = total-cons (value_at values) p rest in
     let there : value_at network.terms.items (next_state states next more) ≡ value_at network.terms.items (next_state states f (sum_by (λ q. get_or network.steps.items q 0) (p ∷ rest))) =
-        ap (value_at network.terms.items) (next_next states f step more (omega arith) ∙ ap (next_state states f) (sym (sum_by-cons (λ q. get_or network.steps.items q 0) p rest))) in
+    ap (value_at network.terms.items) (next_next states f step more (omega arith) ∙ ap (next_state states f) (sym (sum_by-cons (λ q. get_or network.steps.items q 0) p rest))) in
     omega (arith, ints, behind, first, there, chain-cons network values f p rest)
 
 -- ---- lines are chains
@@ -141,6 +141,7 @@ sum_steps problem k step steps are (p ∷ rest) inside =
     let behind = sum_steps problem k step steps are rest (All-tail (λ q. q < length problem.pairings) p rest inside) in
     let split : (get_or steps p 0 + sum_by (λ q. get_or steps q 0) rest) * step ≡ get_or steps p 0 * step + sum_by (λ q. get_or steps q 0) rest * step = add-mul (get_or steps p 0) (sum_by (λ q. get_or steps q 0) rest) step in
     ap (λ n. n * step) (sum_by-cons (λ q. get_or steps q 0) p rest) ∙ split ∙ ap (λ n. n + sum_by (λ q. get_or steps q 0) rest * step) here ∙ ap (λ n. minutes_of_pairing problem k p + n) behind ∙ sym (sum_by-cons (minutes_of_pairing problem k) p rest)
+
 -- the flight of a set is that of the fixed duties and of its pairings
 abbrev pub AddsFlight : Problem → ℕ → List ℕ → Type 0
 AddsFlight problem k set = flight_of problem k set ≡ flight_of problem k [] + sum_by (minutes_of_pairing problem k) set
@@ -188,8 +189,8 @@ pub least_is : (problem : Problem) (prices : List ℤ) (k : ℕ) (network : Netw
 least_is problem prices k network values row parts adds is are row_is set line =
     let together = line_together problem k set parts line in
     let begins : (p : ℕ) (rest : List ℕ) → set ≡ p ∷ rest → is_among network.first p ≡ true = λ p rest e.
-        let among : is_among set p ≡ true = subst (λ s. is_among s p ≡ true) (sym e) (is_among-here p rest) in
-        (is.alone p).1 (All-is_among (λ r. r < length problem.pairings) set p line.places among, parts set (p ∷ []) (single_among set p among) line.legal) in
+    let among : is_among set p ≡ true = subst (λ s. is_among s p ≡ true) (sym e) (is_among-here p rest) in
+    (is.alone p).1 (All-is_among (λ r. r < length problem.pairings) set p line.places among, parts set (p ∷ []) (single_among set p among) line.legal) in
     let chain = chain_of problem k network is network.first set (Ascends-from_rising set line.ascending) line.places together begins in
     let below = row_is.below 0 is.some set chain in
     let cost = reduced_below problem prices k network values set is are (adds set line.ascending) line in

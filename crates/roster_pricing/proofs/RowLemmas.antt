@@ -1,5 +1,5 @@
 -- Lists that grow, and rows that say what chains bring at least.
-use Rattle.std.proofs.Common.{◌≡◌, ℕ, ◌+◌, ◌-◌, ◌*◌, ◌<◌, ◌≤◌, true, List, [], ◌∷◌, ◌++◌, length, get_or, Some, refl, sym, ap, ◌∙◌, subst, inl, inr, arith, ℤ, pos, neg_ℤ, ◌+ℤ◌, ◌≤ℤ◌}
+use Rattle.std.proofs.Common.{◌≡◌, ℕ, ◌+◌, ◌-◌, ◌*◌, ◌<◌, ◌≤◌, true, List, [], ◌∷◌, ◌++◌, length, get_or, Some, refl, sym, ap, ◌∙◌, subst, inl, inr, arith, ℤ, ◌+ℤ◌, ◌≤ℤ◌}
 use Rattle.std.specs.Prelude.{All, slice_get}
 use Rattle.std.proofs.lemmas.Bool.{cases_eq, cases_lt}
 use Rattle.std.proofs.lemmas.Int.{ints}
@@ -42,7 +42,7 @@ pub row_is : (problem : Problem) (network : Network) (values : List ℤ) (rows :
     → 0 < length network.terms.items → AreRows problem network values rows → length row ≡ length network.terms.items
     → ((f : ℕ) → f < length network.terms.items → value_at row f ≤ℤ value_at network.terms.items f)
     → ((q : ℕ) (behind : List ℤ) → is_among first q ≡ true → slice_get rows (length problem.pairings - 1 - q) ≡ Some behind
-        → (f : ℕ) → f < length network.terms.items → value_at row f ≤ℤ (value_at values q +ℤ value_at behind (next_state (length network.terms.items) f (get_or network.steps.items q 0))))
+    → (f : ℕ) → f < length network.terms.items → value_at row f ≤ℤ (value_at values q +ℤ value_at behind (next_state (length network.terms.items) f (get_or network.steps.items q 0))))
     → ((q : ℕ) → is_among first q ≡ true → (q < length problem.pairings) × (length problem.pairings - 1 - q < length rows))
     → IsRow network values first row
 row_is problem network values rows first row some are covers ended led there = record { covers = covers; below = below }
@@ -86,8 +86,8 @@ unfolding IsRowOf
 rows_more problem network values old new row p are pushed inside long is within =
     let count : length (old ++ row ∷ []) ≡ length old + 1 = length_push old row in
     let each = each-push (IsRowOf problem network values) old row
-        (λ i r at q below place. are.each q r below (subst (λ j. slice_get old j ≡ Some r) (sym place) at))
-        (λ q below place. subst (λ j. IsRow network values (followers_of network.followers.items j) row) (same_place p q (length problem.pairings) (length old) inside below long place) is) in
+    (λ i r at q below place. are.each q r below (subst (λ j. slice_get old j ≡ Some r) (sym place) at))
+    (λ q below place. subst (λ j. IsRow network values (followers_of network.followers.items j) row) (same_place p q (length problem.pairings) (length old) inside below long place) is) in
     let most : ℕ = MOST_TERM + length (old ++ row ∷ []) * MOST_VALUE in
     let here : MOST_TERM + (length old + 1) * MOST_VALUE ≤ most = omega (arith, count) in
     let before : MOST_TERM + length old * MOST_VALUE ≤ most = omega (arith, count) in

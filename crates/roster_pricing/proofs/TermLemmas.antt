@@ -1,5 +1,5 @@
 -- What flight costs at the end of a chain, state by state.
-use Rattle.std.proofs.Common.{◌≡◌, ℕ, ◌+◌, ◌-◌, ◌*◌, ◌<◌, ◌≤◌, List, [], ◌∷◌, ◌++◌, length, get_or, refl, sym, ap, ◌∙◌, subst, inl, inr, arith, ℤ, pos, ◌-ℤ◌, ◌*ℤ◌, ◌≤ℤ◌}
+use Rattle.std.proofs.Common.{◌≡◌, ℕ, ◌+◌, ◌-◌, ◌*◌, ◌<◌, ◌≤◌, List, [], ◌∷◌, ◌++◌, length, ap, ◌∙◌, inl, inr, arith, ℤ, pos, ◌-ℤ◌, ◌*ℤ◌, ◌≤ℤ◌}
 use Rattle.std.proofs.Math.Nat.{mul-le-mul_left, mul-le-mul_right}
 use Rattle.std.proofs.lemmas.Bool.{cases_lt, lt-ltb, le-ltb}
 use Rattle.std.proofs.lemmas.Int.{ints}
@@ -38,13 +38,13 @@ terms_are problem k step last fixed front terms end pushed long none each ends s
     elim (cases_lt steps last) [
       | inl below ↦
           let at : value_at terms (next_state (length terms) 0 steps) ≡ value_at front steps =
-              ap (value_at terms) (next_below (length terms) steps (omega (arith, count, below)))
-              ∙ ap (λ (xs : List ℤ). value_at xs steps) pushed ∙ get_or_append_left front (end ∷ []) (pos 0) steps (omega (arith, long, below)) in
+          ap (value_at terms) (next_below (length terms) steps (omega (arith, count, below)))
+          ∙ ap (λ (xs : List ℤ). value_at xs steps) pushed ∙ get_or_append_left front (end ∷ []) (pos 0) steps (omega (arith, long, below)) in
           omega (arith, ints, at, each steps below, idle, flight)
       | inr above ↦
           let there : next_state (length terms) 0 steps ≡ last = ap (λ n. next_state n 0 steps) count ∙ next_above last steps above in
           let at : value_at terms (next_state (length terms) 0 steps) ≡ end =
-              ap (value_at terms) there ∙ ap (λ (xs : List ℤ). value_at xs last) pushed ∙ get_or_push front end (pos 0) last long in
+          ap (value_at terms) there ∙ ap (λ (xs : List ℤ). value_at xs last) pushed ∙ get_or_push front end (pos 0) last long in
           let more = mul-le-mul_right step above in
           let below = last_below problem k (fixed + last * step) (fixed + steps * step) (omega (arith, more)) in
           omega (arith, ints, at, ends, below, idle, flight)

@@ -1,6 +1,6 @@
 -- Chains of pairings: each may follow the one before. What a chain brings depends on the flight before it,
 -- which is counted in steps up to a last state.
-use Rattle.std.specs.Prelude.{◌≡◌, ℕ, ◌+◌, ◌-◌, ◌<◌, nat_lt, if◌then◌else◌, true, List, [], ◌∷◌, length, slice_get, slice_index, slice_index_or, Some, ℤ, pos, ◌+ℤ◌, ◌≤ℤ◌}
+use Rattle.std.specs.Prelude.{◌≡◌, ℕ, ◌+◌, ◌-◌, ◌<◌, nat_lt, if◌then◌else◌, true, List, [], ◌∷◌, length, slice_index, slice_index_or, ℤ, pos, ◌+ℤ◌, ◌≤ℤ◌}
 use Rattle.roster_model.specs.Rules.{is_among}
 use Rattle.roster_pricing.specs.declared.network.Network.{Network}
 

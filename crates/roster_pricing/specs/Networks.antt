@@ -1,12 +1,11 @@
 -- The network of a person: which pairings may follow one another, and what flight costs at the end.
-use Rattle.std.specs.Prelude.{◌≡◌, ℕ, ◌+◌, ◌*◌, ◌-◌, ◌<◌, ◌≤◌, true, List, [], length, slice_get, slice_index, Some, ℤ, pos, ◌-ℤ◌, ◌*ℤ◌, ◌≤ℤ◌, All}
+use Rattle.std.specs.Prelude.{◌≡◌, ℕ, ◌+◌, ◌*◌, ◌-◌, ◌<◌, ◌≤◌, List, [], length, slice_get, slice_index, Some, ℤ, pos, ◌-ℤ◌, ◌*ℤ◌, ◌≤ℤ◌, All}
 use Rattle.roster_model.specs.Costs.{distance, flight_of}
 use Rattle.roster_model.specs.Problem.{Problem, target_of, units_of, weight_of}
-use Rattle.roster_model.specs.Rules.{is_among}
 use Rattle.roster_cost.specs.Amounts.{IsWithin, minutes_of_pairing}
 use Rattle.roster_lines.specs.Listing.{AreAlone, IsRow as AreFollowers}
 use Rattle.roster_pricing.specs.declared.network.Network.{Network}
-use Rattle.roster_pricing.specs.declared.parts.TheConstants.{MOST_AMOUNT, MOST_TERM, MOST_VALUE, PARTS}
+use Rattle.roster_pricing.specs.declared.parts.TheConstants.{MOST_TERM, MOST_VALUE, PARTS}
 use Rattle.roster_pricing.specs.Chains.{followers_of, next_state, value_at, IsRow}
 use Rattle.roster_pricing.specs.Reduced.{price_at}
 

@@ -73,7 +73,9 @@ fn are_multiples(flights: &[u64], step: u64) -> bool
     requires { 0 < step }
     ensures { IsTrue result → All (λ flight. flight / step * step ≡ flight) flights.now }
 {
-    flights.iter().all(|flight| *flight / step * step == *flight)
+    flights
+        .iter()
+        .all(|flight| *flight / step * step == *flight)
 }
 
 /// The flights in steps.

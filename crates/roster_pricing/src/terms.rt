@@ -45,8 +45,14 @@ fn last_state(problem: &Problem, k: usize, fixed: u64, step: u64) -> u64
     ensures { result * step ≤ MOST_COUNTED }
 {
     let person = problem.person(k);
-    let minutes = u64::from(person.target).saturating_sub(fixed).saturating_add(BEYOND);
-    let counted = if minutes < MOST_COUNTED { minutes } else { MOST_COUNTED };
+    let minutes = u64::from(person.target)
+        .saturating_sub(fixed)
+        .saturating_add(BEYOND);
+    let counted = if minutes < MOST_COUNTED {
+        minutes
+    } else {
+        MOST_COUNTED
+    };
     counted / step
 }
 
@@ -59,7 +65,11 @@ fn term(problem: &Problem, k: usize, fixed: u64, more: u64) -> i64
     ensures within { IsWithin MOST_TERM result }
 {
     let target = u64::from(problem.person(k).target);
-    weighed(problem, (fixed + more).abs_diff(target), fixed.abs_diff(target))
+    weighed(
+        problem,
+        (fixed + more).abs_diff(target),
+        fixed.abs_diff(target),
+    )
 }
 
 /// What it brings at least to end with so many minutes of flight more than the fixed ones, or with more.
@@ -75,7 +85,11 @@ fn last_term(problem: &Problem, k: usize, fixed: u64, more: u64) -> i64
     let persons = problem.persons();
     let person = &persons[k];
     let target = u64::from(person.target);
-    weighed(problem, (fixed + more).saturating_sub(target), fixed.abs_diff(target))
+    weighed(
+        problem,
+        (fixed + more).saturating_sub(target),
+        fixed.abs_diff(target),
+    )
 }
 
 /// What it costs more to miss a target by so many minutes than by so many others, in parts of a cost unit.

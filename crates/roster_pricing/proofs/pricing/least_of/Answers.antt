@@ -1,15 +1,10 @@
-use Rattle.std.proofs.Common.{◌≡◌, ℕ, ◌+◌, ◌-◌, ◌*◌, ◌<◌, ◌≤◌, true, List, [], length, Some, subst, sym, ap, ◌∙◌, arith, ℤ, pos, ◌≤ℤ◌, w64, to_z, of_z, FitsSigned, rules}
-use Rattle.std.specs.Prelude.{All, filter}
+use Rattle.std.proofs.Common.{◌≡◌, ℕ, ◌+◌, ◌*◌, ◌<◌, ◌≤◌, List, [], length, subst, sym, ap, arith, ℤ, pos, ◌≤ℤ◌, w64, to_z, of_z, FitsSigned, rules}
 use Rattle.std.specs.List.Sorted.{IsStrictlyIncreasing}
-use Rattle.std.proofs.lemmas.Int.{ints, to_z-of_z}
-use Rattle.std.proofs.lemmas.List.Elements.{filter_agree}
-use Rattle.roster_model.specs.Costs.{flight_of}
-use Rattle.roster_model.specs.Problem.{home_of, Problem}
-use Rattle.roster_model.specs.Sums.{month_flight}
-use Rattle.roster_model.specs.Rules.{duty_list, is_among, is_listed}
+use Rattle.std.proofs.lemmas.Int.{to_z-of_z}
+use Rattle.roster_model.specs.Problem.{home_of}
 use Rattle.roster_cost.specs.Amounts.{IsWithin}
 use Rattle.roster_pricing.specs.declared.parts.TheConstants.{MOST_LEAST, MOST_TERM, MOST_VALUE}
-use Rattle.roster_pricing.specs.Chains.{value_at, IsRow}
+use Rattle.roster_pricing.specs.Chains.{IsRow}
 use Rattle.roster_pricing.specs.Reduced.{reduced, IsLeastOf}
 use Rattle.roster_pricing.proofs.ChainLemmas.{least_is, AddsFlight}
 use Rattle.roster_pricing.proofs.RowLemmas.{within-more}

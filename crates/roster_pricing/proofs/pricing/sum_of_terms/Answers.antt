@@ -1,4 +1,4 @@
-use Rattle.std.proofs.Common.{◌≡◌, ℕ, ◌+◌, ◌-◌, ◌*◌, ◌<◌, ◌≤◌, length, ℤ, pos, ◌+ℤ◌, ◌≤ℤ◌, ap, ◌∙◌, subst, sym, arith, w64, to_z, of_z, FitsSigned, rules}
+use Rattle.std.proofs.Common.{◌≡◌, ℕ, ◌+◌, ◌-◌, ◌≤◌, length, ℤ, pos, ◌+ℤ◌, ◌≤ℤ◌, ap, ◌∙◌, subst, sym, arith, w64, to_z, of_z, FitsSigned, rules}
 use Rattle.std.proofs.lemmas.Int.{ints, to_z-of_z}
 use Rattle.roster_cost.specs.Amounts.{IsWithin}
 use Rattle.roster_pricing.specs.declared.parts.TheConstants.{MOST_PRICE}

@@ -1,4 +1,4 @@
-use Rattle.std.proofs.Common.{◌≡◌, ℕ, ◌+◌, ◌<◌, subst, sym, inl, inr, arith, ℤ, ◌+ℤ◌, ◌≤ℤ◌, length, ◌∙◌, w64, to_z, of_z}
+use Rattle.std.proofs.Common.{subst, sym, inl, inr, arith, ◌+ℤ◌, ◌≤ℤ◌, length, ◌∙◌, w64, to_z, of_z}
 use Rattle.roster_pricing.specs.Chains.{next_state, value_at}
 use Rattle.std.proofs.lemmas.Bool.{cases_eq}
 use Rattle.std.proofs.lemmas.Int.{ints}

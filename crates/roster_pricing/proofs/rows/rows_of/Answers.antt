@@ -1,4 +1,4 @@
-use Rattle.std.proofs.Common.{◌≡◌, ℕ, ◌+◌, ◌-◌, ◌*◌, ◌<◌, List, [], length, get_or, Some, subst, sym, ap, ◌∙◌, arith, ℤ}
+use Rattle.std.proofs.Common.{◌≡◌, ℕ, ◌+◌, ◌-◌, ◌*◌, ◌<◌, [], length, get_or, subst, sym, ap, ◌∙◌, arith}
 use Rattle.std.specs.Prelude.{All}
 use Rattle.std.proofs.lemmas.List.{length_push}
 use Rattle.std.proofs.lemmas.Option.{get_or_from_slice_get, slice_get-get_or}
@@ -27,8 +27,8 @@ loop-back-preserved c =
     let is_p : length c.pairings-count.result.now - 1 - c.loop-back.back ≡ p = omega (arith, count) in
     let covers = c.requires.network.covers in
     let followers : c.index.result.now ≡ followers_of network.followers.items p =
-        c.index.ensures ∙ ap (λ i. get_or network.followers.items i c.index.result.now) is_p
-        ∙ sym (get_or_from_slice_get network.followers.items p (get_or network.followers.items p c.index.result.now) [] (slice_get-get_or network.followers.items p c.index.result.now (omega (arith, covers, inside)))) in
+    c.index.ensures ∙ ap (λ i. get_or network.followers.items i c.index.result.now) is_p
+    ∙ sym (get_or_from_slice_get network.followers.items p (get_or network.followers.items p c.index.result.now) [] (slice_get-get_or network.followers.items p c.index.result.now (omega (arith, covers, inside)))) in
     let row = subst (λ first. IsRow network c.args.values.now first c.in_ok-row.row) followers c.in_ok-row.ensures.row in
     record {
       rows = rows_more problem network c.args.values.now c.loop-back.rows.items c.push.new.self.items c.in_ok-row.row p inv.rows c.in_ok-push.ensures.items inside (omega (arith, inv.long, below)) row (subst (λ rs. All (IsWithin (MOST_TERM + (length rs + 1) * MOST_VALUE)) c.in_ok-row.row) c.deref.ensures.value c.in_ok-row.ensures.within);

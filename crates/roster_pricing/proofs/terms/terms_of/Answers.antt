@@ -1,4 +1,4 @@
-use Rattle.std.proofs.Common.{◌≡◌, ℕ, ◌+◌, ◌-◌, ◌*◌, ◌<◌, length, ℤ, pos, ◌-ℤ◌, ◌*ℤ◌, ap, ◌∙◌, subst, sym, arith, w64, to_z, of_z, FitsSigned, rules}
+use Rattle.std.proofs.Common.{◌≡◌, ◌+◌, ◌-◌, ◌*◌, length, ℤ, pos, ◌-ℤ◌, ◌*ℤ◌, ap, ◌∙◌, subst, sym, arith, w64, to_z, of_z, FitsSigned, rules}
 use Rattle.std.specs.Prelude.{All}
 use Rattle.std.proofs.lemmas.Int.{to_z-of_z}
 use Rattle.std.proofs.lemmas.List.{length_push}

@@ -1,10 +1,7 @@
-use Rattle.std.proofs.Common.{◌≡◌, ℕ, ◌*◌, List, length, subst, sym, ap, ◌∙◌, arith, ℤ, pos, ◌+ℤ◌, ◌≤ℤ◌, ◌*ℤ◌, w64, to_z, of_z, FitsSigned, rules}
+use Rattle.std.proofs.Common.{◌≡◌, ℕ, List, subst, ap, ◌∙◌, arith, ℤ, ◌+ℤ◌, ◌≤ℤ◌, w64, to_z, of_z, FitsSigned, rules}
 use Rattle.std.proofs.lemmas.Int.{ints, to_z-of_z}
-use Rattle.roster_model.specs.Costs.{cost_of}
 use Rattle.roster_model.specs.Rosters.{IsLegalRoster}
-use Rattle.roster_model.specs.Settled.{IsLowerBound}
 use Rattle.roster_cost.specs.Amounts.{cost_without_pairings}
-use Rattle.roster_pricing.specs.declared.parts.TheConstants.{PARTS}
 use Rattle.roster_pricing.specs.Reduced.{price_at, shares_behind}
 use Rattle.roster_pricing.proofs.ShareLemmas.{bound_below}
 use Rattle.roster_pricing.proofs.pricing.Pricing.bound.Goals as goal
@@ -38,11 +35,11 @@ returns c =
     let whole_fits : FitsSigned w64 whole = search rules in
     let whole_told : to_z w64 (of_z w64 whole) ≡ whole = to_z-of_z w64 whole whole_fits in
     let below : (places : List ℕ) → IsLegalRoster problem places → terms ≤ℤ shares_behind problem prices 0 places =
-        subst (λ p. (places : List ℕ) → IsLegalRoster p places → terms ≤ℤ shares_behind p prices 0 places) same c.sum_of_terms-terms.ensures.least in
+    subst (λ p. (places : List ℕ) → IsLegalRoster p places → terms ≤ℤ shares_behind p prices 0 places) same c.sum_of_terms-terms.ensures.least in
     let idle_is : idle ≡ cost_without_pairings problem = c.cost_without_pairings.ensures.value ∙ ap cost_without_pairings same in
     let bound = bound_below problem prices leasts terms units
-        (λ places roster. c.shares_add_up.ensures problem places)
-        (λ places roster. c.priced_shares_add_up.ensures problem (price_at prices) places roster.covers roster.numbers)
-        c.in_ok-leasts.ensures.least below
-        (λ more least. c.in_units.ensures.least more (omega (arith, ints, least, leasts_told, terms_told, sum_told))) in
+    (λ places roster. c.shares_add_up.ensures problem places)
+    (λ places roster. c.priced_shares_add_up.ensures problem (price_at prices) places roster.covers roster.numbers)
+    c.in_ok-leasts.ensures.least below
+    (λ more least. c.in_units.ensures.least more (omega (arith, ints, least, leasts_told, terms_told, sum_told))) in
     λ places roster. let b = bound places roster in omega (arith, ints, b, idle_is, idle_told, units_told, whole_told)

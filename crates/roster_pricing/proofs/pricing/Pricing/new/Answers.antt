@@ -1,4 +1,4 @@
-use Rattle.std.proofs.Common.{◌≡◌, ℕ, ◌+◌, length, ap, ◌∙◌, subst, sym, arith, Some}
+use Rattle.std.proofs.Common.{◌+◌, length, ap, ◌∙◌, subst, sym, arith}
 use Rattle.std.specs.Prelude.{slice_get}
 use Rattle.std.proofs.lemmas.List.{length_push}
 use Rattle.roster_pricing.specs.Networks.{IsNetwork}

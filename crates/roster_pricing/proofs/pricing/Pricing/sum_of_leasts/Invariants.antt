@@ -1,4 +1,4 @@
-use Rattle.std.proofs.Common.{◌≡◌, ℕ, ◌*◌, List, ◌≤ℤ◌}
+use Rattle.std.proofs.Common.{ℕ, ◌*◌, List, ◌≤ℤ◌}
 use Rattle.roster_cost.specs.Amounts.{IsWithin}
 use Rattle.roster_pricing.specs.declared.parts.TheConstants.{MOST_LEAST}
 use Rattle.roster_model.specs.Rosters.{IsLegalRoster}
