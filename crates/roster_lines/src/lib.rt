@@ -33,6 +33,7 @@ pub use laws::{
     one_list_of_numbers,
 };
 pub use lines::{Lines, Row};
+pub use pairs::{Pairs, pairs_of};
 pub use shared::all_lines;
 pub use shared_lines::SharedLines;
 pub use table::{Table, TableFault, table_of};

@@ -11,14 +11,17 @@ use std::alloc::{AllocError, Global};
 /// For a person, the pairings that are legal alone, and for each pairing the later ones that are legal
 /// with it and its minutes of flight in the month.
 #[derive(Debug, Drop)]
-pub(crate) struct Pairs {
-    pub(crate) alone: Set,
-    pub(crate) rows: Vec<Set>,
-    pub(crate) flights: Vec<u64>,
+pub struct Pairs {
+    /// The pairings that are legal alone.
+    pub alone: Set,
+    /// For each pairing the later ones that are legal with it.
+    pub rows: Vec<Set>,
+    /// For each pairing its minutes of flight in the month.
+    pub flights: Vec<u64>,
 }
 
 /// Judges each pairing alone, and then each two of those that are legal.
-pub(crate) fn pairs_of(
+pub fn pairs_of(
     alloc: Global,
     judge: &mut Judge<'_>,
     problem: &Problem,

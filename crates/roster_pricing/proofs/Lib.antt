@@ -1,0 +1,4 @@
+mod ChainLemmas
+mod RowLemmas
+mod ShareLemmas
+mod TermLemmas

@@ -1,0 +1,74 @@
+use Rattle.std.proofs.Common.{◌≡◌, ℕ, ◌+◌, ◌-◌, ◌*◌, ◌<◌, List, length, get_or, Some, subst, sym, ap, ◌∙◌, inl, inr, arith, ℤ, pos, ◌+ℤ◌, ◌≤ℤ◌, w64, to_z, of_z, FitsSigned, rules}
+use Rattle.std.specs.Prelude.{All, slice_get, slice_index}
+use Rattle.std.proofs.lemmas.Option.{get_or_from_slice_get, slice_get-get_or}
+use Rattle.std.proofs.lemmas.Bool.{cases_eq, cases_lt, false≢true}
+use Rattle.std.proofs.lemmas.Int.{ints, to_z-of_z}
+use Rattle.roster_cost.specs.Amounts.{IsWithin}
+use Rattle.roster_pricing.specs.declared.parts.TheConstants.{MOST_TERM, MOST_VALUE}
+use Rattle.roster_pricing.specs.Chains.{next_state, value_at}
+use Rattle.roster_pricing.proofs.RowLemmas.{All-within-more, row_is}
+use Rattle.roster_pricing.proofs.rows.row_behind.Goals as goal
+
+-- the row that the pairing leads to
+row_found : (c : goal.After-relax) (row : List ℤ) → slice_get c.args.rows.now (length c.args.problem.now.pairings - 1 - c.in-Some.q) ≡ Some row → c.index-rows-count.result ≡ row
+row_found c row at =
+    let count = ap length c.pairings-count.ensures.value in
+    let there = subst (λ n. slice_get c.args.rows.now (n - 1 - c.in-Some.q) ≡ Some row) (sym count) at in
+    c.index-rows-count.is ∙ get_or_from_slice_get c.args.rows.now (length c.pairings-count.result.now - 1 - c.in-Some.q) row c.index-rows-count.result there
+
+row_within : (c : goal.After-relax) → All (IsWithin (MOST_TERM + length c.args.rows.now * MOST_VALUE)) c.index-rows-count.result
+row_within c =
+    let count = ap length c.pairings-count.ensures.value in
+    let done = c.requires.done c.in-Some.q c.in-Some.ensures.place.2 in
+    subst (All (IsWithin (MOST_TERM + length c.args.rows.now * MOST_VALUE))) (sym c.index-rows-count.is)
+    (c.requires.rows.within (length c.pairings-count.result.now - 1 - c.in-Some.q) c.index-rows-count.result (omega (arith, count, done)))
+
+value_told : (c : goal.After-relax) → to_z w64 (of_z w64 (value_at c.args.values.now c.in-Some.q)) ≡ value_at c.args.values.now c.in-Some.q
+value_told c =
+    let within : IsWithin MOST_VALUE (value_at c.args.values.now c.in-Some.q) = c.requires.values c.in-Some.q (pos 0) (omega (arith, c.requires.covers, c.requires.places c.in-Some.q c.in-Some.ensures.place.2)) in
+    let fits : FitsSigned w64 (value_at c.args.values.now c.in-Some.q) = search rules in
+    to_z-of_z w64 (value_at c.args.values.now c.in-Some.q) fits
+
+slice_index_any : (xs : List ℕ) (i d : ℕ) → i < length xs → get_or xs i d ≡ slice_index xs i
+slice_index_any xs i d inside = sym (get_or_from_slice_get xs i (get_or xs i d) 0 (slice_get-get_or xs i d inside))
+
+pub loop-q-preserved : goal.loop-q-preserved
+loop-q-preserved c =
+    let inv = c.loop-q.invariant in
+    record {
+      covers = c.relax.ensures.same ∙ inv.covers;
+      ended = λ f inside. let before = inv.ended f inside in let now = c.relax.ensures.kept f (omega (arith, inv.covers, inside)) in omega (arith, ints, before, now);
+      led = λ q row below among at f inside. elim (cases_eq q c.in-Some.q) [
+        | inl here ↦
+            let bits : value_at c.relax.new.self f ≤ℤ (to_z w64 (of_z w64 (value_at c.args.values.now c.in-Some.q)) +ℤ value_at c.index-rows-count.result (next_state (length c.loop-q.row) f c.index.result.now)) = c.relax.ensures.through f (omega (arith, inv.covers, inside)) in
+            let through = subst (λ v. value_at c.relax.new.self f ≤ℤ (v +ℤ value_at c.index-rows-count.result (next_state (length c.loop-q.row) f c.index.result.now))) (value_told c) bits in
+            let behind = row_found c row (subst (λ i. slice_get c.args.rows.now (length c.args.problem.now.pairings - 1 - i) ≡ Some row) here at) in
+            let steps : c.index.result.now ≡ slice_index c.args.network.now.steps.items c.in-Some.q = c.index.ensures ∙ slice_index_any c.args.network.now.steps.items c.in-Some.q c.index.result.now (omega (arith, c.requires.network.steps.covers, c.requires.places c.in-Some.q c.in-Some.ensures.place.2)) in
+            let told = subst (λ r. value_at c.relax.new.self f ≤ℤ (value_at c.args.values.now c.in-Some.q +ℤ value_at r (next_state (length c.loop-q.row) f c.index.result.now))) behind through in
+            let stepped = subst (λ n. value_at c.relax.new.self f ≤ℤ (value_at c.args.values.now c.in-Some.q +ℤ value_at row (next_state (length c.loop-q.row) f n))) steps told in
+            let counted = subst (λ n. value_at c.relax.new.self f ≤ℤ (value_at c.args.values.now c.in-Some.q +ℤ value_at row (next_state n f (slice_index c.args.network.now.steps.items c.in-Some.q)))) inv.covers stepped in
+            subst (λ i. value_at c.relax.new.self f ≤ℤ (value_at c.args.values.now i +ℤ value_at row (next_state (length c.args.network.now.terms.items) f (slice_index c.args.network.now.steps.items i)))) (sym here) counted
+        | inr other ↦
+            let before : q < c.loop-q.from = elim (cases_lt q c.loop-q.from) [
+              | inl old ↦ old
+              | inr new ↦ absurd (false≢true (sym (c.in-Some.ensures.least q new (omega (arith, below, other))) ∙ among))
+            ] in
+            let led = inv.led q row before among at f inside in
+            let now = c.relax.ensures.kept f (omega (arith, inv.covers, inside)) in
+            omega (arith, ints, led, now)
+      ];
+      within = All-within-more ((MOST_TERM + length c.args.rows.now * MOST_VALUE) + MOST_VALUE) (MOST_TERM + (length c.args.rows.now + 1) * MOST_VALUE) c.relax.new.self (omega arith)
+          (c.relax.ensures.within (MOST_TERM + length c.args.rows.now * MOST_VALUE)
+          (row_within c)
+          (All-within-more (MOST_TERM + (length c.args.rows.now + 1) * MOST_VALUE) ((MOST_TERM + length c.args.rows.now * MOST_VALUE) + MOST_VALUE) c.loop-q.row (omega arith) inv.within));
+    }
+
+pub returns-clause-row : goal.returns-clause-row
+returns-clause-row c =
+    let inv = c.loop-q.invariant in
+    row_is c.args.problem.now c.args.network.now c.args.values.now c.args.rows.now c.args.first.now c.loop-q.row c.requires.network.some c.requires.rows inv.covers inv.ended
+    (λ q behind among at f inside. inv.led q behind (elim (cases_lt q c.loop-q.from) [
+      | inl old ↦ old
+      | inr new ↦ absurd (false≢true (sym (c.in_default.ensures.least q new) ∙ among))
+    ]) among at f inside)
+    (λ q among. (c.requires.places q among, c.requires.done q among))

@@ -1,0 +1,25 @@
+//! Amounts in parts of a cost unit.
+
+/// How many parts a cost unit is counted in.
+pub const PARTS: u64 = 64;
+
+/// A price, at most, and below 0, in parts of a cost unit.
+pub const MOST_PRICE: u64 = 1 << 38;
+
+/// What a pairing brings to a chain, at most, and below 0: its units, less its price.
+pub(crate) const MOST_VALUE: u64 = 1 << 39;
+
+/// What a state of flight brings at the end of a chain, at most, and below 0.
+pub(crate) const MOST_TERM: u64 = 1 << 53;
+
+/// The least reduced cost of a person, at most, and below 0: a term, and the values of all pairings.
+pub const MOST_LEAST: u64 = 1 << 54;
+
+/// More than any row has, on either side: two such amounts fit a word.
+pub(crate) const MOST_AMOUNT: u64 = 1 << 60;
+
+/// The minutes of flight that states tell apart, at most.
+pub(crate) const MOST_COUNTED: u64 = 1 << 15;
+
+/// The sum of what all persons and pairings bring to a bound, at most, and below 0.
+pub(crate) const MOST_SUM: u64 = 1 << 62;

@@ -1,0 +1,179 @@
+//! Lower bounds by dual prices.
+
+ghost use Rattle.std.specs.Prelude.{◌≡◌, ◌<◌, ◌*◌, ◌≤ℤ◌, ◌-ℤ◌, ◌*ℤ◌, ℕ, ℤ, pos, IfOk, List, length};
+ghost use Rattle.roster_model.specs.Problem.{units_of};
+ghost use Rattle.roster_model.specs.Rosters.{IsLegalRoster};
+ghost use Rattle.roster_model.specs.Settled.{IsLowerBound};
+ghost use Rattle.roster_cost.specs.Amounts.{IsWithin};
+ghost use Rattle.roster_pricing.specs.Networks.{AreValues, IsNetwork};
+ghost use Rattle.roster_pricing.specs.Reduced.{reduced_costs, shares_behind, ArePrices, IsLeastOf, IsTermOf};
+
+use crate::network::{Network, network_of};
+use crate::parts::{MOST_LEAST, MOST_PRICE, MOST_SUM, MOST_VALUE, PARTS};
+use crate::rows::{row_behind, rows_of};
+use roster_cost::{cost_without_pairings, priced_shares_add_up, shares_add_up};
+use roster_cumulative::flight_of_set;
+use roster_legal::part_of_legal_is_legal;
+use roster_model::limits::{MOST_PAIRINGS, MOST_PERSONS};
+use roster_problem::Problem;
+use std::alloc::{AllocError, Global};
+use std::marker::Model;
+
+/// The networks of all persons. Contracts see the problem.
+#[derive(Debug, Drop)]
+pub struct Pricing<'a> {
+    problem: &'a Problem,
+    networks: Vec<Network>,
+}
+
+impl<'a> Model for Pricing<'a> {
+    ghost use Rattle.roster_model.specs.Problem.{Problem};
+    ghost use Rattle.roster_pricing.specs.Networks.{AreNetworks};
+
+    ghost Value = { Problem };
+
+    ghost view = { λ p. p.problem.now };
+
+    ghost invariant = { λ p. AreNetworks p.problem.now p.networks.items };
+}
+
+impl<'a> Pricing<'a> {
+    /// The networks of all persons of the problem.
+    pub fn new(alloc: Global, problem: &'a Problem) -> Result<Pricing<'a>, AllocError>
+        ensures { IfOk result (λ pricing. pricing ≡ problem.now) }
+    {
+        let mut networks = Vec::new(alloc);
+        for k in 0..problem.persons().len() {
+            networks.push(network_of(alloc, problem, k)?)?;
+        }
+        Ok(Pricing { problem, networks })
+    }
+
+    /// No line of person `k` has a lower reduced cost at the prices.
+    pub fn least(&self, alloc: Global, k: usize, prices: &[i64]) -> Result<i64, AllocError>
+        requires person { k < length self.now.persons }
+        requires prices { ArePrices self.now prices.now }
+        ensures { IfOk result (IsLeastOf self.now prices.now k) }
+    {
+        least_of(alloc, self.problem, k, &self.networks[k], prices)
+    }
+
+    /// No legal roster costs less, in cost units, whatever the prices.
+    pub fn bound(&self, alloc: Global, prices: &[i64]) -> Result<i64, AllocError>
+        requires { ArePrices self.now prices.now }
+        ensures { IfOk result (IsLowerBound self.now) }
+    {
+        priced_shares_add_up();
+        shares_add_up();
+        let leasts = self.sum_of_leasts(alloc, prices)?;
+        let terms = sum_of_terms(self.problem, prices);
+        Ok(cost_without_pairings(self.problem) + in_units(leasts + terms))
+    }
+}
+
+impl<'a> Pricing<'a> {
+    /// The sum of what each person's reduced costs are at least.
+    fn sum_of_leasts(&self, alloc: Global, prices: &[i64]) -> Result<i64, AllocError>
+        requires { ArePrices self.now prices.now }
+        ensures least { IfOk result (λ sum. (places : List ℕ) → IsLegalRoster self.now places
+            → sum ≤ℤ reduced_costs self.now prices.now (length self.now.persons) places) }
+        ensures within { IfOk result (IsWithin (MOST_PERSONS * MOST_LEAST)) }
+    {
+        self.problem.is_sound();
+        let mut sum = 0;
+        for k in 0..self.problem.persons().len() {
+            sum += self.least(alloc, k, prices)?;
+        }
+        Ok(sum)
+    }
+}
+
+/// No line of person `k`, whose network it is, has a lower reduced cost at the prices.
+fn least_of(
+    alloc: Global,
+    problem: &Problem,
+    k: usize,
+    network: &Network,
+    prices: &[i64],
+) -> Result<i64, AllocError>
+    requires person { k < length problem.now.persons }
+    requires network { IsNetwork problem.now k network.now }
+    requires prices { ArePrices problem.now prices.now }
+    ensures { IfOk result (IsLeastOf problem.now prices.now k) }
+{
+    part_of_legal_is_legal();
+    flight_of_set();
+    problem.is_sound();
+    let values = values_of(alloc, problem, k, prices)?;
+    let rows = rows_of(alloc, problem, k, network, &values)?;
+    let row = row_behind(alloc, problem, k, network, &values, &rows, &network.first)?;
+    Ok(row.first())
+}
+
+/// What each pairing brings to person `k`: its units, less its price.
+fn values_of(
+    alloc: Global,
+    problem: &Problem,
+    k: usize,
+    prices: &[i64],
+) -> Result<Vec<i64>, AllocError>
+    requires { ArePrices problem.now prices.now }
+    ensures { IfOk result (λ values. AreValues problem.now prices.now k values.items) }
+{
+    let mut values = Vec::new(alloc);
+    for (p, price) in prices.iter().enumerate() {
+        values.push(value_of(problem, k, p, *price))?;
+    }
+    Ok(values)
+}
+
+/// The units of a pairing with person `k`, less its price.
+fn value_of(problem: &Problem, k: usize, p: usize, price: i64) -> i64
+    requires { IsWithin MOST_PRICE price }
+    ensures value { result ≡ (pos PARTS *ℤ units_of problem.now k p) -ℤ price }
+    ensures within { IsWithin MOST_VALUE result }
+{
+    PARTS as i64 * problem.units(k, p) - price
+}
+
+/// The sum of the lesser of each pairing's price and penalty.
+fn sum_of_terms(problem: &Problem, prices: &[i64]) -> i64
+    requires { ArePrices problem.now prices.now }
+    ensures least { (places : List ℕ) → IsLegalRoster problem.now places
+        → result ≤ℤ shares_behind problem.now prices.now 0 places }
+    ensures within { IsWithin (MOST_PAIRINGS * MOST_PRICE) result }
+{
+    problem.is_sound();
+    let count = problem.pairings().len();
+    let mut sum = 0;
+    for back in 0..count {
+        sum += term_of(problem, count - 1 - back, prices[count - 1 - back]);
+    }
+    sum
+}
+
+/// The lesser of a pairing's price and penalty.
+fn term_of(problem: &Problem, p: usize, price: i64) -> i64
+    requires pairing { p < length problem.now.pairings }
+    requires price { IsWithin MOST_PRICE price }
+    ensures term { IsTermOf problem.now p price result }
+    ensures within { IsWithin MOST_PRICE result }
+{
+    problem.is_sound();
+    let penalty = (PARTS * u64::from(problem.pairing(p).penalty)) as i64;
+    if price < penalty { price } else { penalty }
+}
+
+/// The least number of cost units that isn't below so many parts.
+fn in_units(parts: i64) -> i64
+    requires { IsWithin MOST_SUM parts }
+    ensures least { (units : ℤ) → parts ≤ℤ (pos PARTS *ℤ units) → result ≤ℤ units }
+    ensures within { IsWithin MOST_SUM result }
+{
+    let amount = parts.unsigned_abs();
+    if parts < 0 {
+        -((amount / PARTS) as i64)
+    } else {
+        ((amount + (PARTS - 1)) / PARTS) as i64
+    }
+}
