@@ -10,3 +10,4 @@ pub mod Cuts
 pub mod Lists
 pub mod Made
 pub mod Numbers
+pub mod WantedTables

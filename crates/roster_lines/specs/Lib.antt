@@ -7,3 +7,4 @@ pub mod Listing
 pub mod Person
 pub mod Made
 pub mod TableFaults
+pub mod WantedTables

@@ -12,6 +12,7 @@
 //! - `wanted`: which lines are wanted
 //! - `extend`: `lines_of`, and `wanted_lines`, from each line to those that go on from it
 //! - `table`: the lines of all persons
+//! - `wanted_tables`: those that are wanted of each person
 //! - `shared`: the same table, by several threads
 //! - `laws`: what follows from the definitions
 #![tactic(auto)]
@@ -26,6 +27,7 @@ mod shared_lines;
 mod stem;
 mod table;
 mod wanted;
+mod wanted_tables;
 
 pub use extend::{LinesFault, lines_between, lines_of, wanted_lines};
 pub use laws::{
@@ -38,3 +40,4 @@ pub use shared::all_lines;
 pub use shared_lines::SharedLines;
 pub use table::{Table, TableFault, table_of};
 pub use wanted::{Between, Wanted};
+pub use wanted_tables::wanted_table;

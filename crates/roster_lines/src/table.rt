@@ -1,6 +1,6 @@
 //! The lines of all persons.
 
-ghost use Rattle.std.specs.Prelude.{◌≡◌, ◌<◌, ◌≤◌, ◌↔◌, ◌+◌, ℕ, [], IfErr, IfOk, List, OnOk, Some, length, slice_get};
+ghost use Rattle.std.specs.Prelude.{◌≡◌, ◌<◌, ◌≤◌, ◌↔◌, ◌+◌, ◌++◌, ◌∷◌, ℕ, [], IfErr, IfOk, List, OnOk, Some, length, slice_get};
 ghost use Rattle.roster_lines.specs.Entries.{costs_of, sets_of};
 ghost use Rattle.roster_lines.specs.Made.{IsMadeOf, IsTableSoFar};
 ghost use Rattle.roster_lines.specs.Person.{lines_at, IsTableOf};
@@ -106,6 +106,15 @@ impl Table {
                 LinesFault::Memory => return Err(TableFault::Memory),
             },
         }
+        Ok(())
+    }
+
+    /// Adds lines of the next person.
+    pub(crate) fn push(&mut self, alloc: Global, lines: Lines) -> Result<(), AllocError>
+        ensures { OnOk result (self.new ≡ self.old ++ lines ∷ []) }
+    {
+        let lines = SharedLines::new(alloc, lines)?;
+        self.persons.push(lines)?;
         Ok(())
     }
 

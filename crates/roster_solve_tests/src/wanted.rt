@@ -1,10 +1,14 @@
 //! The lines that are wanted, beside all lines.
 
-ghost use Rattle.std.specs.Prelude.{◌<◌, ◌≤◌};
+ghost use Rattle.std.specs.Prelude.{◌<◌, ◌≤◌, IfOk};
+ghost use Rattle.roster_lines.specs.Person.{AreListed};
 
 use crate::books::{problem_of, read};
 use crate::lines::{COSTS, TWO_DAYS, set_of};
-use roster_lines::{Lines, LinesFault, Wanted, lines_between, lines_of, wanted_lines};
+use roster_lines::{
+    Between, Lines, LinesFault, Table, TableFault, Wanted, lines_between, lines_of, wanted_lines,
+    wanted_table,
+};
 use roster_model::limits::MOST_LINES;
 use roster_problem::{Problem, Set};
 use std::alloc::Global;
@@ -34,7 +38,7 @@ fn between(
 ) -> Result<Lines, LinesFault>
     requires { (0 < most) × (most ≤ MOST_LINES) }
 {
-    assert!(rt; !problem.persons().is_empty());
+    assert!(rt; problem.persons().len() > 0);
     lines_between(alloc, problem, 0, set_of(must), set_of(may), most)
 }
 
@@ -54,7 +58,7 @@ fn are_same(a: &Lines, b: &Lines) -> bool {
 #[test]
 fn between_nothing_and_all_are_all_lines(rt: HostRuntime) -> Result<(), Fail> {
     let problem = problem_of(rt.alloc(), &TWO_DAYS)?;
-    assert!(rt; !problem.persons().is_empty());
+    assert!(rt; problem.persons().len() == 1);
     let all = [0, 1, 2, 3, 4, 5, 6, 7, 8, 9];
     let lines = between(&rt, rt.alloc(), &problem, &[], &all, MOST_LINES)?;
     assert!(rt; are_same(&lines, &lines_of(rt.alloc(), &problem, 0)?));
@@ -99,23 +103,73 @@ fn more_lines_than_so_many_are_not_listed(rt: HostRuntime) -> Result<(), Fail> {
     Ok(())
 }
 
+/// Checks what the lines of A cost.
+fn cost_as_among_all(rt: &impl Abort, lines: &Lines) {
+    let costs = [1000, 47, 417, 490];
+    assert!(rt; lines.width() == 4);
+    for i in 0..4 {
+        assert!(rt; lines.cost(i) == costs[i]);
+    }
+}
+
 #[test]
 fn lines_between_cost_what_they_do_among_all(rt: HostRuntime) -> Result<(), Fail> {
     let problem = read(rt.alloc(), COSTS)?;
     let lines = between(&rt, rt.alloc(), &problem, &[1], &[0], MOST_LINES)?;
-    assert!(rt; lines.width() == 4);
-    for (i, cost) in [1000, 47, 417, 490].iter().enumerate() {
-        assert!(rt; lines.cost(i) == *cost);
-    }
+    cost_as_among_all(&rt, &lines);
     Ok(())
 }
 
 #[test]
 fn the_empty_line_is_there_if_nothing_is_wanted(rt: HostRuntime) -> Result<(), Fail> {
     let problem = problem_of(rt.alloc(), &TWO_DAYS)?;
-    assert!(rt; !problem.persons().is_empty());
+    assert!(rt; problem.persons().len() == 1);
     let lines = wanted_lines(rt.alloc(), &problem, 0, &Nothing, 1)?;
     assert!(rt; lines.width() == 1);
     assert!(rt; lines.set(0).is_empty());
+    Ok(())
+}
+
+/// The table of the lines of the one person that hold the sixth pairing, and may hold the first and the
+/// last, no more than `most`.
+fn table_with_the_sixth(
+    rt: &impl Abort,
+    alloc: Global,
+    problem: &Problem,
+    most: usize,
+) -> Result<Table, TableFault>
+    requires { (0 < most) × (most ≤ MOST_LINES) }
+    ensures { IfOk result (AreListed problem.now) }
+{
+    assert!(rt; problem.persons().len() == 1);
+    let wanted = [Between {
+        must: set_of(&[5]),
+        may: set_of(&[0, 9]),
+    }];
+    wanted_table(alloc, problem, &wanted, most)
+}
+
+/// Checks the table of those lines.
+fn has_the_sixth(rt: &impl Abort, problem: &Problem, table: &Table)
+    requires { AreListed problem.now table.now }
+{
+    assert!(rt; problem.persons().len() == 1);
+    assert!(rt; table.width(0) == 4);
+    assert!(rt; table.find(0, &set_of(&[0, 5])) == Some(2));
+}
+
+#[test]
+fn a_table_has_the_lines_that_are_wanted(rt: HostRuntime) -> Result<(), Fail> {
+    let problem = problem_of(rt.alloc(), &TWO_DAYS)?;
+    let table = table_with_the_sixth(&rt, rt.alloc(), &problem, 4)?;
+    has_the_sixth(&rt, &problem, &table);
+    Ok(())
+}
+
+#[test]
+fn a_table_is_told_who_has_more_than_so_many(rt: HostRuntime) -> Result<(), Fail> {
+    let problem = problem_of(rt.alloc(), &TWO_DAYS)?;
+    let table = table_with_the_sixth(&rt, rt.alloc(), &problem, 3);
+    assert!(rt; matches!(table, Err(TableFault::TooMany(0))));
     Ok(())
 }
