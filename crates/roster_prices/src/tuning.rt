@@ -40,9 +40,9 @@ pub(crate) const SAMPLE_STEPS: u32 = 24;
 /// half as many lines more are looked at.
 pub(crate) const NEAR_HALVINGS: i64 = 12;
 
-/// No more than one in so many of a person's lines count as near, but for `FEW_NEAR_LINES`: the reach is cut to
-/// a quarter until it is so, `MOST_CUTS` times at most, and then all lines count. Without that 128 crew of one base with
-/// 196,527 lines each took 260 MB for lists.
+/// About one in so many of a person's lines counts as near at most, and `FEW_NEAR_LINES` more: the reach is
+/// cut to a quarter until it is so, `MOST_CUTS` times at most, and then all lines count. Without that the
+/// lists of 128 crew of one base with 196,527 lines each took 260 MB.
 pub(crate) const NEAR_PART: usize = 12;
 
 /// See `NEAR_PART`.

@@ -28,6 +28,15 @@ use std::marker::Model;
 /// it is left or not.
 const SPARSE: usize = 4;
 
+/// Whether so many lines of so many are copied. One line always is: all other choices are then on the way to
+/// it, as looks at prices suppose.
+fn is_sparse(count: usize, rows: usize) -> bool {
+    if count < 2 {
+        return true;
+    }
+    count < rows / SPARSE
+}
+
 /// Where the choices of a tree stand.
 #[derive(Debug, Drop)]
 enum Held {
@@ -127,7 +136,7 @@ impl Tree {
             certain,
             count,
         };
-        tree.copied_if(alloc, count < rows / SPARSE)
+        tree.copied_if(alloc, is_sparse(count, rows))
     }
 
     /// The same lines, copied if that is wanted.
