@@ -1,5 +1,5 @@
 -- What pairings bring to a roster beside reduced costs, one after another, and what a roster costs at least.
-use Rattle.std.proofs.Common.{◌≡◌, ℕ, zero, suc, ◌+◌, ◌-◌, ◌*◌, ◌<◌, eqb, cond, List, [], ◌∷◌, length, drop, get_or, Some, refl, sym, ap, ◌∙◌, subst, inl, inr, arith, ℤ, pos, ◌+ℤ◌, ◌-ℤ◌, ◌*ℤ◌, ◌≤ℤ◌, eq-eqb}
+use Rattle.std.proofs.Common.{◌≡◌, ℕ, zero, suc, ◌+◌, ◌-◌, ◌*◌, ◌<◌, eqb, cond, List, [], ◌∷◌, length, drop, get_or, Some, refl, sym, ap, ◌∙◌, subst, inl, inr, arith, ℤ, pos, ◌+ℤ◌, ◌-ℤ◌, ◌*ℤ◌, ◌≤ℤ◌, eq-eqb, w64, FitsSigned, rules, ◌≤◌}
 use Rattle.std.specs.Prelude.{All, slice_get}
 use Rattle.std.specs.List.{range_with_len}
 use Rattle.std.proofs.lemmas.Bool.{cases_eq, ne_eqb}
@@ -15,9 +15,10 @@ use Rattle.roster_model.specs.Rosters.{IsLegalRoster}
 use Rattle.roster_model.proofs.SetLemmas.{rising_from_Ascends, Ascends-set_of, places_of_number}
 use Rattle.roster_model.specs.Settled.{IsLowerBound}
 use Rattle.roster_model.proofs.CostLemmas.{total-nil, total-cons}
-use Rattle.roster_cost.specs.Amounts.{cost_without_pairings}
+use Rattle.roster_model.specs.declared.limits.TheConstants.{MOST_PERSONS}
+use Rattle.roster_cost.specs.Amounts.{cost_without_pairings, IsWithin}
 use Rattle.roster_cost.specs.Priced.{penalties_and_prices, reduced_cost}
-use Rattle.roster_pricing.specs.declared.parts.TheConstants.{PARTS}
+use Rattle.roster_pricing.specs.declared.parts.TheConstants.{MOST_LEAST, PARTS}
 use Rattle.roster_pricing.specs.Reduced.{price_at, reduced, reduced_costs, shares_behind, IsTermOf}
 
 -- a pairing of no list
@@ -125,3 +126,12 @@ bound_below problem prices leasts terms units shared priced persons pairings lea
     let second = pairings places roster in
     let above = least (cost_of problem places -ℤ cost_without_pairings problem) (omega (arith, ints, whole, first, second)) in
     omega (arith, ints, above)
+
+-- one person's least reduced cost more fits a word
+pub sum_fits : (sum least : ℤ) (k n : ℕ) → n ≤ MOST_PERSONS → k < n → IsWithin (k * MOST_LEAST) sum → IsWithin MOST_LEAST least → FitsSigned w64 (sum +ℤ least)
+sum_fits sum least k n few below sum_within least_within =
+    let low = sum_within.0 in
+    let high = sum_within.1 in
+    let least_low = least_within.0 in
+    let least_high = least_within.1 in
+    search rules

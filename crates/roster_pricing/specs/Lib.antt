@@ -1,3 +1,4 @@
 pub mod Reduced
 pub mod Chains
 pub mod Networks
+pub mod Rising

@@ -1,11 +1,29 @@
-//! What no roster costs less than, by dual prices, however many legal sets there are.
+//! What no roster costs less than, however many legal sets there are.
+//!
+//! At any prices of pairings a roster costs the reduced costs of its lines, and the price or the penalty of
+//! each pairing. Each line of a person is a chain of pairings of which each is legal with the one before, so
+//! the cheapest chain costs no more than any line; and a table over pairings and the flight so far has it,
+//! whatever the number of lines. In reading order:
+//!
+//! - `parts`: amounts in parts of a cost unit
+//! - `network`: which pairings may follow one another
+//! - `terms`: what flight costs at the end of a chain
+//! - `rows`: the table
+//! - `chains`: chains that bring the least
+//! - `pricing`: what prices say of all rosters
+//! - `rising`: prices that say more and more
+//! - `tuning`: the numbers that decide how good a bound is
 #![tactic(auto)]
 
+mod chains;
 mod network;
 mod parts;
 mod pricing;
+mod rising;
 mod rows;
 mod terms;
+mod tuning;
 
-pub use parts::{MOST_LEAST, MOST_PRICE, PARTS};
-pub use pricing::Pricing;
+pub use parts::{MOST_PRICE, PARTS};
+pub use pricing::{Look, Pricing};
+pub use rising::raised_bound;

@@ -8,6 +8,7 @@ ghost use Rattle.roster_cost.specs.Amounts.{IsWithin};
 ghost use Rattle.roster_pricing.specs.Networks.{AreValues, IsNetwork};
 ghost use Rattle.roster_pricing.specs.Reduced.{reduced_costs, shares_behind, ArePrices, IsLeastOf, IsTermOf};
 
+use crate::chains::cheapest_chain;
 use crate::network::{Network, network_of};
 use crate::parts::{MOST_LEAST, MOST_PRICE, MOST_SUM, MOST_VALUE, PARTS};
 use crate::rows::{row_behind, rows_of};
@@ -15,9 +16,20 @@ use roster_cost::{cost_without_pairings, priced_shares_add_up, shares_add_up};
 use roster_cumulative::flight_of_set;
 use roster_legal::part_of_legal_is_legal;
 use roster_model::limits::{MOST_PAIRINGS, MOST_PERSONS};
-use roster_problem::Problem;
+use roster_problem::{Problem, Set};
 use std::alloc::{AllocError, Global};
 use std::marker::Model;
+
+/// What prices say of all rosters.
+#[derive(Debug, Drop)]
+pub struct Look {
+    /// No legal roster costs less, in cost units.
+    pub bound: i64,
+    /// The same in parts of a cost unit, above what it costs that nobody has a pairing.
+    pub parts: i64,
+    /// For each person a set that costs little at the prices, and that need not be legal. Nothing rests on it.
+    pub chains: Vec<Set>,
+}
 
 /// The networks of all persons. Contracts see the problem.
 #[derive(Debug, Drop)]
@@ -49,31 +61,47 @@ impl<'a> Pricing<'a> {
         Ok(Pricing { problem, networks })
     }
 
+    /// What the prices say of all rosters.
+    pub fn look(&self, alloc: Global, prices: &[i64]) -> Result<Look, AllocError>
+        requires { ArePrices self.now prices.now }
+        ensures { IfOk result (λ look. IsLowerBound self.now look.bound) }
+    {
+        priced_shares_add_up();
+        shares_add_up();
+        let mut chains = Vec::new(alloc);
+        let leasts = self.sum_of_leasts(alloc, prices, &mut chains)?;
+        let terms = sum_of_terms(self.problem, prices);
+        let parts = leasts + terms;
+        let bound = cost_without_pairings(self.problem) + in_units(parts);
+        Ok(Look {
+            bound,
+            parts,
+            chains,
+        })
+    }
+
     /// No line of person `k` has a lower reduced cost at the prices.
-    pub fn least(&self, alloc: Global, k: usize, prices: &[i64]) -> Result<i64, AllocError>
+    fn least(
+        &self,
+        alloc: Global,
+        k: usize,
+        prices: &[i64],
+        chains: &mut Vec<Set>,
+    ) -> Result<i64, AllocError>
         requires person { k < length self.now.persons }
         requires prices { ArePrices self.now prices.now }
         ensures { IfOk result (IsLeastOf self.now prices.now k) }
     {
-        least_of(alloc, self.problem, k, &self.networks[k], prices)
+        least_of(alloc, self.problem, k, &self.networks[k], prices, chains)
     }
 
-    /// No legal roster costs less, in cost units, whatever the prices.
-    pub fn bound(&self, alloc: Global, prices: &[i64]) -> Result<i64, AllocError>
-        requires { ArePrices self.now prices.now }
-        ensures { IfOk result (IsLowerBound self.now) }
-    {
-        priced_shares_add_up();
-        shares_add_up();
-        let leasts = self.sum_of_leasts(alloc, prices)?;
-        let terms = sum_of_terms(self.problem, prices);
-        Ok(cost_without_pairings(self.problem) + in_units(leasts + terms))
-    }
-}
-
-impl<'a> Pricing<'a> {
     /// The sum of what each person's reduced costs are at least.
-    fn sum_of_leasts(&self, alloc: Global, prices: &[i64]) -> Result<i64, AllocError>
+    fn sum_of_leasts(
+        &self,
+        alloc: Global,
+        prices: &[i64],
+        chains: &mut Vec<Set>,
+    ) -> Result<i64, AllocError>
         requires { ArePrices self.now prices.now }
         ensures least { IfOk result (λ sum. (places : List ℕ) → IsLegalRoster self.now places
             → sum ≤ℤ reduced_costs self.now prices.now (length self.now.persons) places) }
@@ -82,7 +110,7 @@ impl<'a> Pricing<'a> {
         self.problem.is_sound();
         let mut sum = 0;
         for k in 0..self.problem.persons().len() {
-            sum += self.least(alloc, k, prices)?;
+            sum += self.least(alloc, k, prices, chains)?;
         }
         Ok(sum)
     }
@@ -95,6 +123,7 @@ fn least_of(
     k: usize,
     network: &Network,
     prices: &[i64],
+    chains: &mut Vec<Set>,
 ) -> Result<i64, AllocError>
     requires person { k < length problem.now.persons }
     requires network { IsNetwork problem.now k network.now }
@@ -107,6 +136,7 @@ fn least_of(
     let values = values_of(alloc, problem, k, prices)?;
     let rows = rows_of(alloc, problem, k, network, &values)?;
     let row = row_behind(alloc, problem, k, network, &values, &rows, &network.first)?;
+    chains.push(cheapest_chain(network, &values, &rows, &row))?;
     Ok(row.first())
 }
 

@@ -44,6 +44,14 @@ impl Row {
         self.values[0]
     }
 
+    /// The value in a state; nothing in one that isn't there.
+    pub(crate) fn at(&self, state: usize) -> i64 {
+        match self.values.get(state) {
+            Some(value) => *value,
+            None => 0,
+        }
+    }
+
     /// Lowers each state to what a pairing brings that has so many steps of flight, and what the row behind
     /// that pairing has there.
     fn relax(&mut self, after: &Row, value: i64, step: usize)

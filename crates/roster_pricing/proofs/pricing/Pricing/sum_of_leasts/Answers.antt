@@ -1,7 +1,8 @@
-use Rattle.std.proofs.Common.{◌≡◌, length, ℤ, ◌+ℤ◌, ap, ◌∙◌, arith, w64, to_z, of_z, FitsSigned, rules}
+use Rattle.std.proofs.Common.{◌≡◌, length, ℤ, ◌+ℤ◌, ap, subst, sym, ◌∙◌, arith, w64, to_z, of_z, FitsSigned, rules, ◌<◌, ◌≤◌}
 use Rattle.std.proofs.lemmas.Int.{ints, to_z-of_z}
+use Rattle.roster_model.specs.declared.limits.TheConstants.{MOST_PERSONS}
 use Rattle.roster_model.specs.Places.{set_of}
-use Rattle.roster_pricing.proofs.ShareLemmas.{given_line, reduced_more, reduced_none}
+use Rattle.roster_pricing.proofs.ShareLemmas.{given_line, reduced_more, reduced_none, sum_fits}
 use Rattle.roster_pricing.proofs.pricing.Pricing.sum_of_leasts.Goals as goal
 
 pub loop-k-init : goal.loop-k-init
@@ -25,7 +26,9 @@ loop-k-preserved c =
     let low = inv.within.0 in
     let high = inv.within.1 in
     let whole : ℤ = sum +ℤ to_z w64 (of_z w64 least) in
-    let whole_fits : FitsSigned w64 whole = search rules in
+    let person : k < length problem.persons = omega (arith, c.loop-k-test.true, ap length c.persons-k-end.ensures.value, ap (λ p. length p.persons) c.self.view_is) in
+    let few : length problem.persons ≤ MOST_PERSONS = omega (arith, persons, ap (λ p. length p.persons) c.self.view_is) in
+    let whole_fits : FitsSigned w64 whole = subst (λ z. FitsSigned w64 (sum +ℤ z)) (sym told) (sum_fits sum least k (length problem.persons) few person inv.within within) in
     let whole_told : to_z w64 (of_z w64 whole) ≡ sum +ℤ least = to_z-of_z w64 whole whole_fits ∙ ap (λ z. sum +ℤ z) told in
     record {
       below = λ places roster.

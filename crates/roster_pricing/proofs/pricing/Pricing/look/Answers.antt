@@ -4,7 +4,7 @@ use Rattle.roster_model.specs.Rosters.{IsLegalRoster}
 use Rattle.roster_cost.specs.Amounts.{cost_without_pairings}
 use Rattle.roster_pricing.specs.Reduced.{price_at, shares_behind}
 use Rattle.roster_pricing.proofs.ShareLemmas.{bound_below}
-use Rattle.roster_pricing.proofs.pricing.Pricing.bound.Goals as goal
+use Rattle.roster_pricing.proofs.pricing.Pricing.look.Goals as goal
 
 pub returns : goal.returns
 returns c =
