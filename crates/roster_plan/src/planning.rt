@@ -3,6 +3,7 @@
 ghost use Rattle.std.specs.Prelude.{◌≡◌, ◌≤◌, ◌⊎◌, All, IfOk, length, true};
 ghost use Rattle.roster_model.specs.Plans.{IsPlan};
 ghost use Rattle.roster_model.specs.Rosters.{IsLegalRoster, key_le, key_of};
+ghost use Rattle.roster_model.specs.Settled.{IsLowerBound};
 
 use crate::bound::lower_bound;
 use crate::changes::Change;
@@ -10,6 +11,7 @@ use crate::draft::Draft;
 use crate::kept::kept;
 use crate::search::Search;
 use roster_cost::{comes_before, keys_are_in_order, roster_cost};
+use roster_pricing::raised_bound;
 use roster_problem::{Places, Problem, Roster, open_number};
 use std::alloc::{AllocError, Global};
 
@@ -21,6 +23,16 @@ pub(crate) const MOST_EFFORT: u32 = 9;
 
 /// How many changes are looked at to learn what changes cost.
 const SAMPLES: u32 = 500;
+
+/// How many steps prices are worth at effort 0, about; each takes about a nanosecond. Each effort more doubles
+/// them.
+const FEWEST_STEPS: u64 = 1 << 28;
+
+/// How many states of flight a person has, about.
+const USUAL_STATES: u64 = 1000;
+
+/// How often prices are looked at, at most: by then they say hardly more.
+const MOST_LOOKS: u64 = 1000;
 
 /// A legal roster with its cost, and what no roster costs less than, in cost units.
 #[derive(Debug, Drop)]
@@ -45,13 +57,58 @@ pub fn plan(
         (λ planned. IsPlan problem.now given.now planned.roster planned.bound) }
 {
     keys_are_in_order();
-    let bound = lower_bound(alloc, problem)?;
     let open = vec![in alloc; open_number(problem); problem.pairings().len()]?;
     let start = kept(alloc, problem, given)?;
     let found = improved(alloc, problem, &start, effort)?;
     let known = earlier(costed(problem, start), costed(problem, open));
     let roster = earlier(costed(problem, found), known);
+    let bound = best_bound(alloc, problem, effort)?;
     Ok(Planned { roster, bound })
+}
+
+/// No legal roster costs less, in cost units: what each pairing costs at least, or what prices say if that is
+/// more. What a known roster costs says how far prices may go.
+fn best_bound(alloc: Global, problem: &Problem, known: i64, effort: u32) -> Result<i64, AllocError>
+    ensures { IfOk result (IsLowerBound problem.now) }
+{
+    let floor = lower_bound(alloc, problem)?;
+    let looks = looks_of(problem, effort);
+    if looks == 0 {
+        return Ok(floor);
+    }
+    let raised = raised_bound(alloc, problem, looks)?;
+    if floor < raised {
+        Ok(raised)
+    } else {
+        Ok(floor)
+    }
+}
+
+/// How often an effort looks at prices.
+fn looks_of(problem: &Problem, effort: u32) -> u32 {
+    let steps = if effort < MOST_EFFORT {
+        FEWEST_STEPS << effort
+    } else {
+        FEWEST_STEPS << MOST_EFFORT
+    };
+    let looks = steps / steps_of(problem).max(1);
+    looks.min(MOST_LOOKS) as u32
+}
+
+/// How many steps a look takes, about: for each person one for each two pairings of the same base, and each
+/// state of flight.
+fn steps_of(problem: &Problem) -> u64 {
+    let mut steps: u64 = 0;
+    for person in problem.persons() {
+        let mut pairings: u64 = 0;
+        for pairing in problem.pairings() {
+            if pairing.base == person.base {
+                pairings = pairings.wrapping_add(1);
+            }
+        }
+        steps = steps.wrapping_add(pairings.wrapping_mul(pairings) / 2);
+    }
+    steps.wrapping_mul(USUAL_STATES)
 }
 
 /// The roster with its cost.

@@ -9,21 +9,27 @@
 //! - `network`: which pairings may follow one another
 //! - `terms`: what flight costs at the end of a chain
 //! - `rows`: the table
-//! - `chains`: chains that bring the least
+//! - `columns`: chains that are known
+//! - `listing`: how they are listed
 //! - `pricing`: what prices say of all rosters
+//! - `master`: the best prices for the chains that are known
+//! - `softness`: weights and logarithms in whole numbers
 //! - `rising`: prices that say more and more
+//! - `lists`: what stands at a place of a list
 //! - `tuning`: the numbers that decide how good a bound is
 #![tactic(auto)]
 
-mod chains;
+mod columns;
+mod listing;
+mod lists;
+mod master;
 mod network;
 mod parts;
 mod pricing;
 mod rising;
 mod rows;
+mod softness;
 mod terms;
 mod tuning;
 
-pub use parts::{MOST_PRICE, PARTS};
-pub use pricing::{Look, Pricing};
 pub use rising::raised_bound;

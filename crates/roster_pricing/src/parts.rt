@@ -1,10 +1,10 @@
 //! Amounts in parts of a cost unit.
 
 /// How many parts a cost unit is counted in.
-pub const PARTS: u64 = 64;
+pub(crate) const PARTS: u64 = 64;
 
 /// A price, at most, and below 0, in parts of a cost unit.
-pub const MOST_PRICE: u64 = 1 << 38;
+pub(crate) const MOST_PRICE: u64 = 1 << 38;
 
 /// What a pairing brings to a chain, at most, and below 0: its units, less its price.
 pub(crate) const MOST_VALUE: u64 = 1 << 39;
@@ -13,7 +13,7 @@ pub(crate) const MOST_VALUE: u64 = 1 << 39;
 pub(crate) const MOST_TERM: u64 = 1 << 53;
 
 /// The least reduced cost of a person, at most, and below 0: a term, and the values of all pairings.
-pub const MOST_LEAST: u64 = 1 << 54;
+pub(crate) const MOST_LEAST: u64 = 1 << 54;
 
 /// More than any row has, on either side: two such amounts fit a word.
 pub(crate) const MOST_AMOUNT: u64 = 1 << 60;

@@ -8,7 +8,8 @@ ghost use Rattle.roster_cost.specs.Amounts.{IsWithin};
 ghost use Rattle.roster_pricing.specs.Networks.{AreValues, IsNetwork};
 ghost use Rattle.roster_pricing.specs.Reduced.{reduced_costs, shares_behind, ArePrices, IsLeastOf, IsTermOf};
 
-use crate::chains::cheapest_chain;
+use crate::columns::Columns;
+use crate::listing::renew_at;
 use crate::network::{Network, network_of};
 use crate::parts::{MOST_LEAST, MOST_PRICE, MOST_SUM, MOST_VALUE, PARTS};
 use crate::rows::{row_behind, rows_of};
@@ -16,24 +17,22 @@ use roster_cost::{cost_without_pairings, priced_shares_add_up, shares_add_up};
 use roster_cumulative::flight_of_set;
 use roster_legal::part_of_legal_is_legal;
 use roster_model::limits::{MOST_PAIRINGS, MOST_PERSONS};
-use roster_problem::{Problem, Set};
+use roster_problem::Problem;
 use std::alloc::{AllocError, Global};
 use std::marker::Model;
 
 /// What prices say of all rosters.
 #[derive(Debug, Drop)]
-pub struct Look {
+pub(crate) struct Look {
     /// No legal roster costs less, in cost units.
-    pub bound: i64,
+    pub(crate) bound: i64,
     /// The same in parts of a cost unit, above what it costs that nobody has a pairing.
-    pub parts: i64,
-    /// For each person a set that costs little at the prices, and that need not be legal. Nothing rests on it.
-    pub chains: Vec<Set>,
+    pub(crate) parts: i64,
 }
 
 /// The networks of all persons. Contracts see the problem.
 #[derive(Debug, Drop)]
-pub struct Pricing<'a> {
+pub(crate) struct Pricing<'a> {
     problem: &'a Problem,
     networks: Vec<Network>,
 }
@@ -51,7 +50,7 @@ impl<'a> Model for Pricing<'a> {
 
 impl<'a> Pricing<'a> {
     /// The networks of all persons of the problem.
-    pub fn new(alloc: Global, problem: &'a Problem) -> Result<Pricing<'a>, AllocError>
+    pub(crate) fn new(alloc: Global, problem: &'a Problem) -> Result<Pricing<'a>, AllocError>
         ensures { IfOk result (λ pricing. pricing ≡ problem.now) }
     {
         let mut networks = Vec::new(alloc);
@@ -61,23 +60,23 @@ impl<'a> Pricing<'a> {
         Ok(Pricing { problem, networks })
     }
 
-    /// What the prices say of all rosters.
-    pub fn look(&self, alloc: Global, prices: &[i64]) -> Result<Look, AllocError>
+    /// What the prices say of all rosters. The columns of persons are renewed.
+    pub(crate) fn look(
+        &self,
+        alloc: Global,
+        prices: &[i64],
+        columns: &mut [Columns],
+    ) -> Result<Look, AllocError>
         requires { ArePrices self.now prices.now }
         ensures { IfOk result (λ look. IsLowerBound self.now look.bound) }
     {
         priced_shares_add_up();
         shares_add_up();
-        let mut chains = Vec::new(alloc);
-        let leasts = self.sum_of_leasts(alloc, prices, &mut chains)?;
+        let leasts = self.sum_of_leasts(alloc, prices, columns)?;
         let terms = sum_of_terms(self.problem, prices);
         let parts = leasts + terms;
         let bound = cost_without_pairings(self.problem) + in_units(parts);
-        Ok(Look {
-            bound,
-            parts,
-            chains,
-        })
+        Ok(Look { bound, parts })
     }
 
     /// No line of person `k` has a lower reduced cost at the prices.
@@ -86,13 +85,13 @@ impl<'a> Pricing<'a> {
         alloc: Global,
         k: usize,
         prices: &[i64],
-        chains: &mut Vec<Set>,
+        columns: &mut [Columns],
     ) -> Result<i64, AllocError>
         requires person { k < length self.now.persons }
         requires prices { ArePrices self.now prices.now }
         ensures { IfOk result (IsLeastOf self.now prices.now k) }
     {
-        least_of(alloc, self.problem, k, &self.networks[k], prices, chains)
+        least_of(alloc, self.problem, k, &self.networks[k], prices, columns)
     }
 
     /// The sum of what each person's reduced costs are at least.
@@ -100,7 +99,7 @@ impl<'a> Pricing<'a> {
         &self,
         alloc: Global,
         prices: &[i64],
-        chains: &mut Vec<Set>,
+        columns: &mut [Columns],
     ) -> Result<i64, AllocError>
         requires { ArePrices self.now prices.now }
         ensures least { IfOk result (λ sum. (places : List ℕ) → IsLegalRoster self.now places
@@ -110,7 +109,7 @@ impl<'a> Pricing<'a> {
         self.problem.is_sound();
         let mut sum = 0;
         for k in 0..self.problem.persons().len() {
-            sum += self.least(alloc, k, prices, chains)?;
+            sum += self.least(alloc, k, prices, columns)?;
         }
         Ok(sum)
     }
@@ -123,7 +122,7 @@ fn least_of(
     k: usize,
     network: &Network,
     prices: &[i64],
-    chains: &mut Vec<Set>,
+    columns: &mut [Columns],
 ) -> Result<i64, AllocError>
     requires person { k < length problem.now.persons }
     requires network { IsNetwork problem.now k network.now }
@@ -136,8 +135,9 @@ fn least_of(
     let values = values_of(alloc, problem, k, prices)?;
     let rows = rows_of(alloc, problem, k, network, &values)?;
     let row = row_behind(alloc, problem, k, network, &values, &rows, &network.first)?;
-    chains.push(cheapest_chain(network, &values, &rows, &row))?;
-    Ok(row.first())
+    let least = row.first();
+    renew_at(alloc, k, network, prices, &values, &rows, least, columns)?;
+    Ok(least)
 }
 
 /// What each pairing brings to person `k`: its units, less its price.

@@ -3,17 +3,34 @@
 /// One, in shares.
 pub(crate) const ONE: i64 = 1 << 16;
 
-/// The first pace of prices, as a share of the step that would close the gap.
-pub(crate) const FIRST_PACE: i64 = ONE / 10;
+/// A person's columns that are listed at some prices, at most, and more of them if there are fewer.
+pub(crate) const MOST_COLUMNS: usize = 200;
 
-/// The least.
-pub(crate) const LEAST_PACE: i64 = ONE / 2048;
+pub(crate) const FEWEST_COLUMNS: usize = MOST_COLUMNS / 2;
 
-/// After so many looks that say no more the pace is cut by a third.
-pub(crate) const MISSES_A_CUT: u32 = 20;
+/// How far above the least columns are listed at first, at least and at most, in parts of a cost unit.
+pub(crate) const FIRST_REACH: i64 = 200 * 64;
 
-/// A look counts so much in the average of chains, at most.
-pub(crate) const MOST_SHARE: i64 = ONE / 10;
+pub(crate) const LEAST_REACH: i64 = 32;
 
-/// The gap that is taken for true at least, in parts of a cost unit: a known roster may cost far too much.
-pub(crate) const USUAL_GAP: i64 = 2000 * 64;
+pub(crate) const MOST_REACH: i64 = 2000 * 64;
+
+/// How many chains are tried for one list.
+pub(crate) const MOST_TRIES: u32 = 1 << 18;
+
+/// How often prices move by the columns before they are looked at again.
+pub(crate) const STEPS: u32 = 200;
+
+/// Softness at first, at least, and how many steps it stays that say no more, in parts of a cost unit.
+pub(crate) const FIRST_SOFTNESS: i64 = 60 * 64;
+
+pub(crate) const LEAST_SOFTNESS: i64 = 45;
+
+pub(crate) const PATIENCE: u32 = 5;
+
+/// How far prices move at first from those of the best bound, at least and at most, in parts of a cost unit.
+pub(crate) const FIRST_STRIDE: i64 = 150 * 64;
+
+pub(crate) const LEAST_STRIDE: i64 = 5 * 64;
+
+pub(crate) const MOST_STRIDE: i64 = 600 * 64;

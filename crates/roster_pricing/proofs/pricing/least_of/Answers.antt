@@ -18,8 +18,8 @@ row_behind-requires-clause-done c q among =
     let inside = ((c.requires.network.alone q).0 among).0 in
     omega (arith, inside, c.deref-3.ensures.value, c.in_ok-rows.ensures.all)
 
-pub first-requires : goal.first-requires
-first-requires c = omega (arith, c.in_ok-row.ensures.row.covers, c.requires.network.some)
+pub first-least-requires : goal.first-least-requires
+first-least-requires c = omega (arith, c.in_ok-row.ensures.row.covers, c.requires.network.some)
 
 -- the law of flight, of this person
 adds : (c : goal.After-drop-values-2) (set : List ℕ) → IsStrictlyIncreasing set → AddsFlight c.args.problem.now c.args.k set
@@ -34,8 +34,8 @@ returns c =
     let problem = c.args.problem.now in
     let row = c.in_ok-row.row in
     let is = subst (λ vs. IsRow c.args.network.now vs c.args.network.now.first row) c.deref-2.ensures.value c.in_ok-row.ensures.row in
-    let least : ℤ = c.first.result in
-    let first = c.first.ensures in
+    let least : ℤ = c.first-least.result in
+    let first = c.first-least.ensures in
     let some : 0 < length row = omega (arith, is.covers, c.requires.network.some) in
     let here = subst (IsWithin (MOST_TERM + (length c.deref-3.result.now + 1) * MOST_VALUE)) (sym first) (c.in_ok-row.ensures.within 0 (pos 0) some) in
     let rows = ap length c.deref-3.ensures.value in

@@ -2,7 +2,7 @@ use Rattle.std.proofs.Common.{◌≡◌, length}
 use Rattle.std.specs.Prelude.{All}
 use Rattle.roster_cost.specs.Amounts.{IsWithin}
 use Rattle.roster_pricing.specs.declared.parts.TheConstants.{MOST_PRICE}
-use Rattle.roster_pricing.proofs.rising.moved.Given as goal
+use Rattle.roster_pricing.proofs.rising.limited.Given as goal
 
 -- the prices so far
 abbrev pub invariant-loop-p : goal.invariant-loop-p

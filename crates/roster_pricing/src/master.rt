@@ -1,0 +1,133 @@
+//! The best prices for the chains that are known: the linear program of these columns, nearly. Nothing rests on
+//! them.
+
+use crate::columns::Columns;
+use crate::lists::amount_at;
+use crate::softness::logarithm;
+use crate::tuning::{FIRST_SOFTNESS, LEAST_SOFTNESS, ONE, PATIENCE, STEPS};
+use std::alloc::{AllocError, Global};
+
+/// Prices on their way, how fast each moves, and the best ones so far.
+#[derive(Drop)]
+struct Way {
+    prices: Vec<i64>,
+    speeds: Vec<i64>,
+    best: Vec<i64>,
+    most: i64,
+    softness: i64,
+    misses: u32,
+    turns: i64,
+}
+
+/// Prices near the given ones, by no more than the stride, at which the columns of all persons cost the most, each
+/// pairing counting with its price, or its penalty if that is less: soft covers with momentum.
+pub(crate) fn ascend(
+    alloc: Global,
+    columns: &[Columns],
+    center: &[i64],
+    penalties: &[i64],
+    stride: i64,
+) -> Result<Vec<i64>, AllocError> {
+    let mut way = start(alloc, center)?;
+    let mut values = Vec::new(alloc);
+    for _ in 0..STEPS {
+        let mut covers = vec![in alloc; 0; center.len()]?;
+        let mut sum: i64 = 0;
+        for list in columns {
+            let least = list.cover(&mut values, &way.prices, way.softness, &mut covers)?;
+            sum = sum.wrapping_add(least);
+        }
+        let terms = sum_of_terms(&way.prices, penalties);
+        judge(alloc, &mut way, sum.wrapping_add(terms))?;
+        advance(&mut way, &covers, center, penalties, stride);
+    }
+    Ok(way.best)
+}
+
+fn start(alloc: Global, center: &[i64]) -> Result<Way, AllocError> {
+    let speeds = vec![in alloc; 0; center.len()]?;
+    Ok(Way {
+        prices: copied(alloc, center)?,
+        speeds,
+        best: copied(alloc, center)?,
+        most: i64::MIN,
+        softness: FIRST_SOFTNESS,
+        misses: 0,
+        turns: 0,
+    })
+}
+
+fn copied(alloc: Global, list: &[i64]) -> Result<Vec<i64>, AllocError> {
+    let mut copy = Vec::new(alloc);
+    copy.extend_from_slice(list)?;
+    Ok(copy)
+}
+
+// The sum of the lesser of each price and penalty.
+fn sum_of_terms(prices: &[i64], penalties: &[i64]) -> i64 {
+    let mut sum: i64 = 0;
+    for (p, price) in prices.iter().enumerate() {
+        let penalty = amount_at(penalties, p);
+        sum = sum.wrapping_add(if *price < penalty { *price } else { penalty });
+    }
+    sum
+}
+
+// Keeps the prices if they are the best so far. Else softness falls in time.
+fn judge(alloc: Global, way: &mut Way, sum: i64) -> Result<(), AllocError> {
+    if sum > way.most {
+        way.most = sum;
+        way.best = copied(alloc, &way.prices)?;
+        way.misses = 0;
+        return Ok(());
+    }
+    way.misses = way.misses.wrapping_add(1);
+    if way.misses >= PATIENCE {
+        way.misses = 0;
+        way.softness = (way.softness.wrapping_mul(7) / 10).max(LEAST_SOFTNESS);
+    }
+    Ok(())
+}
+
+// Moves each price by how far its cover is from one, with what is left of its speed.
+fn advance(way: &mut Way, covers: &[i64], center: &[i64], penalties: &[i64], stride: i64) {
+    if turns_back(way, covers) {
+        way.turns = 0;
+    }
+    let turns = way.turns;
+    way.turns = turns.wrapping_add(1);
+    for p in 0..way.prices.len() {
+        let kept = slowed(amount_at(&way.speeds, p), turns);
+        let speed = kept.wrapping_add(push_of(amount_at(covers, p), way.softness));
+        let near = amount_at(center, p);
+        let price = way.prices[p]
+            .wrapping_add(speed)
+            .min(near.wrapping_add(stride))
+            .max(near.wrapping_sub(stride))
+            .min(amount_at(penalties, p));
+        way.prices[p] = price;
+        if p < way.speeds.len() {
+            way.speeds[p] = speed;
+        }
+    }
+}
+
+// What is left of a speed after so many turns in about one direction.
+fn slowed(speed: i64, turns: i64) -> i64 {
+    speed.wrapping_mul(turns) / turns.wrapping_add(3).max(1)
+}
+
+// By how much a price moves for its cover.
+fn push_of(cover: i64, softness: i64) -> i64 {
+    0_i64.wrapping_sub(logarithm(cover).wrapping_mul(softness).wrapping_mul(3) / (10 * ONE))
+}
+
+// Whether the prices move against what covers say.
+fn turns_back(way: &Way, covers: &[i64]) -> bool {
+    let mut along: i64 = 0;
+    for (p, speed) in way.speeds.iter().enumerate() {
+        let push = push_of(amount_at(covers, p), way.softness);
+        along = along.wrapping_add((push / 16).wrapping_mul(*speed / 16));
+    }
+    along < 0
+}

@@ -1,0 +1,45 @@
+//! Weights that fall by half for each so many parts, and logarithms, in whole numbers.
+
+use crate::tuning::ONE;
+
+/// The powers of two from 2 to the 24th down by sixteenths.
+const POWERS: [i64; 16] = [
+    16_777_216, 16_065_897, 15_384_737, 14_732_456, 14_107_831, 13_509_688, 12_936_906, 12_388_408,
+    11_863_166, 11_360_193, 10_878_545, 10_417_318, 9_975_645, 9_552_700, 9_147_686, 8_759_844,
+];
+
+/// The weight of what is so far above the least.
+pub(crate) fn weight_of(above: i64, softness: i64) -> i64 {
+    let sixteenths = above.wrapping_mul(16) / softness.max(1);
+    let halves = sixteenths / 16;
+    if sixteenths < 0 || halves >= 24 {
+        return 0;
+    }
+    POWERS[(sixteenths % 16) as usize] >> halves
+}
+
+/// A weight as a share of the sum.
+pub(crate) fn share_of(weight: i64, sum: i64) -> i64 {
+    weight.wrapping_mul(ONE) / sum.max(1)
+}
+
+/// The logarithm to base 2 of a share, from -4 to 4, as so many parts of `ONE`; nearly.
+pub(crate) fn logarithm(share: i64) -> i64 {
+    let least = ONE / 16;
+    if share <= least {
+        return -4 * ONE;
+    }
+    if share >= 16 * ONE {
+        return 4 * ONE;
+    }
+    let mut power: i64 = -4;
+    let mut rest = share.wrapping_mul(16);
+    for _ in 0..8 {
+        if rest < 2 * ONE {
+            return power.wrapping_mul(ONE).wrapping_add(rest.wrapping_sub(ONE));
+        }
+        rest /= 2;
+        power = power.wrapping_add(1);
+    }
+    4 * ONE
+}
