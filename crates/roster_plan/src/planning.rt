@@ -32,7 +32,7 @@ const FEWEST_STEPS: u64 = 1 << 28;
 const USUAL_STATES: u64 = 1000;
 
 /// How often prices are looked at, at most: by then they say hardly more.
-const MOST_LOOKS: u64 = 1000;
+const MOST_LOOKS: u64 = 400;
 
 /// A legal roster with its cost, and what no roster costs less than, in cost units.
 #[derive(Debug, Drop)]
@@ -67,8 +67,8 @@ pub fn plan(
 }
 
 /// No legal roster costs less, in cost units: what each pairing costs at least, or what prices say if that is
-/// more. What a known roster costs says how far prices may go.
-fn best_bound(alloc: Global, problem: &Problem, known: i64, effort: u32) -> Result<i64, AllocError>
+/// more.
+fn best_bound(alloc: Global, problem: &Problem, effort: u32) -> Result<i64, AllocError>
     ensures { IfOk result (IsLowerBound problem.now) }
 {
     let floor = lower_bound(alloc, problem)?;

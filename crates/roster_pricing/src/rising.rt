@@ -11,7 +11,7 @@ use crate::lists::amount_at;
 use crate::master::ascend;
 use crate::parts::{MOST_PRICE, PARTS};
 use crate::pricing::Pricing;
-use crate::tuning::{FIRST_REACH, FIRST_STRIDE, LEAST_STRIDE, MOST_STRIDE};
+use crate::tuning::{FIRST_REACH, FIRST_STRIDE, LEAST_STRIDE, MOST_IDLE, MOST_STRIDE};
 use roster_problem::Problem;
 use std::alloc::{AllocError, Global};
 
@@ -22,12 +22,14 @@ struct Rise {
     bound: i64,
     parts: i64,
     stride: i64,
+    // How many looks in a row have said no more in whole cost units.
+    idle: u32,
 }
 
 /// A number that no legal roster costs less than, in cost units: the best of so many looks at prices, the first
 /// of them at none. Each look lists the chains that cost least, and the next prices are the best ones for all
-/// chains that are known: column generation, with prices kept near those of the best look. Nothing but the
-/// number of looks bounds the work.
+/// chains that are known: column generation, with prices kept near those of the best look. It ends before
+/// so many looks if many in a row say no more.
 pub fn raised_bound(alloc: Global, problem: &Problem, looks: u32) -> Result<i64, AllocError>
     ensures { IfOk result (IsLowerBound problem.now) }
 {
@@ -35,6 +37,9 @@ pub fn raised_bound(alloc: Global, problem: &Problem, looks: u32) -> Result<i64,
     let mut columns = no_columns(alloc, problem.persons().len())?;
     let mut rise = first(alloc, problem, &pricing, &mut columns)?;
     for _ in 1..looks {
+        if rise.idle >= MOST_IDLE {
+            break;
+        }
         step(alloc, problem, &pricing, &mut columns, &mut rise)?;
     }
     Ok(rise.bound)
@@ -66,6 +71,7 @@ fn first(
         bound: look.bound,
         parts: look.parts,
         stride: FIRST_STRIDE,
+        idle: 0,
     })
 }
 
@@ -100,6 +106,11 @@ fn take(problem: &Problem, rise: &mut Rise, prices: Vec<i64>, bound: i64, parts:
     ensures { IsRise problem.now rise.new }
 {
     let _ = problem;
+    rise.idle = if bound > rise.bound {
+        0
+    } else {
+        rise.idle.wrapping_add(1)
+    };
     rise.prices = prices;
     rise.bound = bound;
     rise.parts = parts;
@@ -112,6 +123,7 @@ fn miss(problem: &Problem, rise: &mut Rise)
     ensures { IsRise problem.now rise.new }
 {
     let _ = problem;
+    rise.idle = rise.idle.wrapping_add(1);
     rise.stride = (rise.stride.wrapping_mul(3) / 5).max(LEAST_STRIDE);
 }
 

@@ -34,3 +34,6 @@ pub(crate) const FIRST_STRIDE: i64 = 150 * 64;
 pub(crate) const LEAST_STRIDE: i64 = 5 * 64;
 
 pub(crate) const MOST_STRIDE: i64 = 600 * 64;
+
+/// After so many looks in a row that say no more in whole cost units the bound is as good as it gets.
+pub(crate) const MOST_IDLE: u32 = 12;
