@@ -31,8 +31,8 @@ const FEWEST_STEPS: u64 = 1 << 28;
 /// How many states of flight a person has, about.
 const USUAL_STATES: u64 = 1000;
 
-/// How often prices are looked at, at most: by then they say hardly more.
-const MOST_LOOKS: u64 = 400;
+/// How often prices are looked at, at most, at effort 0.
+const FEWEST_LOOKS: u32 = 4;
 
 /// A legal roster with its cost, and what no roster costs less than, in cost units.
 #[derive(Debug, Drop)]
@@ -62,13 +62,13 @@ pub fn plan(
     let found = improved(alloc, problem, &start, effort)?;
     let known = earlier(costed(problem, start), costed(problem, open));
     let roster = earlier(costed(problem, found), known);
-    let bound = best_bound(alloc, problem, effort)?;
+    let bound = best_bound(alloc, problem, roster.cost, effort)?;
     Ok(Planned { roster, bound })
 }
 
 /// No legal roster costs less, in cost units: what each pairing costs at least, or what prices say if that is
-/// more.
-fn best_bound(alloc: Global, problem: &Problem, effort: u32) -> Result<i64, AllocError>
+/// more. It need not be more than what the known roster costs.
+fn best_bound(alloc: Global, problem: &Problem, known: i64, effort: u32) -> Result<i64, AllocError>
     ensures { IfOk result (IsLowerBound problem.now) }
 {
     let floor = lower_bound(alloc, problem)?;
@@ -76,7 +76,7 @@ fn best_bound(alloc: Global, problem: &Problem, effort: u32) -> Result<i64, Allo
     if looks == 0 {
         return Ok(floor);
     }
-    let raised = raised_bound(alloc, problem, looks)?;
+    let raised = raised_bound(alloc, problem, known, looks)?;
     if floor < raised {
         Ok(raised)
     } else {
@@ -84,15 +84,16 @@ fn best_bound(alloc: Global, problem: &Problem, effort: u32) -> Result<i64, Allo
     }
 }
 
-/// How often an effort looks at prices.
+/// How often an effort looks at prices: more often the greater it is, if there is time for so many steps.
 fn looks_of(problem: &Problem, effort: u32) -> u32 {
-    let steps = if effort < MOST_EFFORT {
-        FEWEST_STEPS << effort
+    let effort = if effort < MOST_EFFORT {
+        effort
     } else {
-        FEWEST_STEPS << MOST_EFFORT
+        MOST_EFFORT
     };
-    let looks = steps / steps_of(problem).max(1);
-    looks.min(MOST_LOOKS) as u32
+    let looks = FEWEST_LOOKS + effort * (effort + 2);
+    let in_time = (FEWEST_STEPS << effort) / steps_of(problem).max(1);
+    in_time.min(u64::from(looks)) as u32
 }
 
 /// How many steps a look takes, about: for each person one for each two pairings of the same base, and each

@@ -29,15 +29,20 @@ struct Rise {
 /// A number that no legal roster costs less than, in cost units: the best of so many looks at prices, the first
 /// of them at none. Each look lists the chains that cost least, and the next prices are the best ones for all
 /// chains that are known: column generation, with prices kept near those of the best look. It ends before
-/// so many looks if many in a row say no more.
-pub fn raised_bound(alloc: Global, problem: &Problem, looks: u32) -> Result<i64, AllocError>
+/// so many looks if many in a row say no more, or if the bound is what a known roster costs.
+pub fn raised_bound(
+    alloc: Global,
+    problem: &Problem,
+    known: i64,
+    looks: u32,
+) -> Result<i64, AllocError>
     ensures { IfOk result (IsLowerBound problem.now) }
 {
     let pricing = Pricing::new(alloc, problem)?;
     let mut columns = no_columns(alloc, problem.persons().len())?;
     let mut rise = first(alloc, problem, &pricing, &mut columns)?;
     for _ in 1..looks {
-        if rise.idle >= MOST_IDLE {
+        if rise.idle >= MOST_IDLE || rise.bound >= known {
             break;
         }
         step(alloc, problem, &pricing, &mut columns, &mut rise)?;
