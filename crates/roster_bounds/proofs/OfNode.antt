@@ -1,14 +1,10 @@
 -- What the rosters of a node have at each place.
 use Rattle.std.proofs.Common.{◌≡◌, ℕ, ◌<◌, ◌≤◌, true, false, eqb, eq-eqb, ℤ, pos, ◌≤ℤ◌, List, length, get_or, Some, refl, sym, ◌∙◌, subst, inl, inr, arith}
-use Rattle.std.specs.Prelude.{All, slice_get}
+use Rattle.std.specs.Prelude.{slice_get}
 use Rattle.std.proofs.lemmas.Bool.{both_ways, cases_Bool, cases_lt, ltb-true, ne_eqb}
 use Rattle.std.proofs.lemmas.Option.{slice_get_within, slice_get-get_or, get_or_from_slice_get}
-use Rattle.roster_model.specs.Lines.{IsLine}
 use Rattle.roster_model.specs.Places.{set_of}
-use Rattle.roster_model.specs.Problem.{Problem}
-use Rattle.roster_model.specs.Rosters.{IsLegalRoster}
 use Rattle.roster_model.proofs.PlacesLemmas.{is_among-set_of_past}
-use Rattle.roster_model.proofs.SetLemmas.{Ascends-set_of, places_of_number, rising_from_Ascends}
 use Rattle.roster_model.specs.Rules.{is_among}
 use Rattle.roster_model.proofs.PlacesParts.{in_set_of_number, number_from_set_of}
 use Rattle.roster_lines.specs.Entries.{Entry}
@@ -76,15 +72,7 @@ below_both tables p x z price penalty =
 
 -- ---- lines of its rosters
 
--- what a legal roster gives a person is a line,
-pub given_is_line : (problem : Problem) (k : ℕ) (places : List ℕ) → IsLegalRoster problem places → k < length problem.persons → IsLine problem k (set_of k places)
-given_is_line problem k places legal person = record {
-  ascending = rising_from_Ascends (set_of k places) (Ascends-set_of k places);
-  places = subst (λ n. All (λ p. p < n) (set_of k places)) legal.covers (places_of_number k places);
-  legal = legal.legal k person;
-}
-
--- and a later person's shares no pairing with the lines
+-- a later person's line shares no pairing with these lines
 pub later_is_apart : (table : List (List Entry)) (lines places : List ℕ) (k : ℕ) → HasLines table lines places → length lines ≤ k → Meets table lines (set_of k places) → ⊥
 later_is_apart table lines places k has later both =
     let p = both.0 in

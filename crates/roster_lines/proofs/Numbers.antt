@@ -1,14 +1,14 @@
 -- The line numbers of a roster.
 use Rattle.std.proofs.Common.{◌≡◌, ℕ, zero, suc, ◌<◌, List, [], ◌∷◌, length, get_or, Some, refl, ap, subst, arith}
-use Rattle.std.specs.Prelude.{All, slice_get}
+use Rattle.std.specs.Prelude.{slice_get}
 use Rattle.std.proofs.lemmas.List.{same_lists}
 use Rattle.std.proofs.lemmas.Option.{none-some, same_Some, slice_get_within, slice_get-get_or}
-use Rattle.roster_model.specs.Lines.{AreNumbersOf, AreTables, IsLine}
+use Rattle.roster_model.specs.Lines.{AreNumbersOf, AreTables}
 use Rattle.roster_model.specs.Problem.{Problem}
 use Rattle.roster_model.specs.Places.{set_of}
 use Rattle.roster_model.specs.Rosters.{IsLegalRoster}
-use Rattle.roster_model.proofs.SetLemmas.{Ascends-set_of, places_of_number, rising_from_Ascends}
 use Rattle.roster_lines.proofs.Cuts.{one_place}
+use Rattle.roster_model.proofs.LineLemmas.{given_line}
 
 chosen : {A B : Type 0} (R : ℕ → A → B → Type 0) (x : A) (xs : List A) (y : B) (ys : List B) → R 0 x y → ((j : ℕ) (v : A) (w : B) → slice_get xs j ≡ Some v → slice_get ys j ≡ Some w → R (suc j) v w) → (j : ℕ) (v : A) (w : B) → slice_get (x ∷ xs) j ≡ Some v → slice_get (y ∷ ys) j ≡ Some w → R j v w
 chosen R x xs y ys first rest zero v w at other =
@@ -23,20 +23,12 @@ choices R (x ∷ xs) each =
     let rest = choices (λ j. R (suc j)) xs (λ j z at. each (suc j) z at) in
     (first.0 ∷ rest.0, ap suc rest.1, chosen R x xs first.0 rest.0 first.1 rest.2)
 
--- the set of a person in a legal roster is a line
-IsLine-set_of : (problem : Problem) (k : ℕ) (places : List ℕ) → IsLegalRoster problem places → k < length problem.persons → IsLine problem k (set_of k places)
-IsLine-set_of problem k places roster person = record {
-  ascending = rising_from_Ascends (set_of k places) (Ascends-set_of k places);
-  places = subst (λ n. All (λ p. p < n) (set_of k places)) roster.covers (places_of_number k places);
-  legal = roster.legal k person;
-}
-
 pub AreNumbersOf-exist : (problem : Problem) (tables : List (List (List ℕ))) (places : List ℕ) → AreTables problem tables → IsLegalRoster problem places → (numbers : List ℕ) × AreNumbersOf tables places numbers
 AreNumbersOf-exist problem tables places are roster =
     let found = choices (λ k (sets : List (List ℕ)) i. slice_get sets i ≡ Some (set_of k places)) tables (λ k sets at.
     let inside = slice_get_within tables k sets at in
     let covers = are.covers in
-    (are.each k sets at).every (set_of k places) (IsLine-set_of problem k places roster (omega arith))) in (
+    (are.each k sets at).every (set_of k places) (given_line problem k places roster (omega arith))) in (
       found.0,
       record {
         box = record {

@@ -1,16 +1,16 @@
 -- The entries of some lines, one line after another.
-use Rattle.std.proofs.Common.{◌≡◌, ℕ, zero, suc, ◌+◌, ◌-◌, ◌<◌, ◌≤◌, false, eq-eqb, List, [], ◌∷◌, ◌++◌, length, get_or, map, Some, refl, sym, ap, ◌∙◌, subst, inl, inr, arith, append-nil}
+use Rattle.std.proofs.Common.{◌≡◌, ℕ, zero, suc, ◌+◌, ◌-◌, ◌<◌, ◌≤◌, false, eq-eqb, List, [], ◌∷◌, ◌++◌, length, get_or, map, Some, refl, sym, ap, ◌∙◌, subst, arith, append-nil}
 use Rattle.std.specs.Prelude.{All, option_map, slice_get}
 use Rattle.std.specs.List.Sorted.{IsStrictlyIncreasing}
-use Rattle.std.proofs.lemmas.Bool.{cases_lt}
 use Rattle.std.proofs.lemmas.List.{append_assoc, map-append, length-map, length_push, get_or_append_left, get_or_push}
 use Rattle.std.proofs.lemmas.List.Elements.{All-cons, All-nil, All-push}
 use Rattle.std.proofs.lemmas.List.Quantifiers.{all_pairs_push}
-use Rattle.std.proofs.lemmas.Option.{none-some, same_Some, slice_get_within, slice_get-get_or, slice_get-map, get_or_from_slice_get}
+use Rattle.std.proofs.lemmas.Option.{none-some, same_Some, slice_get_within, slice_get-get_or, slice_get-map}
 use Rattle.roster_model.specs.declared.limits.TheConstants.{MOST_LINES, MOST_PAIRINGS}
 use Rattle.roster_model.specs.Lines.{AreOrdered}
 use Rattle.roster_model.specs.Places.{places_le}
 use Rattle.roster_model.proofs.SetLemmas.{length_within, Ascends-from_rising, Ascends-push, rising_from_Ascends}
+use Rattle.roster_model.proofs.PushLemmas.{each-push}
 use Rattle.roster_lines.specs.declared.lines.Row.{Row}
 use Rattle.roster_lines.specs.Entries.{Entry, costs_of, entry_of, longer, set_at, sets_of}
 use Rattle.roster_lines.specs.Rows.{entries_after, set_after, IsWithinLimits}
@@ -158,26 +158,6 @@ IsTree-first line root none =
 
 pub AreOrdered-push : (sets : List (List ℕ)) (set : List ℕ) → AreOrdered sets → All (λ s. places_le set s ≡ false) sets → AreOrdered (sets ++ set ∷ [])
 AreOrdered-push sets set ordered before = all_pairs_push (λ a b. places_le b a ≡ false) sets set ordered before
-
--- what is so of each of some elements at its place, and of one more
-pub each-push : {X : Type 0} (P : ℕ → X → Type 0) (xs : List X) (x : X) → ((i : ℕ) (y : X) → slice_get xs i ≡ Some y → P i y) → P (length xs) x → (i : ℕ) (y : X) → slice_get (xs ++ x ∷ []) i ≡ Some y → P i y
-each-push P xs x each here i y at =
-    let inside = slice_get_within (xs ++ x ∷ []) i y at in
-    let is : get_or (xs ++ x ∷ []) i y ≡ y = get_or_from_slice_get (xs ++ x ∷ []) i y y at in
-    elim (cases_lt i (length xs)) [
-      | inl old ↦ each i y (slice_get-get_or xs i y old ∙ ap Some (sym (get_or_append_left xs (x ∷ []) y i old) ∙ is))
-      | inr new ↦
-          let last : length xs ≡ i = omega (arith, inside, length_push xs x) in
-          let same : x ≡ y = sym (get_or_push xs x y i last) ∙ is in
-          subst (P i) same (subst (λ n. P n x) last here)
-    ]
-
--- the same of the list that a push makes, and how long it is
-pub each-next : {X : Type 0} (P : ℕ → X → Type 0) (n : ℕ) (old new : List X) (x : X) → new ≡ old ++ x ∷ [] → length old ≡ n → ((i : ℕ) (y : X) → slice_get old i ≡ Some y → P i y) → P n x → (length new ≡ n + 1) × ((i : ℕ) (y : X) → slice_get new i ≡ Some y → P i y)
-each-next P n old new x pushed long each here = (
-  ap length pushed ∙ length_push old x ∙ ap (λ k. k + 1) long,
-  λ i y at. each-push P old x each (subst (λ k. P k x) (sym long) here) i y (ap (λ xs. slice_get xs i) (sym pushed) ∙ at),
-)
 
 -- a line that others go on from has room for one pairing more
 pub depth_below : (lines : List Row) → IsTree lines → (i : ℕ) (line : Row) (last : ℕ) → slice_get lines i ≡ Some line → last < MOST_PAIRINGS → All (λ p. p < last) (set_at (entries_in lines) i) → line.depth + 1 ≤ MOST_PAIRINGS

@@ -3,11 +3,11 @@ use Rattle.std.proofs.Common.{◌≡◌, ℕ, List, [], ◌∷◌, ◌++◌, len
 use Rattle.std.specs.Prelude.{slice_get}
 use Rattle.std.proofs.lemmas.Option.{none-some, same_Some}
 use Rattle.roster_model.specs.Problem.{Problem}
+use Rattle.roster_model.proofs.PushLemmas.{each-push}
 use Rattle.roster_lines.specs.Entries.{Entry, sets_of}
 use Rattle.roster_lines.specs.Person.{AreListedOf}
 use Rattle.roster_lines.specs.SomeLines.{AreWantedLines}
 use Rattle.roster_lines.specs.WantedTables.{AreAllWanted, AreListedSoFar}
-use Rattle.roster_lines.proofs.TreeLemmas.{each-push}
 
 -- with lines of one person more
 pub AreListedSoFar-push : (problem : Problem) (table : List (List Entry)) (lines : List Entry) → AreListedSoFar problem table → AreListedOf problem (length table) lines → AreListedSoFar problem (table ++ lines ∷ [])

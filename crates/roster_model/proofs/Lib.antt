@@ -12,3 +12,5 @@ pub mod RosterLemmas
 pub mod SettledLemmas
 pub mod SumLemmas
 pub mod CostLemmas
+pub mod LineLemmas
+pub mod PushLemmas

@@ -1,13 +1,14 @@
 -- Lists that grow, and rows that say what chains bring at least.
 use Rattle.std.proofs.Common.{◌≡◌, ℕ, ◌+◌, ◌-◌, ◌*◌, ◌<◌, ◌≤◌, true, List, [], ◌∷◌, ◌++◌, length, get_or, Some, refl, sym, ap, ◌∙◌, subst, inl, inr, arith, ℤ, ◌+ℤ◌, ◌≤ℤ◌}
 use Rattle.std.specs.Prelude.{All, slice_get}
-use Rattle.std.proofs.lemmas.Bool.{cases_eq, cases_lt}
+use Rattle.std.proofs.lemmas.Bool.{cases_eq}
 use Rattle.std.proofs.lemmas.Int.{ints}
 use Rattle.std.proofs.lemmas.List.{get_or_append_left, get_or_push, length_push}
 use Rattle.std.proofs.lemmas.List.Elements.{All-nil, All-push, All-weaker}
-use Rattle.std.proofs.lemmas.Option.{get_or_from_slice_get, slice_get-get_or, slice_get_within}
+use Rattle.std.proofs.lemmas.Option.{slice_get-get_or, slice_get_within}
 use Rattle.roster_model.specs.Problem.{Problem}
 use Rattle.roster_model.specs.Rules.{is_among}
+use Rattle.roster_model.proofs.PushLemmas.{each-push}
 use Rattle.roster_cost.specs.Amounts.{IsWithin}
 use Rattle.roster_pricing.specs.declared.network.Network.{Network}
 use Rattle.roster_pricing.specs.declared.parts.TheConstants.{MOST_TERM, MOST_VALUE}
@@ -58,19 +59,6 @@ row_is problem network values rows first row some are covers ended led there = r
         let later = (are.each q behind place.0 at).below next (next_inside (length network.terms.items) f (get_or network.steps.items q 0) some) rest begins.1 in
         let here = led q behind begins.0 at f inside in
         omega (arith, ints, later, here, chain-cons network values f q rest)
-
--- what is so of each of some elements at its place, and of one more
-pub each-push : {X : Type 0} (P : ℕ → X → Type 0) (xs : List X) (x : X) → ((i : ℕ) (y : X) → slice_get xs i ≡ Some y → P i y) → P (length xs) x → (i : ℕ) (y : X) → slice_get (xs ++ x ∷ []) i ≡ Some y → P i y
-each-push P xs x each here i y at =
-    let inside = slice_get_within (xs ++ x ∷ []) i y at in
-    let is : get_or (xs ++ x ∷ []) i y ≡ y = get_or_from_slice_get (xs ++ x ∷ []) i y y at in
-    elim (cases_lt i (length xs)) [
-      | inl old ↦ each i y (slice_get-get_or xs i y old ∙ ap Some (sym (get_or_append_left xs (x ∷ []) y i old) ∙ is))
-      | inr new ↦
-          let last : length xs ≡ i = omega (arith, inside, length_push xs x) in
-          let same : x ≡ y = sym (get_or_push xs x y i last) ∙ is in
-          subst (P i) same (subst (λ n. P n x) last here)
-    ]
 
 -- the row of pairing q
 IsRowOf : Problem → Network → List ℤ → ℕ → List ℤ → Type 0

@@ -1,6 +1,6 @@
 -- What pairings bring to a roster beside reduced costs, one after another, and what a roster costs at least.
 use Rattle.std.proofs.Common.{◌≡◌, ℕ, zero, suc, ◌+◌, ◌-◌, ◌*◌, ◌<◌, eqb, cond, List, [], ◌∷◌, length, drop, get_or, Some, refl, sym, ap, ◌∙◌, subst, inl, inr, arith, ℤ, pos, ◌+ℤ◌, ◌-ℤ◌, ◌*ℤ◌, ◌≤ℤ◌, eq-eqb, w64, FitsSigned, rules, ◌≤◌}
-use Rattle.std.specs.Prelude.{All, slice_get}
+use Rattle.std.specs.Prelude.{slice_get}
 use Rattle.std.specs.List.{range_with_len}
 use Rattle.std.proofs.lemmas.Bool.{cases_eq, ne_eqb}
 use Rattle.std.proofs.lemmas.Int.{ints}
@@ -10,9 +10,7 @@ use Rattle.roster_model.specs.records.Pairing.{Pairing}
 use Rattle.roster_model.specs.Problem.{Problem}
 use Rattle.roster_model.specs.Places.{open_number, set_of}
 use Rattle.roster_model.specs.Costs.{cost_of, line_cost, open_penalties, total}
-use Rattle.roster_model.specs.Lines.{IsLine}
 use Rattle.roster_model.specs.Rosters.{IsLegalRoster}
-use Rattle.roster_model.proofs.SetLemmas.{rising_from_Ascends, Ascends-set_of, places_of_number}
 use Rattle.roster_model.specs.Settled.{IsLowerBound}
 use Rattle.roster_model.proofs.CostLemmas.{total-nil, total-cons}
 use Rattle.roster_model.specs.declared.limits.TheConstants.{MOST_PERSONS}
@@ -81,14 +79,6 @@ reduced_more problem prices k places = total-next (λ j. reduced problem prices 
 
 pub reduced_none : (problem : Problem) (prices : List ℤ) (places : List ℕ) → reduced_costs problem prices 0 places ≡ pos 0
 reduced_none problem prices places = total-nil (λ j. reduced problem prices j (set_of j places))
-
--- each person's set in a roster is a line
-pub given_line : (problem : Problem) (k : ℕ) (places : List ℕ) → IsLegalRoster problem places → k < length problem.persons → IsLine problem k (set_of k places)
-given_line problem k places roster person = record {
-  ascending = rising_from_Ascends (set_of k places) (Ascends-set_of k places);
-  places = subst (λ n. All (λ p. p < n) (set_of k places)) roster.covers (places_of_number k places);
-  legal = roster.legal k person;
-}
 
 -- of three sums over the same
 sums_split : {X : Type 0} (whole line idle priced : X → ℤ) → ((x : X) → whole x ≡ (pos PARTS *ℤ (line x -ℤ idle x)) -ℤ (line x -ℤ priced x)) → (xs : List X)

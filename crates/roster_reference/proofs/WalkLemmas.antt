@@ -1,7 +1,7 @@
 -- What a walk of lines settles: at its end one roster, and else one line after another of the next
 -- person.
 use Rattle.std.proofs.Common.{◌≡◌, ℕ, ◌+◌, ◌<◌, ◌⊎◌, true, List, [], length, get_or, Some, refl, sym, ◌∙◌, subst, inl, inr, arith}
-use Rattle.std.specs.Prelude.{All, slice_get}
+use Rattle.std.specs.Prelude.{slice_get}
 use Rattle.std.proofs.lemmas.Bool.{cases_lt}
 use Rattle.std.proofs.lemmas.List.{length-map}
 use Rattle.std.proofs.lemmas.Option.{same_Some, slice_get_within, slice_get-get_or, slice_get-map, get_or_from_slice_get}
@@ -11,12 +11,13 @@ use Rattle.roster_model.specs.Places.{set_of, open_number}
 use Rattle.roster_model.specs.Lines.{AreLines, IsLine}
 use Rattle.roster_model.specs.Rosters.{IsLegalRoster, Key}
 use Rattle.roster_model.proofs.PlacesParts.{number_from_set_of, same_number, same_places}
-use Rattle.roster_model.proofs.SetLemmas.{All-from_is_among, All-is_among, Ascends-set_of, places_of_number, rising_from_Ascends}
+use Rattle.roster_model.proofs.SetLemmas.{All-from_is_among, All-is_among}
 use Rattle.roster_lines.specs.Entries.{Entry, sets_of}
 use Rattle.roster_lines.specs.Person.{lines_at, IsTableOf}
 use Rattle.roster_model.specs.Settled.{Anywhere, IsHeld, Settles}
 use Rattle.roster_reference.specs.Walk.{AgreeBefore, IsWalkedTo}
 use Rattle.roster_model.proofs.SettledLemmas.{Settles-nothing, Settles-then, Settles-within}
+use Rattle.roster_model.proofs.LineLemmas.{given_line}
 use Rattle.roster_problem.proofs.PutLemmas.{Throughout}
 use Rattle.roster_reference.proofs.GivenLine.{GivesLine, given_set, kept_set}
 
@@ -52,14 +53,6 @@ line_in_table problem table k i set is person at =
     let lines : List (List ℕ) = sets_of (lines_at table k) in
     let all = (lines_in_table problem table k is person).some.lines in
     subst (IsLine problem k) (get_or_from_slice_get lines i set set at) (all i set (slice_get_within lines i set at))
-
--- what a legal roster gives a person is a line
-given_is_line : (problem : Problem) (k : ℕ) (others : List ℕ) → IsLegalRoster problem others → k < length problem.persons → IsLine problem k (set_of k others)
-given_is_line problem k others legal person = record {
-  ascending = rising_from_Ascends (set_of k others) (Ascends-set_of k others);
-  places = subst (λ n. All (λ p. p < n) (set_of k others)) legal.covers (places_of_number k others);
-  legal = legal.legal k person;
-}
 
 -- ---- one line after another
 
@@ -128,5 +121,5 @@ pub tried_all : (problem : Problem) (lines : List (List ℕ)) (k : ℕ) (places 
 tried_all problem lines k places old new all person settled =
     Settles-within problem (Tried lines (length lines) k places) (AgreeBefore k places) Anywhere (Some old) new settled
     (λ others legal agree.
-    let found = all.every (set_of k others) (given_is_line problem k others legal person) in
+    let found = all.every (set_of k others) (given_line problem k others legal person) in
     (agree, (found.0, slice_get_within lines found.0 (set_of k others) found.1, found.1)))

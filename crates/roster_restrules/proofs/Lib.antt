@@ -3,5 +3,4 @@ pub mod DutyDays
 pub mod DaysOff
 pub mod Nights
 pub mod Rested
-pub mod Pushed
 pub mod TimedLists

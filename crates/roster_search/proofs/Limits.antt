@@ -1,5 +1,5 @@
 -- What legal rosters cost is within limits.
-use Rattle.std.proofs.Common.{◌≡◌, ℕ, zero, suc, ◌+◌, ◌*◌, ◌^◌, ◌-◌, ◌<◌, ◌≤◌, Bool, true, false, cond, eqb, List, [], ◌∷◌, length, ℤ, pos, neg_ℤ, ◌+ℤ◌, ◌-ℤ◌, ◌<ℤ◌, ◌≤ℤ◌, subst, arith}
+use Rattle.std.proofs.Common.{◌≡◌, ℕ, zero, suc, ◌+◌, ◌*◌, ◌^◌, ◌-◌, ◌<◌, ◌≤◌, Bool, true, false, cond, eqb, List, [], ◌∷◌, length, ℤ, pos, neg_ℤ, ◌+ℤ◌, ◌-ℤ◌, ◌<ℤ◌, ◌≤ℤ◌, arith}
 use Rattle.std.specs.Prelude.{All}
 use Rattle.std.specs.List.{range_with_len}
 use Rattle.std.proofs.lemmas.Int.{ints}
@@ -12,7 +12,7 @@ use Rattle.roster_model.specs.Problem.{Problem}
 use Rattle.roster_model.specs.Rosters.{IsLegalRoster}
 use Rattle.roster_model.specs.records.Pairing.{Pairing}
 use Rattle.roster_model.proofs.CostLemmas.{total-nil, total-cons, total-both}
-use Rattle.roster_model.proofs.SetLemmas.{Ascends-set_of, places_of_number, rising_from_Ascends}
+use Rattle.roster_model.proofs.LineLemmas.{given_line}
 use Rattle.roster_problem.specs.Sound.{IsSound}
 use Rattle.roster_cost.specs.Amounts.{cost_without_pairings, most_extra, most_missed, IsWithin}
 use Rattle.roster_search.proofs.Merges.{SharesAddUp}
@@ -33,14 +33,6 @@ open_most nobody (pairing ∷ pairings) (x ∷ places) few =
     omega (arith, step)
 
 -- ---- lines
-
--- what a legal roster gives a person is a line
-pub given_line : (problem : Problem) (k : ℕ) (places : List ℕ) → IsLegalRoster problem places → k < length problem.persons → IsLine problem k (set_of k places)
-given_line problem k places legal person = record {
-  ascending = rising_from_Ascends (set_of k places) (Ascends-set_of k places);
-  places = subst (λ n. All (λ p. p < n) (set_of k places)) legal.covers (places_of_number k places);
-  legal = legal.legal k person;
-}
 
 total-range_within : (cost : ℕ → ℤ) (most first n : ℕ) → ((k : ℕ) → k < first + n → IsWithin most (cost k)) → IsWithin (n * most) (total cost (range_with_len first n))
 total-range_within cost most first zero each = (omega (arith, ints, total-nil cost), omega (arith, ints, total-nil cost))

@@ -10,13 +10,13 @@ use Rattle.roster_model.specs.Problem.{Problem}
 use Rattle.roster_model.specs.Rosters.{IsLegalRoster, Key}
 use Rattle.roster_model.specs.Settled.{Anywhere, Settles}
 use Rattle.roster_model.proofs.SettledLemmas.{Settles-wider, Settles-within}
+use Rattle.roster_model.proofs.LineLemmas.{given_line}
 use Rattle.roster_lines.specs.Entries.{Entry, sets_of}
 use Rattle.roster_lines.specs.Person.{lines_at, AreListed, IsTableOf}
 use Rattle.roster_regions.specs.Regions.{IsInRanges}
 use Rattle.roster_search.specs.Least.{IsLeastBelow}
 use Rattle.roster_search.specs.Parts.{base_of_person, AreOwnRanges, AreWhole, IsInPart, IsNumbered}
 use Rattle.roster_search.proofs.Bases.{found_at}
-use Rattle.roster_search.proofs.Limits.{given_line}
 
 -- ---- the lines of a person
 

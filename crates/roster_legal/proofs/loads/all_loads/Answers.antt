@@ -2,7 +2,7 @@ use Rattle.std.proofs.Common.{◌≡◌, ℕ, true, ◌∙◌}
 use Rattle.roster_model.specs.Rules.{is_among}
 use Rattle.roster_legal.specs.declared.loads.Load.{Load}
 use Rattle.roster_legal.specs.Stepping.{IsLoad}
-use Rattle.roster_restrules.proofs.Pushed.{each-next}
+use Rattle.roster_model.proofs.PushLemmas.{each-next}
 use Rattle.roster_legal.proofs.loads.all_loads.Goals as goal
 
 pub loop-p-preserved : goal.loop-p-preserved

@@ -1,6 +1,6 @@
 use Rattle.std.proofs.Common.{◌≡◌}
 use Rattle.roster_cost.specs.Amounts.{minutes_of_pairing}
-use Rattle.roster_lines.proofs.TreeLemmas.{each-next}
+use Rattle.roster_model.proofs.PushLemmas.{each-next}
 use Rattle.roster_lines.proofs.pairs.flights_of.Goals as goal
 
 pub loop-p-preserved : goal.loop-p-preserved

@@ -1,9 +1,10 @@
 use Rattle.std.proofs.Common.{◌≡◌, length, ℤ, ◌≤ℤ◌, sym, ap, ◌∙◌, subst, arith}
 use Rattle.roster_model.specs.Places.{set_of}
 use Rattle.roster_bounds.specs.Chosen.{reduced_at, ChosenLines, IsReducedBound}
-use Rattle.roster_bounds.proofs.OfNode.{given_is_line, later_is_apart}
+use Rattle.roster_bounds.proofs.OfNode.{later_is_apart}
 use Rattle.roster_bounds.proofs.PricedLines.{same_word128}
 use Rattle.roster_bounds.proofs.node.Node.person_bound.Goals as goal
+use Rattle.roster_model.proofs.LineLemmas.{given_line}
 
 pub returns-then-k-len-clause-below : goal.returns-then-k-len-clause-below
 returns-then-k-len-clause-below c places of =
@@ -12,7 +13,7 @@ returns-then-k-len-clause-below c places of =
     let items = c.self.inside.lines.ok.0 in
     let count : length c.self.inside.lines.items ≡ k = omega (arith, c.if-k-len.true, c.len.ensures, items) in
     let here : length node.lines ≡ k = ap (λ (n : ChosenLines). length n.lines) (sym c.self.view_is) ∙ count in
-    let line = given_is_line node.tables.problem (length node.lines) places of.legal (omega (arith, here, c.requires.person)) in
+    let line = given_line node.tables.problem (length node.lines) places of.legal (omega (arith, here, c.requires.person)) in
     let apart = later_is_apart node.tables.table node.lines places (length node.lines) of.has (omega arith) in
     let low = c.next_bound.ensures.below (set_of (length node.lines) places) line apart in
     subst (λ (z : ℤ). z ≤ℤ reduced_at node.tables k (set_of k places)) (sym (same_word128 c.next_bound.result c.next_bound.type_inv))
@@ -23,5 +24,5 @@ returns-else-k-len-clause-below c places of =
     let node = c.args.self.now in
     let k = c.args.k in
     let below = subst (λ (n : ChosenLines). IsReducedBound n.tables.problem n.tables.prices k c.bound_of.result) c.self.view_is c.bound_of.ensures.below in
-    let low = below (set_of k places) (given_is_line node.tables.problem k places of.legal c.requires.person) in
+    let low = below (set_of k places) (given_line node.tables.problem k places of.legal c.requires.person) in
     subst (λ (z : ℤ). z ≤ℤ reduced_at node.tables k (set_of k places)) (sym (same_word128 c.bound_of.result c.bound_of.type_inv)) low

@@ -2,7 +2,7 @@ use Rattle.std.proofs.Common.{◌+◌, length, ap, ◌∙◌, subst, sym, arith}
 use Rattle.std.specs.Prelude.{slice_get}
 use Rattle.std.proofs.lemmas.List.{length_push}
 use Rattle.roster_pricing.specs.Networks.{IsNetwork}
-use Rattle.roster_pricing.proofs.RowLemmas.{each-push}
+use Rattle.roster_model.proofs.PushLemmas.{each-push}
 use Rattle.roster_pricing.proofs.pricing.Pricing.new.Goals as goal
 
 pub loop-k-preserved : goal.loop-k-preserved

@@ -2,8 +2,9 @@ use Rattle.std.proofs.Common.{◌≡◌, length, ℤ, ◌+ℤ◌, ap, subst, sym
 use Rattle.std.proofs.lemmas.Int.{ints, to_z-of_z}
 use Rattle.roster_model.specs.declared.limits.TheConstants.{MOST_PERSONS}
 use Rattle.roster_model.specs.Places.{set_of}
-use Rattle.roster_pricing.proofs.ShareLemmas.{given_line, reduced_more, reduced_none, sum_fits}
+use Rattle.roster_pricing.proofs.ShareLemmas.{reduced_more, reduced_none, sum_fits}
 use Rattle.roster_pricing.proofs.pricing.Pricing.sum_of_leasts.Goals as goal
+use Rattle.roster_model.proofs.LineLemmas.{given_line}
 
 pub loop-k-init : goal.loop-k-init
 loop-k-init c = record {

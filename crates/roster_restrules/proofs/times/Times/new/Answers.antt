@@ -4,7 +4,7 @@ use Rattle.std.proofs.lemmas.Option.{get_or_from_slice_get}
 use Rattle.roster_model.specs.records.Duty.{Duty}
 use Rattle.roster_restrules.specs.declared.times.DutyTimes.{DutyTimes}
 use Rattle.roster_restrules.specs.Times.{AreTimesOf}
-use Rattle.roster_restrules.proofs.Pushed.{each-next}
+use Rattle.roster_model.proofs.PushLemmas.{each-next}
 use Rattle.roster_restrules.proofs.times.Times.new.Goals as goal
 
 pub loop-i-preserved : goal.loop-i-preserved
