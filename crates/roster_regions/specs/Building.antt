@@ -1,5 +1,5 @@
 -- The lines of a table as those of a region.
-use Rattle.std.specs.Prelude.{ℕ, List, map, take, drop, slice_index_or, ℤ, pos, ◌-ℤ◌, ◌*ℤ◌, All}
+use Rattle.std.specs.Prelude.{ℕ, List, map, take, drop, get_or, length, slice_index_or, ◌<◌, ℤ, pos, ◌-ℤ◌, ◌*ℤ◌, All}
 use Rattle.roster_cost.specs.Amounts.{IsWithin}
 use Rattle.roster_lines.specs.Entries.{Entry, costs_of}
 use Rattle.roster_regions.specs.declared.choice.TheConstants.{MOST_EXTRA}
@@ -20,3 +20,11 @@ allowed_between scale entries low high = map (allowed_in scale entries) (drop lo
 -- no entry costs so much more than the first one, or less, that it can't be counted in such parts
 abbrev pub AreCounted : ℕ → List Entry → Type 0
 AreCounted scale entries = All (λ entry. IsWithin MOST_EXTRA (pos scale *ℤ extra_in entries entry)) entries
+
+-- none of the first so many entries costs more than the first one, or less, by more than a limit
+abbrev pub AreNearBefore : ℕ → ℕ → List Entry → Type 0
+AreNearBefore limit high entries = (i : ℕ) (d : Entry) → i < high → i < length entries → IsWithin limit (extra_in entries (get_or entries i d))
+
+-- none of them costs so much more, or less, that it can't be counted in such parts
+abbrev pub AreCountedBefore : ℕ → ℕ → List Entry → Type 0
+AreCountedBefore scale high entries = (i : ℕ) (d : Entry) → i < high → i < length entries → IsWithin MOST_EXTRA (pos scale *ℤ extra_in entries (get_or entries i d))

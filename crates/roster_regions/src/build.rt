@@ -1,10 +1,10 @@
 //! Regions from the lines of a table.
 
-ghost use Rattle.std.specs.Prelude.{[], ◌≡◌, ◌<◌, ◌≤◌, ◌+◌, ◌^◌, ◌*◌, ◌*ℤ◌, ℕ, pos, IsTrue, ◌↔◌, List, OnOk, IfOk, All, length, slice_get, slice_index, max, take, Some, ◌-ℤ◌};
+ghost use Rattle.std.specs.Prelude.{[], ◌≡◌, ◌<◌, ◌≤◌, ◌+◌, ◌^◌, ◌*◌, ◌*ℤ◌, ℕ, pos, IsTrue, ◌↔◌, List, OnOk, IfOk, All, get_or, length, slice_get, slice_index, max, take, Some, ◌-ℤ◌};
 ghost use Rattle.roster_cost.specs.Amounts.{IsWithin, most_extra};
 ghost use Rattle.roster_lines.specs.Entries.{Entry, sets_of};
 ghost use Rattle.roster_lines.specs.Person.{lines_at, AreListed};
-ghost use Rattle.roster_regions.specs.Building.{allowed_between, extra_in, AreCounted};
+ghost use Rattle.roster_regions.specs.Building.{allowed_between, extra_in, AreCountedBefore, AreNearBefore};
 ghost use Rattle.roster_model.specs.Rosters.{IsLegalRoster};
 ghost use Rattle.roster_regions.specs.Regions.{AllowedLine, IsIn, IsInRanges, IsRegion};
 ghost use Rattle.roster_regions.specs.Trees.{next_path, IsLimited};
@@ -118,7 +118,7 @@ fn above_first(lines: &Lines, i: usize) -> i64
 
 /// What line `i` costs more than the first one, at so many parts a cost unit.
 fn extra_of(lines: &Lines, i: usize, scale: u32) -> i64
-    requires counted { AreCounted scale lines.now }
+    requires counted { AreCountedBefore scale (i + 1) lines.now }
     requires near { All (λ entry. IsWithin most_extra (extra_in lines.now entry)) lines.now }
     requires inside { i < length lines.now }
     ensures value { (entry : Entry) → slice_get lines.now i ≡ Some entry
@@ -135,14 +135,14 @@ fn larger(a: u64, b: u64) -> u64
     if a < b { b } else { a }
 }
 
-/// The most that a line costs more than the empty one, or less.
-fn greatest_extra(lines: &Lines) -> u64
+/// The most that one of the first so many lines costs more than the empty one, or less.
+fn greatest_extra(lines: &Lines, most: usize) -> u64
     requires near { All (λ entry. IsWithin most_extra (extra_in lines.now entry)) lines.now }
     ensures bound { result ≤ most_extra }
-    ensures all { All (λ entry. IsWithin result (extra_in lines.now entry)) lines.now }
+    ensures all { AreNearBefore result most lines.now }
 {
     let mut greatest = 0;
-    for i in 0..lines.width() {
+    for i in 0..most.min(lines.width()) {
         greatest = larger(greatest, above_first(lines, i).unsigned_abs());
     }
     greatest
@@ -155,7 +155,7 @@ fn copy_of(
     range: (usize, usize),
     scale: u32,
 ) -> Result<Tree, AllocError>
-    requires counted { AreCounted scale lines.now }
+    requires counted { AreCountedBefore scale range.1 lines.now }
     requires near { All (λ entry. IsWithin most_extra (extra_in lines.now entry)) lines.now }
     ensures { IfOk result (λ tree. tree ≡ allowed_between scale lines.now range.0 range.1) }
 {
@@ -188,7 +188,7 @@ fn tree_of(
     scale: u32,
 ) -> Result<Tree, AllocError>
     requires person { k < length table.now }
-    requires counted { AreCounted scale (lines_at table.now k) }
+    requires counted { AreCountedBefore scale range.1 (lines_at table.now k) }
     requires near { All (λ entry. IsWithin most_extra (extra_in (lines_at table.now k) entry))
         (lines_at table.now k) }
     requires first { slice_get (sets_of (lines_at table.now k)) 0 ≡ Some [] }
@@ -218,13 +218,15 @@ fn scale_for(greatest: u64) -> u32
     }
 }
 
-/// How many parts a cost unit is counted in: as many as there is room for at the problem's lines.
-pub(crate) fn scale_of(problem: &Problem, table: &Table) -> u32
+/// How many parts a cost unit is counted in: as many as there is room for at the lines before the end of
+/// each person's range.
+pub(crate) fn scale_of(problem: &Problem, table: &Table, ranges: &[(usize, usize)]) -> u32
     requires table { AreListed problem.now table.now }
+    requires ranges { length ranges.now ≡ length table.now }
     ensures some { 0 < result }
     ensures most { result ≤ MOST_SCALE }
     ensures counted { (k : ℕ) → k < length problem.now.persons
-        → AreCounted result (lines_at table.now k) }
+        → AreCountedBefore result (get_or ranges.now k (0, 0)).1 (lines_at table.now k) }
     ensures near { (k : ℕ) → k < length problem.now.persons
         → All (λ entry. IsWithin most_extra (extra_in (lines_at table.now k) entry))
         (lines_at table.now k) }
@@ -233,7 +235,7 @@ pub(crate) fn scale_of(problem: &Problem, table: &Table) -> u32
     lines_are_near();
     let mut greatest = 1;
     for k in 0..problem.persons().len() {
-        greatest = larger(greatest, greatest_extra(table.lines(k)));
+        greatest = larger(greatest, greatest_extra(table.lines(k), ranges[k].1));
     }
     scale_for(greatest)
 }
@@ -253,7 +255,7 @@ impl Region {
         ensures same { IfOk result (λ region. (places : List ℕ) → IsIn problem.now region places
             ↔ (IsLegalRoster problem.now places × IsInRanges table.now ranges.now places)) }
     {
-        let scale = scale_of(problem, table);
+        let scale = scale_of(problem, table, ranges);
         let mut persons = Vec::new(alloc);
         for k in 0..problem.persons().len() {
             let tree = tree_of(alloc, table, k, ranges[k], scale)?;

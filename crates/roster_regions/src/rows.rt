@@ -56,6 +56,19 @@ impl<'a> Rows<'a> {
         }
     }
 
+    /// The same rows. Loops over many of them are faster if their bounds stand in variables of their own.
+    #[inline]
+    pub fn copy(&self) -> Rows<'a>
+        ensures { result ≡ self.now }
+    {
+        Rows {
+            rows: self.rows,
+            marks: self.marks,
+            empty: self.empty,
+            scale: self.scale,
+        }
+    }
+
     /// How many there are.
     pub fn len(&self) -> usize
         ensures { result ≡ length self.now }
