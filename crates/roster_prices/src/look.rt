@@ -117,8 +117,10 @@ impl Look {
         self.bound = self.bound.wrapping_add(least);
         if let Some(reach) = reach {
             let few = self.values.len() / NEAR_PART + FEW_NEAR_LINES;
-            let most = most_of_few(&self.values, least, reach, few);
-            let choices = lines_within(alloc, &all, &self.values, most)?;
+            let choices = match most_of_few(&self.values, least, reach, few) {
+                Some(most) => lines_within(alloc, &all, &self.values, most)?,
+                None => Vec::new(alloc),
+            };
             self.lists.push(List { k, choices })?;
         }
         Ok(())
@@ -198,7 +200,7 @@ impl Look {
         softness: u32,
     ) -> Result<i64, AllocError> {
         match choices.rows() {
-            Some(rows) => self.add_list(rows, scope, prices, softness),
+            Some(rows) => self.add_list(&rows.copy(), scope, prices, softness),
             None => self.add_list(&choices.written(), scope, prices, softness),
         }
     }
@@ -211,75 +213,12 @@ impl Look {
         prices: &[i64],
         softness: u32,
     ) -> Result<i64, AllocError> {
-        let least = self.read(choices, prices)?;
-        let total = self.weigh(choices, least, softness);
+        self.values.resize(choices.count(), 0)?;
+        let least = read_values(choices, prices, &mut self.sums, &mut self.values);
+        let (weights, masses) = (&mut self.weights, &mut self.masses);
+        let total = weigh(choices, &self.values, least, softness, weights, masses);
         self.share(total, scope.pairings());
         Ok(least)
-    }
-
-    // Reads the value of each choice, and gives the least of a line.
-    fn read<L: ChoiceList>(&mut self, choices: &L, prices: &[i64]) -> Result<i64, AllocError> {
-        self.values.clear();
-        let mut least = i64::MAX;
-        for i in 0..choices.count() {
-            let choice = choices.choice(i);
-            let value = self.value(&choice, prices);
-            self.values.push(value)?;
-            if choice.live && value < least {
-                least = value;
-            }
-        }
-        Ok(least)
-    }
-
-    // The value of the choice to which the walk goes on.
-    #[inline]
-    fn value(&mut self, choice: &Choice, prices: &[i64]) -> i64 {
-        let depth = usize::from(choice.depth);
-        if depth == 0 || depth >= self.sums.len() {
-            return choice.extra;
-        }
-        let price = number_at(prices, usize::from(choice.last));
-        let sum = self.sums[depth - 1].wrapping_add(price);
-        self.sums[depth] = sum;
-        choice.extra.wrapping_sub(sum)
-    }
-
-    // Weighs the choices from the last to the first, and gives the weight of all lines.
-    fn weigh<L: ChoiceList>(&mut self, choices: &L, least: i64, softness: u32) -> u64 {
-        let mut total: u64 = 0;
-        let count = choices.count();
-        for back in 0..count {
-            let i = count - 1 - back;
-            let choice = choices.choice(i);
-            let weight = if choice.live {
-                let value = number_at(&self.values, i);
-                halved(value.wrapping_sub(least).unsigned_abs(), softness)
-            } else {
-                0
-            };
-            total = total.wrapping_add(weight);
-            self.climb(&choice, weight);
-        }
-        total
-    }
-
-    // Adds the weight to those of the lines below the choice, and hands them on to the one above.
-    #[inline]
-    fn climb(&mut self, choice: &Choice, weight: u64) {
-        let depth = usize::from(choice.depth);
-        let last = usize::from(choice.last);
-        if depth == 0 || depth + 1 >= self.weights.len() || last >= self.masses.len() {
-            return;
-        }
-        let weights = weight.wrapping_add(self.weights[depth + 1]);
-        // So it is with most lines, once prices are good.
-        if weights == 0 {
-            return;
-        }
-        self.weights[depth + 1] = 0;
-        self.weights[depth] = self.weights[depth].wrapping_add(weights);
-        self.masses[last] = self.masses[last].wrapping_add(weights);
     }
 
     // Adds the parts that the masses of these pairings are of the total.
@@ -299,23 +238,103 @@ impl Look {
     }
 }
 
-/// The most that a value may be to be within this reach of the least, or within a shorter one if too many are.
-fn most_of_few(values: &[i64], least: i64, reach: i64, few: usize) -> i64 {
+/// Reads the value of each choice, and gives the least of a line. The sums are those on the way, by depth.
+fn read_values<L: ChoiceList>(
+    choices: &L,
+    prices: &[i64],
+    sums: &mut [i64],
+    values: &mut [i64],
+) -> i64 {
+    let mut least = i64::MAX;
+    for i in 0..values.len() {
+        let choice = choices.choice(i);
+        let value = value_of(&choice, prices, sums);
+        values[i] = value;
+        if choice.live && value < least {
+            least = value;
+        }
+    }
+    least
+}
+
+/// The value of the choice to which the walk goes on.
+#[inline]
+pub(crate) fn value_of(choice: &Choice, prices: &[i64], sums: &mut [i64]) -> i64 {
+    let depth = usize::from(choice.depth);
+    if depth == 0 || depth >= sums.len() {
+        return choice.extra;
+    }
+    let price = number_at(prices, usize::from(choice.last));
+    let sum = sums[depth - 1].wrapping_add(price);
+    sums[depth] = sum;
+    choice.extra.wrapping_sub(sum)
+}
+
+/// Weighs the choices from the last to the first, and gives the weight of all lines.
+fn weigh<L: ChoiceList>(
+    choices: &L,
+    values: &[i64],
+    least: i64,
+    softness: u32,
+    weights: &mut [u64],
+    masses: &mut [u64],
+) -> u64 {
+    let mut total: u64 = 0;
+    let count = values.len();
+    for back in 0..count {
+        let i = count - 1 - back;
+        let choice = choices.choice(i);
+        let weight = if choice.live {
+            halved(values[i].wrapping_sub(least).unsigned_abs(), softness)
+        } else {
+            0
+        };
+        total = total.wrapping_add(weight);
+        climb(&choice, weight, weights, masses);
+    }
+    total
+}
+
+/// Adds the weight to those of the lines below the choice, and hands them on to the one above.
+#[inline]
+fn climb(choice: &Choice, weight: u64, weights: &mut [u64], masses: &mut [u64]) {
+    let depth = usize::from(choice.depth);
+    let last = usize::from(choice.last);
+    if depth == 0 || depth + 1 >= weights.len() || last >= masses.len() {
+        return;
+    }
+    let all = weight.wrapping_add(weights[depth + 1]);
+    // So it is with most lines, once prices are good.
+    if all == 0 {
+        return;
+    }
+    weights[depth + 1] = 0;
+    weights[depth] = weights[depth].wrapping_add(all);
+    masses[last] = masses[last].wrapping_add(all);
+}
+
+/// The most that a value may be to be within this reach of the least, or within a shorter one if too many
+/// are; none if they are too many even then.
+fn most_of_few(values: &[i64], least: i64, reach: i64, few: usize) -> Option<i64> {
     let mut reach = reach;
     for _ in 0..MOST_CUTS {
-        if count_within(values, least.saturating_add(reach)) <= few {
-            return least.saturating_add(reach);
+        let most = least.saturating_add(reach);
+        if are_few_within(values, most, few) {
+            return Some(most);
         }
         reach /= 4;
     }
-    least.saturating_sub(1)
+    None
 }
 
-/// How many of the values are at most so much.
-fn count_within(values: &[i64], most: i64) -> usize {
+/// Whether no more than so few of the values are at most so much.
+fn are_few_within(values: &[i64], most: i64, few: usize) -> bool {
     let mut count: usize = 0;
     for value in values {
         count = count.wrapping_add(usize::from(*value <= most));
+        if count > few {
+            return false;
+        }
     }
-    count
+    true
 }

@@ -1,6 +1,7 @@
 //! Some of a person's lines, as a tree of their own.
 
 use crate::person_lines::{ChoiceList, PersonLines};
+use roster_model::limits::MOST_PAIRINGS;
 use roster_regions::Choice;
 use std::alloc::{AllocError, Global};
 
@@ -8,7 +9,7 @@ use std::alloc::{AllocError, Global};
 #[derive(Drop)]
 struct Picker {
     picked: Vec<Choice>,
-    // The last pairings on the way to the choice that was shown last.
+    // By depth: the last pairings on the way to the choice that was shown last.
     path: Vec<u16>,
     // How many of them are on the way to what was written last.
     shared: usize,
@@ -16,25 +17,24 @@ struct Picker {
 
 impl Picker {
     // Nothing is picked yet.
-    fn new(alloc: Global) -> Picker {
-        Picker {
+    fn new(alloc: Global) -> Result<Picker, AllocError> {
+        Ok(Picker {
             picked: Vec::new(alloc),
-            path: Vec::new(alloc),
+            path: vec![in alloc; 0; MOST_PAIRINGS]?,
             shared: 0,
-        }
+        })
     }
 
     // Goes on to the next choice.
-    fn pass(&mut self, choice: &Choice) -> Result<(), AllocError> {
+    #[inline]
+    fn pass(&mut self, choice: &Choice) {
         let above = usize::from(choice.depth.saturating_sub(1));
-        self.path.truncate(above);
-        if choice.depth > 0 {
-            self.path.push(choice.last)?;
+        if choice.depth > 0 && above < self.path.len() {
+            self.path[above] = choice.last;
         }
         if above < self.shared {
             self.shared = above;
         }
-        Ok(())
     }
 
     // Writes the choice, and what is missing on the way to it.
@@ -76,10 +76,10 @@ fn list_within<L: ChoiceList>(
     values: &[i64],
     most: i64,
 ) -> Result<Vec<Choice>, AllocError> {
-    let mut picker = Picker::new(alloc);
+    let mut picker = Picker::new(alloc)?;
     for i in 0..choices.count() {
         let choice = choices.choice(i);
-        picker.pass(&choice)?;
+        picker.pass(&choice);
         if choice.live && i < values.len() && values[i] <= most {
             picker.pick(&choice)?;
         }
@@ -105,10 +105,10 @@ fn sample_of<L: ChoiceList>(
     choices: &L,
     of: usize,
 ) -> Result<Vec<Choice>, AllocError> {
-    let mut picker = Picker::new(alloc);
+    let mut picker = Picker::new(alloc)?;
     for i in 0..choices.count() {
         let choice = choices.choice(i);
-        picker.pass(&choice)?;
+        picker.pass(&choice);
         if choice.live && is_drawn(i, of) {
             picker.pick(&choice)?;
         }

@@ -4,12 +4,13 @@ ghost use Rattle.std.specs.Prelude.{◌≡◌, ◌<◌, IfOk, IfSome, length};
 ghost use Rattle.roster_regions.specs.Regions.{IsRegion};
 
 use crate::dual_prices::scaled_penalty;
+use crate::look::value_of;
 use crate::near::NearLines;
 use crate::person_lines::{ChoiceList, PersonLines};
 use crate::reading::number_at;
 use crate::tuning::MOST_CHOOSING;
 use roster_problem::{Problem, open_number};
-use roster_regions::{Choice, Region};
+use roster_regions::Region;
 use std::alloc::{AllocError, Global};
 
 /// What a pairing earns that must not be open.
@@ -264,7 +265,7 @@ impl Draft {
         places: &[u16],
     ) -> Option<usize> {
         match choices.rows() {
-            Some(rows) => self.best_in(rows, prices, k, places),
+            Some(rows) => self.best_in(&rows.copy(), prices, k, places),
             None => self.best_in(&choices.written(), prices, k, places),
         }
     }
@@ -277,41 +278,42 @@ impl Draft {
         k: usize,
         places: &[u16],
     ) -> Option<usize> {
-        let mut best = None;
-        let mut least = i64::MAX;
-        // Choices deeper than this go on from one whose pairing somebody else has.
-        let mut free = usize::MAX;
-        for i in 0..choices.count() {
-            let choice = choices.choice(i);
-            let depth = usize::from(choice.depth);
-            if depth > free {
-                continue;
-            }
-            free = usize::MAX;
-            if depth > 0 && is_taken(places, usize::from(choice.last), k, self.nobody) {
-                free = depth;
-                continue;
-            }
-            let value = self.value(&choice, prices);
-            if choice.live && value < least {
-                least = value;
-                best = Some(i);
-            }
-        }
-        best
+        best_of(choices, prices, k, self.nobody, places, &mut self.sums)
     }
+}
 
-    // The value of the choice to which the walk goes on.
-    fn value(&mut self, choice: &Choice, prices: &[i64]) -> i64 {
+/// The choice of least value in a list among those whose pairings nobody but person `k` has. The sums are
+/// those on the way, by depth.
+fn best_of<L: ChoiceList>(
+    choices: &L,
+    prices: &[i64],
+    k: usize,
+    nobody: u16,
+    places: &[u16],
+    sums: &mut [i64],
+) -> Option<usize> {
+    let mut best = None;
+    let mut least = i64::MAX;
+    // Choices deeper than this go on from one whose pairing somebody else has.
+    let mut free = usize::MAX;
+    for i in 0..choices.count() {
+        let choice = choices.choice(i);
         let depth = usize::from(choice.depth);
-        if depth == 0 || depth >= self.sums.len() {
-            return choice.extra;
+        if depth > free {
+            continue;
         }
-        let price = number_at(prices, usize::from(choice.last));
-        let sum = self.sums[depth - 1].wrapping_add(price);
-        self.sums[depth] = sum;
-        choice.extra.wrapping_sub(sum)
+        free = usize::MAX;
+        if depth > 0 && is_taken(places, usize::from(choice.last), k, nobody) {
+            free = depth;
+            continue;
+        }
+        let value = value_of(&choice, prices, sums);
+        if choice.live && value < least {
+            least = value;
+            best = Some(i);
+        }
     }
+    best
 }
 
 /// Puts the number at the pairings of the line of choice `i`.
