@@ -93,7 +93,8 @@ impl Path {
             return Ok(());
         }
         self.steps.truncate(usize::from(choice.depth) - 1);
-        let set = self.set().with(usize::from(choice.last)).unwrap();
+        let mut set = self.set();
+        set.put(usize::from(choice.last));
         self.steps.push(Step {
             last: choice.last,
             set,

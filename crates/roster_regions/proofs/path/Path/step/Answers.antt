@@ -16,18 +16,18 @@ pub invariant_of-self-3 : goal.invariant_of-self-3
 invariant_of-self-3 c =
     let cut = c.truncate.new.self.items in
     let old = c.self.inside.steps.items in
-    let step : Step = record { last = c.args.choice.now.last; set = c.unwrap-set.result } in
+    let step : Step = record { last = c.args.choice.now.last; set = c.put.new.self } in
     let are : AreSteps cut = subst AreSteps (sym c.truncate.ensures.items) (AreSteps-take (c.from.result - 1) old c.self.invariant) in
     let few : length cut < MOST_PAIRINGS = omega (arith, ap length c.truncate.ensures.items, length-take (c.from.result - 1) old, c.from.ensures, c.requires.depth) in
     let joined : (p : ℕ) → is_among step.set p ≡ (is_among (lasts_of cut) p || eqb step.last p) = λ p.
-    (rw c.unwrap-set.ensures at c.with.ensures.members) p
-    ∙ ap (λ b. b || eqb c.from-2.result p) (c.set.ensures p)
+    c.put.ensures.members p
+    ∙ ap (λ b. b || eqb c.from-2.result p) (c.set-set.ensures p)
     ∙ ap (λ (q : ℕ). is_among (lasts_of cut) p || eqb q p) c.from-2.ensures in
     subst AreSteps (sym c.in_ok-push.ensures.items) (AreSteps-push cut step are few c.requires.last joined)
 
 pub returns : goal.returns
 returns c =
-    let step : Step = record { last = c.args.choice.now.last; set = c.unwrap-set.result } in
+    let step : Step = record { last = c.args.choice.now.last; set = c.put.new.self } in
     let deep : 0 < c.args.choice.now.depth = omega arith in
     ap lasts_of c.in_ok-push.ensures.items
     ∙ map_push (λ (s : Step). s.last) c.truncate.new.self.items step
