@@ -1,7 +1,6 @@
 pub mod TreeLemmas
 pub mod MarkLemmas
 pub mod RowLemmas
-pub mod StepLemmas
 pub mod SumLemmas
 pub mod Write
 pub mod ListLemmas

@@ -4,7 +4,6 @@ pub mod Marks
 pub mod Rows
 pub mod Sources
 pub mod Held
-pub mod Steps
 pub mod Writing
 pub mod Prices
 pub mod Building

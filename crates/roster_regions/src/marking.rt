@@ -34,7 +34,7 @@ pub(crate) fn marks_having(
     for i in 0..rows.len() {
         let choice = rows.at(i);
         path.step(&choice)?;
-        marker.mark(&path, &choice, is_wanted(wanted, path.set().has(p)))?;
+        marker.mark(&path, &choice, is_wanted(wanted, path.has(p)))?;
     }
     Ok(marker)
 }

@@ -1,38 +1,32 @@
-//! The set that a walk through a tree of choices has come to.
+//! The pairings that a walk through a tree of choices has come to.
 
-ghost use Rattle.std.specs.Prelude.{◌≡◌, ◌+◌, ◌<◌, ◌≤◌, ◌-◌, [], ℕ, OnOk, length, slice_index};
+ghost use Rattle.std.specs.Prelude.{◌≡◌, ◌+◌, ◌<◌, ◌≤◌, ◌-◌, ◌↔◌, [], ℕ, IsTrue, OnOk, length, slice_index};
 ghost use Rattle.roster_model.specs.declared.limits.TheConstants.{MOST_PAIRINGS};
 ghost use Rattle.roster_model.specs.Rules.{is_among};
 ghost use Rattle.roster_regions.specs.Trees.{next_path, IsLimited};
 
 use crate::choice::Choice;
+use crate::writer::is_same;
 use roster_problem::Set;
 use std::alloc::{AllocError, Global};
 use std::marker::Model;
 
-/// A pairing on the way, and the set from the first to it.
-#[derive(Clone, Copy, Debug)]
-struct Step {
-    last: u16,
-    set: Set,
-}
-
 /// The pairings on the way to a choice, from the first on. Contracts see it as their list.
 #[derive(Debug, Drop)]
 pub(crate) struct Path {
-    steps: Vec<Step>,
+    lasts: Vec<u16>,
 }
 
 impl Model for Path {
-    ghost use Rattle.std.specs.Prelude.{List, ℕ};
+    ghost use Rattle.std.specs.Prelude.{List, ℕ, All, length, ◌≤◌, ◌<◌};
+    ghost use Rattle.roster_model.specs.declared.limits.TheConstants.{MOST_PAIRINGS};
 
     ghost Value = { List ℕ };
 
-    ghost use Rattle.roster_regions.specs.Steps.{lasts_of, AreSteps};
+    ghost view = { λ p. p.lasts.items };
 
-    ghost view = { λ p. lasts_of p.steps.items };
-
-    ghost invariant = { λ p. AreSteps p.steps.items };
+    ghost invariant = { λ p. (length p.lasts.items ≤ MOST_PAIRINGS)
+        × All (λ last. last < MOST_PAIRINGS) p.lasts.items };
 }
 
 impl Path {
@@ -41,7 +35,7 @@ impl Path {
         ensures { result ≡ [] }
     {
         Path {
-            steps: Vec::new(alloc),
+            lasts: Vec::new(alloc),
         }
     }
 
@@ -50,7 +44,7 @@ impl Path {
         ensures value { result ≡ length self.now }
         ensures bound { result ≤ MOST_PAIRINGS }
     {
-        self.steps.len()
+        self.lasts.len()
     }
 
     /// The pairing at position `j`.
@@ -59,7 +53,7 @@ impl Path {
         ensures value { result ≡ slice_index self.now j }
         ensures bound { result < MOST_PAIRINGS }
     {
-        self.steps[j].last
+        self.lasts[j]
     }
 
     /// The last pairing, if there is one, and else 0.
@@ -67,20 +61,39 @@ impl Path {
         ensures value { result ≡ slice_index self.now (length self.now - 1) }
         ensures bound { result < MOST_PAIRINGS }
     {
-        match self.steps.last() {
-            Some(step) => step.last,
+        match self.lasts.last() {
+            Some(last) => *last,
             None => 0,
         }
     }
 
-    /// The pairings on it, as a set.
+    /// The pairings on it, as a set. It goes over them all.
     pub(crate) fn set(&self) -> Set
         ensures { (p : ℕ) → is_among result p ≡ is_among self.now p }
     {
-        match self.steps.last() {
-            Some(step) => step.set,
-            None => Set::empty(),
+        let mut set = Set::empty();
+        for i in 0..self.lasts.len() {
+            set.put(usize::from(self.lasts[i]));
         }
+        set
+    }
+
+    /// Whether the pairing at place `p` is on it.
+    pub(crate) fn has(&self, p: usize) -> bool
+        ensures { result ≡ is_among self.now p }
+    {
+        self.lasts.iter().any(|last| usize::from(*last) == p)
+    }
+
+    /// Whether it has just the pairings of the set. Mostly its last one tells that it hasn't.
+    pub(crate) fn is_same(&self, set: &Set) -> bool
+        ensures { IsTrue result ↔ ((p : ℕ) → is_among self.now p ≡ is_among set.now p) }
+    {
+        let length = self.length();
+        if length > 0 && !set.has(usize::from(self.last(length - 1))) {
+            return false;
+        }
+        is_same(&self.set(), set)
     }
 
     /// Goes on to the next choice.
@@ -89,16 +102,11 @@ impl Path {
         ensures { OnOk result (self.new ≡ next_path self.old choice.now) }
     {
         if choice.depth == 0 {
-            self.steps.clear();
+            self.lasts.clear();
             return Ok(());
         }
-        self.steps.truncate(usize::from(choice.depth) - 1);
-        let mut set = self.set();
-        set.put(usize::from(choice.last));
-        self.steps.push(Step {
-            last: choice.last,
-            set,
-        })?;
+        self.lasts.truncate(usize::from(choice.depth) - 1);
+        self.lasts.push(choice.last)?;
         Ok(())
     }
 }

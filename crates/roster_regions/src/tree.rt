@@ -18,7 +18,7 @@ use crate::marker::Marker;
 use crate::marking::{is_wanted, marks_having, marks_within};
 use crate::path::Path;
 use crate::sums::Sums;
-use crate::writer::{Writer, is_same};
+use crate::writer::Writer;
 use roster_lines::SharedLines;
 use roster_problem::Set;
 use std::alloc::{AllocError, Global};
@@ -222,7 +222,7 @@ impl Tree {
             let choice = choices.at(i);
             path.step(&choice)?;
             writer.pass(&choice);
-            writer.keep(&path, &choice, is_wanted(wanted, path.set().has(p)))?;
+            writer.keep(&path, &choice, is_wanted(wanted, path.has(p)))?;
         }
         Ok(Tree::of(writer))
     }
@@ -312,7 +312,7 @@ impl Tree {
         for i in 0..choices.len() {
             let choice = choices.at(i);
             path.step(&choice)?;
-            let same = is_same(&path.set(), set);
+            let same = path.is_same(set);
             if choice.live && same {
                 return Ok(true);
             }

@@ -27,7 +27,7 @@ loop-i-preserved c =
       marking =
           marked_at (λ line. agrees c.args.wanted (is_among line.set c.args.p)) choices c.loop-i.i item c.is_wanted.result _ _ _ _
           c.at-choice.ensures.value c.in_ok-step.ensures c.loop-i.invariant.there
-          (c.is_wanted.ensures ∙ ap (agrees c.args.wanted) (c.has.ensures.value ∙ c.set.ensures c.args.p))
+          (c.is_wanted.ensures ∙ ap (agrees c.args.wanted) c.has.ensures)
           c.in_ok-mark.ensures c.loop-i.invariant.marking;
     }
 

@@ -24,7 +24,7 @@ returns-then-same c =
     let found = Contains-at choices c.loop-i.i item c.at-choice.ensures.value c.if-choice.true in (
       _,
       subst (λ lines. Contains lines (allowed (next_path (path_after [] (take c.loop-i.i choices)) item) item.extra)) c.choices-choices.ensures found,
-      λ p. ap (λ set. is_among set p) (sym there) ∙ sym (c.set.ensures p) ∙ c.is_same-same.ensures.0 c.if-same.true p,
+      λ p. ap (λ set. is_among set p) (sym there) ∙ c.is_same-same.ensures.0 c.if-same.true p,
     )
 
 pub loop-i-preserved : goal.loop-i-preserved
@@ -36,7 +36,7 @@ loop-i-preserved c =
       there = there ∙ sym (path_at choices c.loop-i.i item c.at-choice.ensures.value);
       none = All-lines_at (λ line. ¬ HasJust c.args.set.now line) choices c.loop-i.i item c.at-choice.ensures.value c.loop-i.invariant.none
           (λ live. λ just. elim c.else-choice.branch [
-            | else-choice-via-then-choice+else-same w ↦ both_ways c.is_same-same.result w.if-same.false (c.is_same-same.ensures.1 (λ p. c.set.ensures p ∙ ap (λ set. is_among set p) there ∙ just p))
+            | else-choice-via-then-choice+else-same w ↦ both_ways c.is_same-same.result w.if-same.false (c.is_same-same.ensures.1 (λ p. ap (λ set. is_among set p) there ∙ just p))
             | else-choice-via-else-choice w ↦ both_ways _ w.if-choice.false live
           ]);
     }
