@@ -5,7 +5,7 @@
 //! - `rows`: the rows of a person's lines in the table, read as choices
 //! - `all_lines`: lines of a person that the table has too, and marks of those that are left
 //! - `choices`: the choices of a tree, wherever they stand
-//! - `path`: the set that a walk through the tree has come to
+//! - `path`: the pairings that a walk through the tree has come to
 //! - `writer`: a tree, line after line
 //! - `marker`: marks of the choices of a tree that are left
 //! - `sums`: the prices of a path's pairings
