@@ -19,4 +19,5 @@ mod words;
 
 pub use asked::{Asked, Unknown, find};
 pub use limits::limits_text;
-pub use why::why_text;
+pub use why::{set_of, why_text};
+pub use words::{pairing_name, push_all, time};

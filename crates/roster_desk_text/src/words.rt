@@ -6,7 +6,7 @@ use roster_problem::{DutyList, Problem};
 use std::alloc::{AllocError, Global};
 
 /// Appends the parts one behind another.
-pub(crate) fn push_all(out: &mut Vec<u8>, parts: &[&[u8]]) -> Result<(), AllocError> {
+pub fn push_all(out: &mut Vec<u8>, parts: &[&[u8]]) -> Result<(), AllocError> {
     for part in parts {
         out.extend_from_slice(part)?;
     }
@@ -14,7 +14,7 @@ pub(crate) fn push_all(out: &mut Vec<u8>, parts: &[&[u8]]) -> Result<(), AllocEr
 }
 
 /// Minutes as hours and minutes, as in `12:59`.
-pub(crate) fn time(alloc: Global, minutes: u64) -> Result<String, AllocError> {
+pub fn time(alloc: Global, minutes: u64) -> Result<String, AllocError> {
     let hours = minutes / 60;
     let (tens, ones) = (minutes % 60 / 10, minutes % 10);
     format!(in alloc; "{hours}:{tens}{ones}")
@@ -54,7 +54,7 @@ pub(crate) fn duty_name<'a>(list: &'a DutyList<'a>, i: usize) -> &'a [u8] {
 }
 
 /// The name of the pairing at a place of the book; `-` if it has none there.
-pub(crate) fn pairing_name(problem: &Problem, p: usize) -> &[u8] {
+pub fn pairing_name(problem: &Problem, p: usize) -> &[u8] {
     if p >= problem.pairings().len() {
         return b"-";
     }
