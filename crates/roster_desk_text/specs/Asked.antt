@@ -1,5 +1,5 @@
 -- What names ask for.
-use Rattle.std.specs.Prelude.{ℕ, List, Option, Some, None, Result, Ok, Err, option_map, ok_or}
+use Rattle.std.specs.Prelude.{ℕ, List, Option, Some, None, Result, Ok, option_map, ok_or}
 use Rattle.roster_model.specs.Problem.{Problem}
 use Rattle.roster_model.specs.Record.{place_named}
 use Rattle.roster_desk_text.specs.declared.asked.Unknown.{Unknown}
