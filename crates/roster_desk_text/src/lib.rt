@@ -15,7 +15,7 @@ mod asked;
 mod limits;
 mod sentences;
 mod why;
-mod words;
+pub mod words;
 
 pub use asked::{Asked, Unknown, find};
 pub use limits::limits_text;
