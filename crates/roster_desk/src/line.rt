@@ -1,5 +1,6 @@
 //! The command line, on `clap`.
 
+use crate::pages::Page;
 use clap::error::ErrorKind;
 use clap::{Arg, ArgMatches, Command, builder};
 use std::alloc::{AllocError, Global};
@@ -16,6 +17,8 @@ pub(crate) enum Line<'a> {
     Why(WhyLine<'a>),
     /// How near to each limit persons of a book are.
     Limits(LimitsLine<'a>),
+    /// What is told of a book as a whole.
+    Page(PageLine<'a>),
 }
 
 /// A plan of a book.
@@ -45,6 +48,15 @@ pub(crate) struct LimitsLine<'a> {
     pub(crate) book: &'a str,
     /// The name of the person, if one is named.
     pub(crate) person: Option<&'a str>,
+}
+
+/// What is told of a book as a whole.
+#[derive(Debug, Drop)]
+pub(crate) struct PageLine<'a> {
+    /// The path of the book, or `-`.
+    pub(crate) book: &'a str,
+    /// What is to be told.
+    pub(crate) page: Page,
 }
 
 /// Why the words ask for nothing.
@@ -113,17 +125,46 @@ fn limits<'a>(alloc: Global) -> Result<Command<'a>, AllocError> {
         .arg(person(alloc))
 }
 
+/// `fault`, with its book.
+fn fault<'a>(alloc: Global) -> Result<Command<'a>, AllocError> {
+    Command::new(alloc, "fault")
+        .about(
+            "Tells which records of a refused book have faults, and what is wanted in their fields",
+        )
+        .arg(book(alloc))
+}
+
+/// `warn`, with its book.
+fn warn<'a>(alloc: Global) -> Result<Command<'a>, AllocError> {
+    Command::new(alloc, "warn")
+        .about("Tells what is likely a mistake in a book without a fault")
+        .arg(book(alloc))
+}
+
+/// `chart`, with its book.
+fn chart<'a>(alloc: Global) -> Result<Command<'a>, AllocError> {
+    Command::new(alloc, "chart")
+        .about("Draws the roster that the book gives, as a page for a browser")
+        .arg(book(alloc))
+}
+
 /// The program's command line.
 fn desk<'a>(alloc: Global) -> Result<Command<'a>, AllocError> {
     let plan = plan(alloc)?;
     let why = why(alloc)?;
     let limits = limits(alloc)?;
+    let fault = fault(alloc)?;
+    let warn = warn(alloc)?;
+    let chart = chart(alloc)?;
     Command::new(alloc, "roster-desk")
         .about("Helps a planner with the books of roster")
         .subcommand_required(true)
         .subcommand(plan)?
         .subcommand(why)?
-        .subcommand(limits)
+        .subcommand(limits)?
+        .subcommand(fault)?
+        .subcommand(warn)?
+        .subcommand(chart)
 }
 
 /// What the words ask for. The first word is the program's name.
@@ -150,8 +191,17 @@ fn asked<'a>(matches: &ArgMatches<'a>) -> Option<Line<'a>> {
     if let Some(line) = why_asked(matches) {
         return Some(Line::Why(line));
     }
-    let line = limits_asked(matches)?;
-    Some(Line::Limits(line))
+    if let Some(line) = limits_asked(matches) {
+        return Some(Line::Limits(line));
+    }
+    if let Some(line) = page_asked(matches, "fault", Page::Fault) {
+        return Some(Line::Page(line));
+    }
+    if let Some(line) = page_asked(matches, "warn", Page::Warn) {
+        return Some(Line::Page(line));
+    }
+    let line = page_asked(matches, "chart", Page::Chart)?;
+    Some(Line::Page(line))
 }
 
 /// The book and the effort in the matches.
@@ -181,6 +231,13 @@ fn limits_asked<'a>(matches: &ArgMatches<'a>) -> Option<LimitsLine<'a>> {
     let book = found.get_str("book")?;
     let person = found.get_str("person");
     Some(LimitsLine { book, person })
+}
+
+/// The book in the matches, if the command that tells this of it is asked.
+fn page_asked<'a>(matches: &ArgMatches<'a>, command: &str, page: Page) -> Option<PageLine<'a>> {
+    let found = matches.subcommand_matches(command)?;
+    let book = found.get_str("book")?;
+    Some(PageLine { book, page })
 }
 
 /// clap's want of memory by its own name.

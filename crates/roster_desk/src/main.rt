@@ -2,17 +2,20 @@
 //!
 //! - `line`: the command line
 //! - `telling`: what is told of a book's roster, read and written
+//! - `pages`: what is told of a book as a whole
 //!
-//! `main` opens the book and hands it to `run` of `roster_desk_run`, or to `tell`.
+//! `main` opens the book and hands it to `run` of `roster_desk_run`, to `tell` or to `show`.
 #![tactic(auto)]
 
 mod line;
+mod pages;
 mod telling;
 
 ghost use Rattle.std.specs.Prelude.{◌≡◌, false};
 ghost use Rattle.roster_watched.specs.Watch.{has_failed};
 
 use line::{Line, LineFault, read_line};
+use pages::show;
 use roster_desk_run::{Status, run};
 use roster_desk_text::Unknown;
 use roster_watched::Watched;
@@ -60,6 +63,7 @@ fn book<'a>(line: &Line<'a>) -> &'a str {
         Line::Plan(plan) => plan.book,
         Line::Why(why) => why.book,
         Line::Limits(limits) => limits.book,
+        Line::Page(page) => page.book,
     }
 }
 
@@ -104,6 +108,10 @@ fn answer_of<R: Read>(rt: &HostRuntime, line: &Line<'_>, reader: &mut Watched<R>
                 person: limits.person,
             };
             answer_to(rt, asked, reader)
+        }
+        Line::Page(line) => {
+            let mut writer = Watched::new(io::writer(rt));
+            ended(rt, show(rt.alloc(), line.page, reader, &mut writer))
         }
     }
 }

@@ -56,7 +56,7 @@ pub(crate) fn tell<R: Read, W: Write>(
 }
 
 /// Writes the line of a fault.
-fn refuse<W: Write>(alloc: Global, row: usize, code: u8, writer: &mut Watched<W>) -> Status
+pub(crate) fn refuse<W: Write>(alloc: Global, row: usize, code: u8, writer: &mut Watched<W>) -> Status
     requires { has_failed writer.old ≡ false }
 {
     match write_fault(alloc, row, code, writer) {
@@ -103,7 +103,7 @@ fn text(alloc: Global, asked: Asked<'_>, book: &Book) -> Result<Vec<u8>, Untold>
 }
 
 /// Writes the whole text.
-fn write<W: Write>(text: &[u8], writer: &mut Watched<W>) -> Status {
+pub(crate) fn write<W: Write>(text: &[u8], writer: &mut Watched<W>) -> Status {
     if writer.write_all(text).is_err() {
         return Status::WriteFailed;
     }
