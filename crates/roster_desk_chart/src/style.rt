@@ -66,6 +66,9 @@ pub(crate) const SCRIPT: &str = "
     do { row = down ? row.nextElementSibling : row.previousElementSibling; } while (row ? !bars(row).length : false);
     return row ? bars(row)[0] : null;
   }
+  window.addEventListener('beforeprint', function () {
+    document.querySelectorAll('details').forEach(function (list) { list.open = true; });
+  });
   document.addEventListener('keydown', function (event) {
     var at = document.activeElement;
     var row = at && at.closest ? at.closest('tr') : null;
