@@ -326,15 +326,23 @@ def warnings(root, desk, check, tests):
         tests.told(f"warnings of {path}", wrong, is_fault and told.stdout.decode() != wanted + "\n" and "another fault")
 
 
-# Goes over a page by keys, and tells where it comes.
+# Clocks go back at the end of 6 April, so 23:30 comes twice.
+SANTIAGO = b"""period,2024-04
+base,SCL,"<-04>4<-03>,M9.1.6/24,M4.1.6/24"
+crew,A,SCL,0,0,0
+pairing,P1,SCL,5
+duty,D1,P,P1,SCL,2024-04-06T20:00Z,2024-04-07T02:30Z
+"""
+# Goes over a page by keys and a click, and keeps where it comes.
 KEYS = b"""<script>
 var heads = document.querySelectorAll('tbody th'), said = [];
 function key(name) { document.activeElement.dispatchEvent(new KeyboardEvent('keydown', { key: name, bubbles: true })); }
-function told() { return document.getElementById('say').textContent; }
-heads[3].focus(); said.push(told().slice(0, 15));
-key('ArrowRight'); said.push(told().slice(0, 0) + (told().indexOf('LARS DUTY7: ') === 0 ? 'B' : told()));
-key('ArrowUp'); said.push(told().slice(0, 4));
-document.getElementById('say').textContent = said.join('; ');
+function at() { said.push(document.activeElement.title.split(':')[0]); }
+heads[3].focus(); at();
+key('ArrowRight'); at();
+key('ArrowUp'); at();
+heads[0].click(); said.push(document.getElementById('say').textContent);
+document.body.lang = said.join('; ');
 </script>"""
 
 
@@ -383,6 +391,9 @@ def charts(root, desk, check, tests):
         names = [line.split(b",")[1].decode() for line in book.splitlines() if line.startswith(b"crew,")]
         missing = [name for name in names if f">{name}" not in text]
         tests.told(f"chart of {path}", told.returncode != 0 and f"status {told.returncode}", wrong_page(text), missing and f"without {missing}")
+    told = desk("chart", "-", book=SANTIAGO)
+    title = "P1, duty D1 at SCL: 2024-04-06T20:00Z (Sa 6, 17:00 local) to 2024-04-07T02:30Z; duty 6:30, flight 0:00"
+    tests.told("local times beside a change of clocks", f'title="{title}"' not in told.stdout.decode() and "other times")
     refused = desk("chart", "-", book=b"period\n")
     tests.told("chart of a fault", refused.returncode != 1 and "another status", refused.stdout != b"FAULT 1 3\n" and "another fault")
     largest = made(root, "month", "largest", "1")
@@ -412,8 +423,9 @@ def seen_in_browser(root, desk, tests):
             file.write(text.replace(b"</body>", KEYS + b"</body>"))
         words = ["--headless", "--no-sandbox", "--disable-gpu", "--dump-dom", f"file://{page}"]
         shown = subprocess.run([browser, *words], capture_output=True, check=False, timeout=120).stdout
-        said = re.findall(rb'<output[^>]*>([^<]*)</output>', shown)
-        tests.told("arrow keys in a browser", said != [b"LARS FLIGHTYEAR; B; KARI"] and f"told is {said}")
+        said = re.findall(rb'<body lang="([^"]*)"', shown)
+        wanted = b"LARS FLIGHTYEAR; LARS DUTY7; KARI; ANA: no rule is broken"
+        tests.told("arrow keys in a browser", said != [wanted] and f"told is {said}")
         with open(page, "wb") as file:
             file.write(text)
         for width in (500, 1600):

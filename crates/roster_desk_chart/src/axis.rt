@@ -238,22 +238,29 @@ fn share_of(part: u64, whole: u64) -> u64
     (part.saturating_mul(WHOLE) / whole).min(WHOLE)
 }
 
+/// What the clocks show at a minute from one instant to the next, of which the first shows so many minutes
+/// since midnight and the second so many; nothing if they change between the two.
+fn clock_from(at: u64, begin: u64, end: u64, shown: (u64, u64)) -> Option<u64> {
+    let (first, last) = shown;
+    if end.saturating_sub(begin) != last.saturating_sub(first) {
+        return None;
+    }
+    Some(at.saturating_sub(begin).saturating_add(first))
+}
+
 /// The minutes since midnight that the clocks show at a minute of the day, where the tables of the days tell
-/// it: in a day of 24 hours, or from 08:00 on.
+/// it: they have midnight, 08:00 and 22:00.
 fn clock(days: &BaseDays, day: usize, at: u64) -> Option<u64> {
     if day >= days.days() {
         return None;
     }
     let (begin, eight) = (midnight(days, day), minute(days.eight(day)));
-    let ten = minute(days.ten(day));
+    let (ten, end) = (minute(days.ten(day)), midnight(days, day.saturating_add(1)));
     if at >= ten {
-        return Some(at.saturating_sub(ten).saturating_add(22 * 60));
+        clock_from(at, ten, end, (22 * 60, 24 * 60))
+    } else if at >= eight {
+        clock_from(at, eight, ten, (8 * 60, 22 * 60))
+    } else {
+        clock_from(at, begin, eight, (0, 8 * 60))
     }
-    if at >= eight {
-        return Some(at.saturating_sub(eight).saturating_add(8 * 60));
-    }
-    if eight.saturating_sub(begin) == 8 * 60 {
-        return Some(at.saturating_sub(begin));
-    }
-    None
 }
