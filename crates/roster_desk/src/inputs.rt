@@ -65,6 +65,11 @@ fn read_path<'a>(rt: &HostRuntime, path: &'a str, most: u64) -> Result<Vec<u8>, 
     }
 }
 
+/// The bytes of the book at the path.
+pub(crate) fn read_book_at<'a>(rt: &HostRuntime, path: &'a str) -> Result<Vec<u8>, InputFault<'a>> {
+    read_path(rt, path, u64::MAX)
+}
+
 /// The bytes of the report at the path.
 pub(crate) fn read_report_at<'a>(
     rt: &HostRuntime,
@@ -98,7 +103,7 @@ pub(crate) fn read_inputs<'a>(
     rt: &HostRuntime,
     line: &TellLine<'a>,
 ) -> Result<Inputs, InputFault<'a>> {
-    let book = read_path(rt, line.book, u64::MAX)?;
+    let book = read_book_at(rt, line.book)?;
     let report = match line.report {
         Some(path) => Some(read_report_at(rt, path)?),
         None => None,

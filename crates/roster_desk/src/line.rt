@@ -1,5 +1,6 @@
 //! The command line, on `clap`.
 
+use crate::pages::Page;
 use clap::error::ErrorKind;
 use clap::{Arg, ArgAction, ArgMatches, Command, builder};
 use std::alloc::{AllocError, Global};
@@ -16,6 +17,8 @@ pub(crate) enum Line<'a> {
     Tell(TellLine<'a>),
     /// The `assign` records of the report at this path, or `-`.
     Assigns(&'a str),
+    /// What is told of the records of a book.
+    Page(PageLine<'a>),
 }
 
 /// A plan of a book.
@@ -57,11 +60,22 @@ pub(crate) enum Question<'a> {
     Table,
     /// A row for each person.
     Persons,
+    /// A picture of it.
+    Chart,
     /// What differs from it in another roster.
     Differences {
         /// The path of the report that gives the other roster, or `-`.
         other: &'a str,
     },
+}
+
+/// What is told of the records of a book.
+#[derive(Clone, Copy, Debug)]
+pub(crate) struct PageLine<'a> {
+    /// The path of the book, or `-`.
+    pub(crate) book: &'a str,
+    /// What is to be told.
+    pub(crate) page: Page,
 }
 
 /// Why the words ask for nothing.
@@ -160,6 +174,14 @@ fn table<'a>(alloc: Global) -> Result<Command<'a>, AllocError> {
         .arg(persons)
 }
 
+/// `chart`, with its book and report.
+fn chart<'a>(alloc: Global) -> Result<Command<'a>, AllocError> {
+    Command::new(alloc, "chart")
+        .about("Draws the roster as a page for a browser")
+        .arg(book(alloc))?
+        .arg(report(alloc))
+}
+
 /// `diff`, with its book and its two reports.
 fn diff<'a>(alloc: Global) -> Result<Command<'a>, AllocError> {
     Command::new(alloc, "diff")
@@ -176,14 +198,33 @@ fn assigns<'a>(alloc: Global) -> Result<Command<'a>, AllocError> {
         .arg(needed(alloc, "report"))
 }
 
+/// `fault`, with its book.
+fn fault<'a>(alloc: Global) -> Result<Command<'a>, AllocError> {
+    Command::new(alloc, "fault")
+        .about(
+            "Tells which records of a refused book have faults, and what is wanted in their fields",
+        )
+        .arg(book(alloc))
+}
+
+/// `warn`, with its book.
+fn warn<'a>(alloc: Global) -> Result<Command<'a>, AllocError> {
+    Command::new(alloc, "warn")
+        .about("Tells what is likely a mistake in a book without a fault")
+        .arg(book(alloc))
+}
+
 /// The program's command line.
 fn desk<'a>(alloc: Global) -> Result<Command<'a>, AllocError> {
     let plan = plan(alloc)?;
     let why = why(alloc)?;
     let limits = limits(alloc)?;
     let table = table(alloc)?;
+    let chart = chart(alloc)?;
     let diff = diff(alloc)?;
     let assigns = assigns(alloc)?;
+    let fault = fault(alloc)?;
+    let warn = warn(alloc)?;
     Command::new(alloc, "roster-desk")
         .about("Helps a planner with the books of roster")
         .subcommand_required(true)
@@ -191,8 +232,11 @@ fn desk<'a>(alloc: Global) -> Result<Command<'a>, AllocError> {
         .subcommand(why)?
         .subcommand(limits)?
         .subcommand(table)?
+        .subcommand(chart)?
         .subcommand(diff)?
-        .subcommand(assigns)
+        .subcommand(assigns)?
+        .subcommand(fault)?
+        .subcommand(warn)
 }
 
 /// What the words ask for. The first word is the program's name.
@@ -218,6 +262,12 @@ fn asked<'a>(matches: &ArgMatches<'a>) -> Option<Line<'a>> {
     }
     if let Some(found) = matches.subcommand_matches("assigns") {
         return Some(Line::Assigns(found.get_str("report")?));
+    }
+    if let Some(line) = page_asked(matches, "fault", Page::Fault) {
+        return Some(Line::Page(line));
+    }
+    if let Some(line) = page_asked(matches, "warn", Page::Warn) {
+        return Some(Line::Page(line));
     }
     let line = told(matches)?;
     Some(Line::Tell(line))
@@ -245,6 +295,9 @@ fn told<'a>(matches: &ArgMatches<'a>) -> Option<TellLine<'a>> {
     if let Some(found) = matches.subcommand_matches("table") {
         return asked_of(found, rows_of(found));
     }
+    if let Some(found) = matches.subcommand_matches("chart") {
+        return asked_of(found, Question::Chart);
+    }
     let found = matches.subcommand_matches("diff")?;
     let other = found.get_str("other")?;
     asked_of(found, Question::Differences { other })
@@ -268,6 +321,13 @@ fn asked_of<'a>(found: &ArgMatches<'a>, question: Question<'a>) -> Option<TellLi
         book,
         report,
     })
+}
+
+/// The book in the matches, if the command that tells this of it is asked.
+fn page_asked<'a>(matches: &ArgMatches<'a>, command: &str, page: Page) -> Option<PageLine<'a>> {
+    let found = matches.subcommand_matches(command)?;
+    let book = found.get_str("book")?;
+    Some(PageLine { book, page })
 }
 
 /// clap's want of memory by its own name.

@@ -3,20 +3,23 @@
 //! - `line`: the command line
 //! - `inputs`: what its paths hold
 //! - `telling`: what is told of a roster, and the records of a report
+//! - `pages`: what is told of the records of a book
 //!
 //! `main` opens the book and hands it to `run` of `roster_desk_run`, or reads it and the reports whole and
-//! hands them to `tell`.
+//! hands them to `tell` or `show`.
 #![tactic(auto)]
 
 mod inputs;
 mod line;
+mod pages;
 mod telling;
 
 ghost use Rattle.std.specs.Prelude.{◌≡◌, false};
 ghost use Rattle.roster_watched.specs.Watch.{has_failed};
 
-use inputs::{InputFault, STANDARD_INPUT, read_inputs, read_report_at, shares_input};
-use line::{Line, LineFault, PlanLine, TellLine, read_line};
+use inputs::{InputFault, STANDARD_INPUT, read_book_at, read_inputs, read_report_at, shares_input};
+use line::{Line, LineFault, PageLine, PlanLine, TellLine, read_line};
+use pages::show;
 use roster_desk_run::{Status, run};
 use roster_desk_text::Unknown;
 use roster_watched::Watched;
@@ -61,6 +64,7 @@ fn answer(rt: &HostRuntime, line: &Line<'_>) -> ExitCode {
         Line::Plan(plan) => answer_plan(rt, plan),
         Line::Tell(tell) => answer_tell(rt, tell),
         Line::Assigns(path) => answer_assigns(rt, path),
+        Line::Page(page) => answer_page(rt, page),
     }
 }
 
@@ -113,6 +117,19 @@ fn answer_assigns(rt: &HostRuntime, path: &str) -> ExitCode {
         Ok(status) => ended(rt, status),
         Err(untold) => untold_ended(rt, &untold),
     }
+}
+
+/// Tells of the records of a book.
+fn answer_page(rt: &HostRuntime, line: &PageLine<'_>) -> ExitCode {
+    let book = match read_book_at(rt, line.book) {
+        Ok(book) => book,
+        Err(fault) => return unread_input(rt, fault),
+    };
+    let mut writer = Watched::new(io::writer(rt));
+    ended(
+        rt,
+        show(rt.alloc(), line.page, book.as_slice(), &mut writer),
+    )
 }
 
 /// Tells why nothing was told.

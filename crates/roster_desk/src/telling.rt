@@ -6,6 +6,7 @@ ghost use Rattle.roster_watched.specs.Watch.{has_failed};
 use crate::inputs::Inputs;
 use crate::line::{Question, TellLine};
 use roster_book::{Book, BookFault, Command, read_book};
+use roster_desk_chart::chart_text;
 use roster_desk_run::Status;
 use roster_desk_text::{Unknown, find, limits_text, why_text};
 use roster_problem::{Places, Problem};
@@ -93,7 +94,12 @@ fn records(alloc: Global, report: &[u8]) -> Result<Vec<u8>, ReportFault> {
 }
 
 /// Writes the line of a fault.
-fn refuse<W: Write>(alloc: Global, row: usize, code: u8, writer: &mut Watched<W>) -> Status
+pub(crate) fn refuse<W: Write>(
+    alloc: Global,
+    row: usize,
+    code: u8,
+    writer: &mut Watched<W>,
+) -> Status
     requires { has_failed writer.old ≡ false }
 {
     match write_fault(alloc, row, code, writer) {
@@ -167,6 +173,7 @@ fn told<'a>(
             Ok(roster_table(alloc, problem, places, &zones)?)
         }
         Question::Persons => Ok(persons_table(alloc, problem, places)?),
+        Question::Chart => Ok(chart_text(alloc, problem, places)?),
         Question::Differences { other } => {
             let after = given(alloc, problem, other, inputs.other.as_slice())?;
             Ok(differences_text(alloc, problem, places, after.as_slice())?)
@@ -175,7 +182,7 @@ fn told<'a>(
 }
 
 /// Writes the whole text.
-fn write<W: Write>(text: &[u8], writer: &mut Watched<W>) -> Status {
+pub(crate) fn write<W: Write>(text: &[u8], writer: &mut Watched<W>) -> Status {
     if writer.write_all(text).is_err() {
         return Status::WriteFailed;
     }

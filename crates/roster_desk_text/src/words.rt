@@ -1,6 +1,7 @@
 //! Times, days and names.
 
-use roster_instants::Period;
+use jiff_core::civil::Date;
+use roster_instants::{Minute, Period};
 use roster_model::limits::DAYS_BEFORE;
 use roster_problem::{DutyList, Problem};
 use std::alloc::{AllocError, Global};
@@ -43,6 +44,17 @@ pub(crate) fn day(
         return date(alloc, year, month + 1, number - month_days);
     }
     date(alloc, year + 1, 1, number - month_days)
+}
+
+/// An instant as in `2024-06-11T08:00Z`.
+pub fn instant(alloc: Global, minute: Minute) -> Result<String, AllocError> {
+    let minutes = minute.get();
+    let Ok(date) = Date::from_unix_epoch_day(minutes / 1440) else {
+        return String::from_str(alloc, "-");
+    };
+    let (year, month, day) = (date.year, date.month, date.day);
+    let (hour, rest) = (minutes % 1440 / 60, minutes % 60);
+    format!(in alloc; "{year}-{month:02}-{day:02}T{hour:02}:{rest:02}Z")
 }
 
 /// The name of the duty at a place of the list; `-` if it has none there.
