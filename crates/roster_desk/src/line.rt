@@ -1,7 +1,8 @@
 //! The command line, on `clap`.
 
+use crate::pages::Page;
 use clap::error::ErrorKind;
-use clap::{Arg, ArgMatches, Command, builder};
+use clap::{Arg, ArgAction, ArgMatches, Command, builder};
 use std::alloc::{AllocError, Global};
 
 /// How much is tried if nothing is said of it.
@@ -12,10 +13,12 @@ const USUAL_EFFORT: u32 = 5;
 pub(crate) enum Line<'a> {
     /// A plan of a book.
     Plan(PlanLine<'a>),
-    /// Why persons of a book mustn't have pairings.
-    Why(WhyLine<'a>),
-    /// How near to each limit persons of a book are.
-    Limits(LimitsLine<'a>),
+    /// What is told of a roster of a book.
+    Tell(TellLine<'a>),
+    /// The `assign` records of the report at this path, or `-`.
+    Assigns(&'a str),
+    /// What is told of the records of a book.
+    Page(PageLine<'a>),
 }
 
 /// A plan of a book.
@@ -27,24 +30,52 @@ pub(crate) struct PlanLine<'a> {
     pub(crate) effort: u32,
 }
 
-/// Why persons of a book mustn't have pairings.
-#[derive(Debug, Drop)]
-pub(crate) struct WhyLine<'a> {
+/// What is told of a roster of a book.
+#[derive(Clone, Copy, Debug)]
+pub(crate) struct TellLine<'a> {
+    /// What is asked.
+    pub(crate) question: Question<'a>,
     /// The path of the book, or `-`.
     pub(crate) book: &'a str,
-    /// The name of the pairing, if one is named.
-    pub(crate) pairing: Option<&'a str>,
-    /// The name of the person, if one is named.
-    pub(crate) person: Option<&'a str>,
+    /// The path of the report that gives the roster, or `-`; none if the book gives it.
+    pub(crate) report: Option<&'a str>,
 }
 
-/// How near to each limit persons of a book are.
-#[derive(Debug, Drop)]
-pub(crate) struct LimitsLine<'a> {
+/// What is asked of a roster.
+#[derive(Clone, Copy, Debug)]
+pub(crate) enum Question<'a> {
+    /// Who could have a pairing, and why others mustn't.
+    Why {
+        /// The name of the pairing, if one is named.
+        pairing: Option<&'a str>,
+        /// The name of the person, if one is named.
+        person: Option<&'a str>,
+    },
+    /// How near to each limit persons are.
+    Limits {
+        /// The name of the person, if one is named.
+        person: Option<&'a str>,
+    },
+    /// A row for each pairing, duty and leave.
+    Table,
+    /// A row for each person.
+    Persons,
+    /// A picture of it.
+    Chart,
+    /// What differs from it in another roster.
+    Differences {
+        /// The path of the report that gives the other roster, or `-`.
+        other: &'a str,
+    },
+}
+
+/// What is told of the records of a book.
+#[derive(Clone, Copy, Debug)]
+pub(crate) struct PageLine<'a> {
     /// The path of the book, or `-`.
     pub(crate) book: &'a str,
-    /// The name of the person, if one is named.
-    pub(crate) person: Option<&'a str>,
+    /// What is to be told.
+    pub(crate) page: Page,
 }
 
 /// Why the words ask for nothing.
@@ -62,12 +93,27 @@ impl From<AllocError> for LineFault {
     }
 }
 
-/// The book, which each command has.
+/// The book, which most commands have.
 fn book<'a>(alloc: Global) -> Arg<'a> {
     Arg::new(alloc, "book")
         .value_name("BOOK")
         .required(true)
         .help("The book's path, or - for standard input")
+}
+
+/// The report that gives the roster, which a command may have.
+fn report<'a>(alloc: Global) -> Arg<'a> {
+    Arg::new(alloc, "report").value_name("REPORT").help(
+        "The path of a report or plan that gives the roster, or -; without it the book gives it",
+    )
+}
+
+/// A report that a command has.
+fn needed<'a>(alloc: Global, id: &'a str) -> Arg<'a> {
+    Arg::new(alloc, id)
+        .value_name("REPORT")
+        .required(true)
+        .help("The path of a report or plan, or - for standard input")
 }
 
 /// The person, of whom alone lines are wanted.
@@ -92,7 +138,7 @@ fn plan<'a>(alloc: Global) -> Result<Command<'a>, AllocError> {
         .arg(effort)
 }
 
-/// `why`, with its book, and what it may be asked of.
+/// `why`, with its book and report, and what it may be asked of.
 fn why<'a>(alloc: Global) -> Result<Command<'a>, AllocError> {
     let pairing = Arg::new(alloc, "pairing")
         .long("pairing")
@@ -101,16 +147,71 @@ fn why<'a>(alloc: Global) -> Result<Command<'a>, AllocError> {
     Command::new(alloc, "why")
         .about("Tells of each open pairing who could have it at what cost, and why others mustn't")
         .arg(book(alloc))?
+        .arg(report(alloc))?
         .arg(pairing)?
         .arg(person(alloc))
 }
 
-/// `limits`, with its book, and whom it may be asked of.
+/// `limits`, with its book and report, and whom it may be asked of.
 fn limits<'a>(alloc: Global) -> Result<Command<'a>, AllocError> {
     Command::new(alloc, "limits")
         .about("Tells how much of each limit each person uses, and what is left")
         .arg(book(alloc))?
+        .arg(report(alloc))?
         .arg(person(alloc))
+}
+
+/// `table`, with its book and report, and what its rows are.
+fn table<'a>(alloc: Global) -> Result<Command<'a>, AllocError> {
+    let persons = Arg::new(alloc, "persons")
+        .long("persons")
+        .action(ArgAction::SetTrue)
+        .help("A row for each person, with sums");
+    Command::new(alloc, "table")
+        .about("Writes CSV for a spreadsheet: who has which pairings, duties and leaves, and when")
+        .arg(book(alloc))?
+        .arg(report(alloc))?
+        .arg(persons)
+}
+
+/// `chart`, with its book and report.
+fn chart<'a>(alloc: Global) -> Result<Command<'a>, AllocError> {
+    Command::new(alloc, "chart")
+        .about("Draws the roster as a page for a browser")
+        .arg(book(alloc))?
+        .arg(report(alloc))
+}
+
+/// `diff`, with its book and its two reports.
+fn diff<'a>(alloc: Global) -> Result<Command<'a>, AllocError> {
+    Command::new(alloc, "diff")
+        .about("Tells which pairings move from one roster to another, and what that changes")
+        .arg(book(alloc))?
+        .arg(needed(alloc, "report"))?
+        .arg(needed(alloc, "other"))
+}
+
+/// `assigns`, with its report.
+fn assigns<'a>(alloc: Global) -> Result<Command<'a>, AllocError> {
+    Command::new(alloc, "assigns")
+        .about("Writes the assign records that give a book the roster of a report or plan")
+        .arg(needed(alloc, "report"))
+}
+
+/// `fault`, with its book.
+fn fault<'a>(alloc: Global) -> Result<Command<'a>, AllocError> {
+    Command::new(alloc, "fault")
+        .about(
+            "Tells which records of a refused book have faults, and what is wanted in their fields",
+        )
+        .arg(book(alloc))
+}
+
+/// `warn`, with its book.
+fn warn<'a>(alloc: Global) -> Result<Command<'a>, AllocError> {
+    Command::new(alloc, "warn")
+        .about("Tells what is likely a mistake in a book without a fault")
+        .arg(book(alloc))
 }
 
 /// The program's command line.
@@ -118,12 +219,24 @@ fn desk<'a>(alloc: Global) -> Result<Command<'a>, AllocError> {
     let plan = plan(alloc)?;
     let why = why(alloc)?;
     let limits = limits(alloc)?;
+    let table = table(alloc)?;
+    let chart = chart(alloc)?;
+    let diff = diff(alloc)?;
+    let assigns = assigns(alloc)?;
+    let fault = fault(alloc)?;
+    let warn = warn(alloc)?;
     Command::new(alloc, "roster-desk")
         .about("Helps a planner with the books of roster")
         .subcommand_required(true)
         .subcommand(plan)?
         .subcommand(why)?
-        .subcommand(limits)
+        .subcommand(limits)?
+        .subcommand(table)?
+        .subcommand(chart)?
+        .subcommand(diff)?
+        .subcommand(assigns)?
+        .subcommand(fault)?
+        .subcommand(warn)
 }
 
 /// What the words ask for. The first word is the program's name.
@@ -147,11 +260,17 @@ fn asked<'a>(matches: &ArgMatches<'a>) -> Option<Line<'a>> {
     if let Some(line) = planned(matches) {
         return Some(Line::Plan(line));
     }
-    if let Some(line) = why_asked(matches) {
-        return Some(Line::Why(line));
+    if let Some(found) = matches.subcommand_matches("assigns") {
+        return Some(Line::Assigns(found.get_str("report")?));
     }
-    let line = limits_asked(matches)?;
-    Some(Line::Limits(line))
+    if let Some(line) = page_asked(matches, "fault", Page::Fault) {
+        return Some(Line::Page(line));
+    }
+    if let Some(line) = page_asked(matches, "warn", Page::Warn) {
+        return Some(Line::Page(line));
+    }
+    let line = told(matches)?;
+    Some(Line::Tell(line))
 }
 
 /// The book and the effort in the matches.
@@ -162,25 +281,53 @@ fn planned<'a>(matches: &ArgMatches<'a>) -> Option<PlanLine<'a>> {
     Some(PlanLine { book, effort })
 }
 
-/// The book in the matches, and what is named, if `why` is asked.
-fn why_asked<'a>(matches: &ArgMatches<'a>) -> Option<WhyLine<'a>> {
-    let found = matches.subcommand_matches("why")?;
+/// What is to be told by the matches.
+fn told<'a>(matches: &ArgMatches<'a>) -> Option<TellLine<'a>> {
+    if let Some(found) = matches.subcommand_matches("why") {
+        let pairing = found.get_str("pairing");
+        let person = found.get_str("person");
+        return asked_of(found, Question::Why { pairing, person });
+    }
+    if let Some(found) = matches.subcommand_matches("limits") {
+        let person = found.get_str("person");
+        return asked_of(found, Question::Limits { person });
+    }
+    if let Some(found) = matches.subcommand_matches("table") {
+        return asked_of(found, rows_of(found));
+    }
+    if let Some(found) = matches.subcommand_matches("chart") {
+        return asked_of(found, Question::Chart);
+    }
+    let found = matches.subcommand_matches("diff")?;
+    let other = found.get_str("other")?;
+    asked_of(found, Question::Differences { other })
+}
+
+/// What the rows of the table in the matches are.
+fn rows_of<'a>(found: &ArgMatches<'a>) -> Question<'a> {
+    if found.get_flag("persons") {
+        Question::Persons
+    } else {
+        Question::Table
+    }
+}
+
+/// The question, of the book and the report in the matches.
+fn asked_of<'a>(found: &ArgMatches<'a>, question: Question<'a>) -> Option<TellLine<'a>> {
     let book = found.get_str("book")?;
-    let pairing = found.get_str("pairing");
-    let person = found.get_str("person");
-    Some(WhyLine {
+    let report = found.get_str("report");
+    Some(TellLine {
+        question,
         book,
-        pairing,
-        person,
+        report,
     })
 }
 
-/// The book in the matches, and who is named, if `limits` is asked.
-fn limits_asked<'a>(matches: &ArgMatches<'a>) -> Option<LimitsLine<'a>> {
-    let found = matches.subcommand_matches("limits")?;
+/// The book in the matches, if the command that tells this of it is asked.
+fn page_asked<'a>(matches: &ArgMatches<'a>, command: &str, page: Page) -> Option<PageLine<'a>> {
+    let found = matches.subcommand_matches(command)?;
     let book = found.get_str("book")?;
-    let person = found.get_str("person");
-    Some(LimitsLine { book, person })
+    Some(PageLine { book, page })
 }
 
 /// clap's want of memory by its own name.

@@ -1,18 +1,25 @@
 //! `roster-desk`: a planner's companion to `roster`.
 //!
 //! - `line`: the command line
-//! - `telling`: what is told of a book's roster, read and written
+//! - `inputs`: what its paths hold
+//! - `telling`: what is told of a roster, and the records of a report
+//! - `pages`: what is told of the records of a book
 //!
-//! `main` opens the book and hands it to `run` of `roster_desk_run`, or to `tell`.
+//! `main` opens the book and hands it to `run` of `roster_desk_run`, or reads it and the reports whole and
+//! hands them to `tell` or `show`.
 #![tactic(auto)]
 
+mod inputs;
 mod line;
+mod pages;
 mod telling;
 
 ghost use Rattle.std.specs.Prelude.{◌≡◌, false};
 ghost use Rattle.roster_watched.specs.Watch.{has_failed};
 
-use line::{Line, LineFault, read_line};
+use inputs::{InputFault, STANDARD_INPUT, read_book_at, read_inputs, read_report_at, shares_input};
+use line::{Line, LineFault, PageLine, PlanLine, TellLine, read_line};
+use pages::show;
 use roster_desk_run::{Status, run};
 use roster_desk_text::Unknown;
 use roster_watched::Watched;
@@ -20,13 +27,10 @@ use std::fs::File;
 use std::io::Read;
 use std::process::ExitCode;
 use std::{env, io};
-use telling::{Asked, Question, tell};
+use telling::{Untold, tell, tell_assigns};
 
 /// The exit status of a command line that is refused.
 const LINE_REFUSED: u8 = 2;
-
-/// The book that stands for standard input.
-const STANDARD_INPUT: &str = "-";
 
 fn main(rt: HostRuntime) -> ExitCode {
     let words = match words(&rt) {
@@ -54,87 +58,115 @@ fn unread(rt: &HostRuntime, error: &io::Error) -> ExitCode {
     ExitCode::from(LINE_REFUSED)
 }
 
-/// The path of the book.
-fn book<'a>(line: &Line<'a>) -> &'a str {
-    match line {
-        Line::Plan(plan) => plan.book,
-        Line::Why(why) => why.book,
-        Line::Limits(limits) => limits.book,
-    }
-}
-
-/// Opens the book, and answers the line.
+/// Answers the line.
 fn answer(rt: &HostRuntime, line: &Line<'_>) -> ExitCode {
-    let book = book(line);
-    if book == STANDARD_INPUT {
-        let mut reader = Watched::new(rt.reader());
-        return answer_of(rt, line, &mut reader);
-    }
-    let file = match File::open(rt, book) {
-        Ok(file) => file,
-        Err(error) => return unopened(rt, book, &error),
-    };
-    let mut reader = Watched::new(file);
-    answer_of(rt, line, &mut reader)
-}
-
-/// Answers the line of the book that is read.
-fn answer_of<R: Read>(rt: &HostRuntime, line: &Line<'_>, reader: &mut Watched<R>) -> ExitCode
-    requires { has_failed reader.old ≡ false }
-{
     match line {
-        Line::Plan(plan) => {
-            let mut writer = Watched::new(io::writer(rt));
-            ended(rt, run(rt.alloc(), plan.effort, reader, &mut writer))
-        }
-        Line::Why(why) => {
-            let question = Question::Why;
-            let (pairing, person) = (why.pairing, why.person);
-            let asked = Asked {
-                question,
-                pairing,
-                person,
-            };
-            answer_to(rt, asked, reader)
-        }
-        Line::Limits(limits) => {
-            let asked = Asked {
-                question: Question::Limits,
-                pairing: None,
-                person: limits.person,
-            };
-            answer_to(rt, asked, reader)
-        }
+        Line::Plan(plan) => answer_plan(rt, plan),
+        Line::Tell(tell) => answer_tell(rt, tell),
+        Line::Assigns(path) => answer_assigns(rt, path),
+        Line::Page(page) => answer_page(rt, page),
     }
 }
 
-/// Answers a question about the roster of the book that is read.
-fn answer_to<R: Read>(rt: &HostRuntime, asked: Asked<'_>, reader: &mut Watched<R>) -> ExitCode
+/// Plans the book.
+fn answer_plan(rt: &HostRuntime, line: &PlanLine<'_>) -> ExitCode {
+    let book = line.book;
+    if book == STANDARD_INPUT {
+        return plan(rt, line, &mut Watched::new(rt.reader()));
+    }
+    match File::open(rt, book) {
+        Ok(file) => plan(rt, line, &mut Watched::new(file)),
+        Err(error) if error.kind() == io::ErrorKind::OutOfMemory => ended(rt, Status::Memory),
+        Err(_) => unopened(rt, book),
+    }
+}
+
+/// Plans the book that is read.
+fn plan<R: Read>(rt: &HostRuntime, line: &PlanLine<'_>, reader: &mut Watched<R>) -> ExitCode
     requires { has_failed reader.old ≡ false }
 {
     let mut writer = Watched::new(io::writer(rt));
-    match tell(rt.alloc(), asked, reader, &mut writer) {
-        Ok(status) => ended(rt, status),
-        Err(unknown) => unnamed(rt, unknown),
-    }
+    ended(rt, run(rt.alloc(), line.effort, reader, &mut writer))
 }
 
-/// The book doesn't have a name that the command line asks for.
-fn unnamed(rt: &HostRuntime, unknown: Unknown) -> ExitCode {
-    let text = match unknown {
-        Unknown::Pairing => "error: the book has no such pairing",
-        Unknown::Person => "error: the book has no such person",
+/// Tells of a roster.
+fn answer_tell(rt: &HostRuntime, line: &TellLine<'_>) -> ExitCode {
+    if shares_input(line) {
+        let _ = eprintln!(rt; "error: only one of the paths may be -");
+        return ExitCode::from(LINE_REFUSED);
+    }
+    let inputs = match read_inputs(rt, line) {
+        Ok(inputs) => inputs,
+        Err(fault) => return unread_input(rt, fault),
     };
-    let _ = eprintln!(rt; "{text}");
-    ExitCode::from(LINE_REFUSED)
+    let mut writer = Watched::new(io::writer(rt));
+    match tell(rt.alloc(), line, &inputs, &mut writer) {
+        Ok(status) => ended(rt, status),
+        Err(untold) => untold_ended(rt, &untold),
+    }
 }
 
-/// The book can't be opened, or memory ran out on the way.
-fn unopened(rt: &HostRuntime, book: &str, error: &io::Error) -> ExitCode {
-    if error.kind() == io::ErrorKind::OutOfMemory {
-        return ended(rt, Status::Memory);
+/// Writes the `assign` records of the report at the path.
+fn answer_assigns(rt: &HostRuntime, path: &str) -> ExitCode {
+    let report = match read_report_at(rt, path) {
+        Ok(report) => report,
+        Err(fault) => return unread_input(rt, fault),
+    };
+    let mut writer = Watched::new(io::writer(rt));
+    match tell_assigns(rt.alloc(), path, report.as_slice(), &mut writer) {
+        Ok(status) => ended(rt, status),
+        Err(untold) => untold_ended(rt, &untold),
     }
-    let _ = eprintln!(rt; "error: {book} can't be opened");
+}
+
+/// Tells of the records of a book.
+fn answer_page(rt: &HostRuntime, line: &PageLine<'_>) -> ExitCode {
+    let book = match read_book_at(rt, line.book) {
+        Ok(book) => book,
+        Err(fault) => return unread_input(rt, fault),
+    };
+    let mut writer = Watched::new(io::writer(rt));
+    ended(
+        rt,
+        show(rt.alloc(), line.page, book.as_slice(), &mut writer),
+    )
+}
+
+/// Tells why nothing was told.
+fn untold_ended(rt: &HostRuntime, untold: &Untold<'_>) -> ExitCode {
+    match untold {
+        Untold::Unknown(Unknown::Pairing) => {
+            let _ = eprintln!(rt; "error: the book has no such pairing");
+            ExitCode::from(LINE_REFUSED)
+        }
+        Untold::Unknown(Unknown::Person) => {
+            let _ = eprintln!(rt; "error: the book has no such person");
+            ExitCode::from(LINE_REFUSED)
+        }
+        Untold::Report { path, fault } => {
+            let _ = eprintln!(rt; "error: {path}, {fault}");
+            Status::Refused.exit_code()
+        }
+        Untold::Memory => ended(rt, Status::Memory),
+    }
+}
+
+/// Tells why an input wasn't read.
+fn unread_input(rt: &HostRuntime, fault: InputFault<'_>) -> ExitCode {
+    match fault {
+        InputFault::Unopened(path) => unopened(rt, path),
+        InputFault::TooLong(path) => {
+            let _ = eprintln!(rt; "error: {path} is too long for a report");
+            Status::Refused.exit_code()
+        }
+        InputFault::Device => ended(rt, Status::ReadFailed),
+        InputFault::Memory => ended(rt, Status::Memory),
+    }
+}
+
+/// Tells that the file at the path can't be opened.
+fn unopened(rt: &HostRuntime, path: &str) -> ExitCode {
+    let _ = eprintln!(rt; "error: {path} can't be opened");
     Status::ReadFailed.exit_code()
 }
 

@@ -1,62 +1,105 @@
-//! What is told of a book's roster, read and written.
+//! What is told of a roster of a book, and the records of a report.
 
-ghost use Rattle.std.specs.Prelude.{◌≡◌, length, false};
+ghost use Rattle.std.specs.Prelude.{◌≡◌, IfOk, length, false};
 ghost use Rattle.roster_watched.specs.Watch.{has_failed};
 
+use crate::inputs::Inputs;
+use crate::line::{Question, TellLine};
 use roster_book::{Book, BookFault, Command, read_book};
+use roster_desk_chart::chart_text;
 use roster_desk_run::Status;
 use roster_desk_text::{Unknown, find, limits_text, why_text};
+use roster_problem::{Places, Problem};
 use roster_report::{TextFault, write_fault};
+use roster_reports::{ReportFault, assigns_text, read_report, read_roster};
+use roster_tables::{differences_text, persons_table, read_zones, roster_table};
 use roster_watched::Watched;
-use std::alloc::Global;
-use std::io::{Read, Write};
-
-/// What is to be told of the roster in a book.
-#[derive(Clone, Copy, Debug)]
-pub(crate) enum Question {
-    /// Who could have a pairing, and why others mustn't.
-    Why,
-    /// How near to each limit persons are.
-    Limits,
-}
-
-/// A question, and what it is asked of, by names.
-#[derive(Clone, Copy, Debug)]
-pub(crate) struct Asked<'a> {
-    pub(crate) question: Question,
-    pub(crate) pairing: Option<&'a str>,
-    pub(crate) person: Option<&'a str>,
-}
+use std::alloc::{AllocError, Global};
+use std::io::Write;
 
 /// Why nothing was told, if that isn't the book's fault.
-#[derive(Clone, Copy, Debug, PartialEq, Eq)]
-pub(crate) enum Untold {
+#[derive(Debug, Drop)]
+pub(crate) enum Untold<'a> {
     /// The book doesn't have a name that is asked for.
     Unknown(Unknown),
+    /// The report at the path gives no roster of the book.
+    Report {
+        /// The path.
+        path: &'a str,
+        /// What is wrong with the report.
+        fault: ReportFault,
+    },
     /// Memory ran out.
     Memory,
 }
 
-/// Reads a book to its end or to its first fault, and writes what is asked, or the line of the fault.
-pub(crate) fn tell<R: Read, W: Write>(
+impl<'a> From<AllocError> for Untold<'a> {
+    fn from(_error: AllocError) -> Untold<'a> {
+        Untold::Memory
+    }
+}
+
+impl<'a> From<Unknown> for Untold<'a> {
+    fn from(unknown: Unknown) -> Untold<'a> {
+        Untold::Unknown(unknown)
+    }
+}
+
+/// What is told of a fault of the report at the path.
+fn refused<'a>(path: &'a str, fault: ReportFault) -> Untold<'a> {
+    match fault {
+        ReportFault::Memory => Untold::Memory,
+        fault => Untold::Report { path, fault },
+    }
+}
+
+/// Writes what the line asks of the book among the inputs, or the line of the book's first fault.
+pub(crate) fn tell<'a, W: Write>(
     alloc: Global,
-    asked: Asked<'_>,
-    reader: &mut Watched<R>,
+    line: &TellLine<'a>,
+    inputs: &Inputs,
     writer: &mut Watched<W>,
-) -> Result<Status, Unknown>
-    requires reader_open { has_failed reader.old ≡ false }
-    requires writer_open { has_failed writer.old ≡ false }
+) -> Result<Status, Untold<'a>>
+    requires { has_failed writer.old ≡ false }
 {
-    match read_book(alloc, reader, Command::Check) {
-        Ok(book) => answer(alloc, asked, &book, writer),
+    let mut reader = Watched::new(inputs.book.as_slice());
+    match read_book(alloc, &mut reader, Command::Check) {
+        Ok(book) => {
+            let text = text(alloc, line, inputs, &book)?;
+            Ok(write(text.as_slice(), writer))
+        }
         Err(BookFault::At { row, code }) => Ok(refuse(alloc, row, code, writer)),
         Err(BookFault::Device) => Ok(Status::ReadFailed),
         Err(BookFault::Memory) => Ok(Status::Memory),
     }
 }
 
+/// Writes the `assign` records that the report at the path gives.
+pub(crate) fn tell_assigns<'a, W: Write>(
+    alloc: Global,
+    path: &'a str,
+    report: &[u8],
+    writer: &mut Watched<W>,
+) -> Result<Status, Untold<'a>> {
+    match records(alloc, report) {
+        Ok(text) => Ok(write(text.as_slice(), writer)),
+        Err(fault) => Err(refused(path, fault)),
+    }
+}
+
+/// The `assign` records that the report gives.
+fn records(alloc: Global, report: &[u8]) -> Result<Vec<u8>, ReportFault> {
+    let report = read_report(alloc, report)?;
+    assigns_text(alloc, &report)
+}
+
 /// Writes the line of a fault.
-fn refuse<W: Write>(alloc: Global, row: usize, code: u8, writer: &mut Watched<W>) -> Status
+pub(crate) fn refuse<W: Write>(
+    alloc: Global,
+    row: usize,
+    code: u8,
+    writer: &mut Watched<W>,
+) -> Status
     requires { has_failed writer.old ≡ false }
 {
     match write_fault(alloc, row, code, writer) {
@@ -66,44 +109,80 @@ fn refuse<W: Write>(alloc: Global, row: usize, code: u8, writer: &mut Watched<W>
     }
 }
 
-/// Writes what is asked of a book in which no record has a fault.
-fn answer<W: Write>(
+/// The roster that the report at the path gives of the book.
+fn given<'a>(
     alloc: Global,
-    asked: Asked<'_>,
-    book: &Book,
-    writer: &mut Watched<W>,
-) -> Result<Status, Unknown>
-    requires { length book.now.assigned ≡ length book.now.problem.pairings }
+    problem: &Problem,
+    path: &'a str,
+    text: &[u8],
+) -> Result<Places, Untold<'a>>
+    ensures { IfOk result (λ places. length places ≡ length problem.now.pairings) }
 {
-    match text(alloc, asked, book) {
-        Ok(text) => Ok(write(text.as_slice(), writer)),
-        Err(Untold::Memory) => Ok(Status::Memory),
-        Err(Untold::Unknown(unknown)) => Err(unknown),
+    match read_roster(alloc, problem, text) {
+        Ok(places) => Ok(places),
+        Err(fault) => Err(refused(path, fault)),
     }
 }
 
-/// The text that tells what is asked.
-fn text(alloc: Global, asked: Asked<'_>, book: &Book) -> Result<Vec<u8>, Untold>
+/// The text that tells what the line asks of a book in which no record has a fault.
+fn text<'a>(
+    alloc: Global,
+    line: &TellLine<'a>,
+    inputs: &Inputs,
+    book: &Book,
+) -> Result<Vec<u8>, Untold<'a>>
     requires { length book.now.assigned ≡ length book.now.problem.pairings }
 {
     let problem = &book.problem;
-    let places = book.assigned.as_slice();
-    let found = match find(problem, asked.pairing, asked.person) {
-        Ok(found) => found,
-        Err(unknown) => return Err(Untold::Unknown(unknown)),
-    };
-    let told = match asked.question {
-        Question::Why => why_text(alloc, problem, places, found),
-        Question::Limits => limits_text(alloc, problem, places, found.person),
-    };
-    match told {
-        Ok(text) => Ok(text),
-        Err(_) => Err(Untold::Memory),
+    match (line.report, &inputs.report) {
+        (Some(path), Some(report)) => {
+            let places = given(alloc, problem, path, report.as_slice())?;
+            told(alloc, line.question, inputs, problem, places.as_slice())
+        }
+        _ => told(
+            alloc,
+            line.question,
+            inputs,
+            problem,
+            book.assigned.as_slice(),
+        ),
+    }
+}
+
+/// The text that tells what is asked of the roster.
+fn told<'a>(
+    alloc: Global,
+    question: Question<'a>,
+    inputs: &Inputs,
+    problem: &Problem,
+    places: &[u16],
+) -> Result<Vec<u8>, Untold<'a>>
+    requires { length places.now ≡ length problem.now.pairings }
+{
+    match question {
+        Question::Why { pairing, person } => {
+            let found = find(problem, pairing, person)?;
+            Ok(why_text(alloc, problem, places, found)?)
+        }
+        Question::Limits { person } => {
+            let found = find(problem, None, person)?;
+            Ok(limits_text(alloc, problem, places, found.person)?)
+        }
+        Question::Table => {
+            let zones = read_zones(alloc, inputs.book.as_slice())?;
+            Ok(roster_table(alloc, problem, places, &zones)?)
+        }
+        Question::Persons => Ok(persons_table(alloc, problem, places)?),
+        Question::Chart => Ok(chart_text(alloc, problem, places)?),
+        Question::Differences { other } => {
+            let after = given(alloc, problem, other, inputs.other.as_slice())?;
+            Ok(differences_text(alloc, problem, places, after.as_slice())?)
+        }
     }
 }
 
 /// Writes the whole text.
-fn write<W: Write>(text: &[u8], writer: &mut Watched<W>) -> Status {
+pub(crate) fn write<W: Write>(text: &[u8], writer: &mut Watched<W>) -> Status {
     if writer.write_all(text).is_err() {
         return Status::WriteFailed;
     }

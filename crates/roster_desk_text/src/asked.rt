@@ -1,8 +1,10 @@
 //! Which pairings and persons are asked for.
 
-ghost use Rattle.std.specs.Prelude.{◌<◌, IfSome, length};
+ghost use Rattle.std.specs.Prelude.{◌≡◌, ◌⊎◌, Ok, Err, IfOk, IfErr, option_map};
+ghost use Rattle.roster_desk_text.specs.Asked.{pairing_asked, person_asked};
 
 use roster_problem::Problem;
+use roster_reports::{pairing_named, person_named};
 
 /// What is asked for, by places of the book: all that are open, and all persons, if nothing is named.
 #[derive(Clone, Copy, Debug)]
@@ -22,39 +24,23 @@ pub enum Unknown {
     Person,
 }
 
-/// The place of the pairing with this name.
-fn pairing_at(problem: &Problem, name: &[u8]) -> Option<usize> {
-    for (p, pairing) in problem.pairings().iter().enumerate() {
-        if pairing.id.as_bytes() == name {
-            return Some(p);
-        }
-    }
-    None
-}
-
-/// The place of the person with this name.
-fn person_at(problem: &Problem, name: &[u8]) -> Option<usize> {
-    for (k, person) in problem.persons().iter().enumerate() {
-        if person.id.as_bytes() == name {
-            return Some(k);
-        }
-    }
-    None
-}
-
 /// The place of the pairing, if one is named.
-fn named_pairing(problem: &Problem, name: Option<&str>) -> Result<Option<usize>, Unknown> {
+fn find_pairing(problem: &Problem, name: Option<&str>) -> Result<Option<usize>, Unknown>
+    ensures { result ≡ pairing_asked problem.now (option_map (λ s. s.now) name.entry) }
+{
     let Some(name) = name else { return Ok(None) };
-    match pairing_at(problem, name.as_bytes()) {
+    match pairing_named(problem, name.as_bytes()) {
         Some(p) => Ok(Some(p)),
         None => Err(Unknown::Pairing),
     }
 }
 
 /// The place of the person, if one is named.
-fn named_person(problem: &Problem, name: Option<&str>) -> Result<Option<usize>, Unknown> {
+fn find_person(problem: &Problem, name: Option<&str>) -> Result<Option<usize>, Unknown>
+    ensures { result ≡ person_asked problem.now (option_map (λ s. s.now) name.entry) }
+{
     let Some(name) = name else { return Ok(None) };
-    match person_at(problem, name.as_bytes()) {
+    match person_named(problem, name.as_bytes()) {
         Some(k) => Ok(Some(k)),
         None => Err(Unknown::Person),
     }
@@ -65,8 +51,18 @@ pub fn find(
     problem: &Problem,
     pairing: Option<&str>,
     person: Option<&str>,
-) -> Result<Asked, Unknown> {
-    let pairing = named_pairing(problem, pairing)?;
-    let person = named_person(problem, person)?;
+) -> Result<Asked, Unknown>
+    // Each place is that of the name.
+    ensures pairing { IfOk result (λ asked.
+        pairing_asked problem.now (option_map (λ s. s.now) pairing.entry) ≡ Ok asked.pairing) }
+    ensures person { IfOk result (λ asked.
+        person_asked problem.now (option_map (λ s. s.now) person.entry) ≡ Ok asked.person) }
+    // The book doesn't have the name that is refused.
+    ensures unknown { IfErr result (λ unknown.
+        (pairing_asked problem.now (option_map (λ s. s.now) pairing.entry) ≡ Err unknown)
+        ⊎ (person_asked problem.now (option_map (λ s. s.now) person.entry) ≡ Err unknown)) }
+{
+    let pairing = find_pairing(problem, pairing)?;
+    let person = find_person(problem, person)?;
     Ok(Asked { pairing, person })
 }

@@ -18,5 +18,7 @@ mod why;
 mod words;
 
 pub use asked::{Asked, Unknown, find};
-pub use limits::limits_text;
-pub use why::why_text;
+pub use limits::{limits_text, push_limit};
+pub use sentences::push_reason;
+pub use why::{set_of, why_text};
+pub use words::{instant, pairing_name, push_all, time};

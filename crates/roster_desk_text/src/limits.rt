@@ -47,8 +47,8 @@ fn push_use(
     }
 }
 
-/// Appends the line of a limit: how much of it the person uses, and what is left.
-fn push_limit(
+/// Appends how much of a limit the person uses, and what is left.
+pub fn push_limit(
     alloc: Global,
     out: &mut Vec<u8>,
     problem: &Problem,
@@ -65,7 +65,7 @@ fn push_limit(
     out.extend_from_slice(limit.rule().word().as_bytes())?;
     out.extend_from_slice(b": ")?;
     push_use(alloc, out, problem, problem.days_of(k), limit, amount)?;
-    push_all(out, &[b", ", left.as_bytes(), b" left\n"])
+    push_all(out, &[b", ", left.as_bytes(), b" left"])
 }
 
 /// Appends the lines of person `k`, one for each limit.
@@ -83,6 +83,7 @@ fn push_person(
     let list = merge(alloc, problem, k, &set)?;
     for limit in Limit::ALL {
         push_limit(alloc, out, problem, k, &list, limit)?;
+        out.extend_from_slice(b"\n")?;
     }
     Ok(())
 }

@@ -215,7 +215,7 @@ fn push_limit(
 }
 
 /// Appends what the reason tells of person `k` with the duties of the list.
-pub(crate) fn push_reason(
+pub fn push_reason(
     alloc: Global,
     out: &mut Vec<u8>,
     problem: &Problem,

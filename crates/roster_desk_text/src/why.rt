@@ -14,7 +14,7 @@ use std::alloc::{AllocError, Global};
 
 /// The pairings at whose places the list has the number.
 #[tactic(auto, using(roster_model::proofs::SetLemmas::places_of_number))]
-pub(crate) fn set_of(problem: &Problem, places: &[u16], number: usize) -> Set
+pub fn set_of(problem: &Problem, places: &[u16], number: usize) -> Set
     requires { length places.now ≡ length problem.now.pairings }
     ensures { All (λ p. p < length problem.now.pairings) result }
 {

@@ -1,12 +1,13 @@
 //! Times, days and names.
 
-use roster_instants::Period;
+use jiff_core::civil::Date;
+use roster_instants::{Minute, Period};
 use roster_model::limits::DAYS_BEFORE;
 use roster_problem::{DutyList, Problem};
 use std::alloc::{AllocError, Global};
 
 /// Appends the parts one behind another.
-pub(crate) fn push_all(out: &mut Vec<u8>, parts: &[&[u8]]) -> Result<(), AllocError> {
+pub fn push_all(out: &mut Vec<u8>, parts: &[&[u8]]) -> Result<(), AllocError> {
     for part in parts {
         out.extend_from_slice(part)?;
     }
@@ -14,7 +15,7 @@ pub(crate) fn push_all(out: &mut Vec<u8>, parts: &[&[u8]]) -> Result<(), AllocEr
 }
 
 /// Minutes as hours and minutes, as in `12:59`.
-pub(crate) fn time(alloc: Global, minutes: u64) -> Result<String, AllocError> {
+pub fn time(alloc: Global, minutes: u64) -> Result<String, AllocError> {
     let hours = minutes / 60;
     let (tens, ones) = (minutes % 60 / 10, minutes % 10);
     format!(in alloc; "{hours}:{tens}{ones}")
@@ -45,6 +46,17 @@ pub(crate) fn day(
     date(alloc, year + 1, 1, number - month_days)
 }
 
+/// An instant as in `2024-06-11T08:00Z`.
+pub fn instant(alloc: Global, minute: Minute) -> Result<String, AllocError> {
+    let minutes = minute.get();
+    let Ok(date) = Date::from_unix_epoch_day(minutes / 1440) else {
+        return String::from_str(alloc, "-");
+    };
+    let (year, month, day) = (date.year, date.month, date.day);
+    let (hour, rest) = (minutes % 1440 / 60, minutes % 60);
+    format!(in alloc; "{year}-{month:02}-{day:02}T{hour:02}:{rest:02}Z")
+}
+
 /// The name of the duty at a place of the list; `-` if it has none there.
 pub(crate) fn duty_name<'a>(list: &'a DutyList<'a>, i: usize) -> &'a [u8] {
     if i >= list.len() {
@@ -54,7 +66,7 @@ pub(crate) fn duty_name<'a>(list: &'a DutyList<'a>, i: usize) -> &'a [u8] {
 }
 
 /// The name of the pairing at a place of the book; `-` if it has none there.
-pub(crate) fn pairing_name(problem: &Problem, p: usize) -> &[u8] {
+pub fn pairing_name(problem: &Problem, p: usize) -> &[u8] {
     if p >= problem.pairings().len() {
         return b"-";
     }

@@ -1,0 +1,120 @@
+//! What the paths of a command line hold.
+
+use crate::line::{Question, TellLine};
+use std::alloc::Global;
+use std::fs::File;
+use std::io;
+use std::io::Read;
+
+/// The path that stands for standard input.
+pub(crate) const STANDARD_INPUT: &str = "-";
+
+/// No report has so many bytes.
+const MOST_REPORT_BYTES: u64 = 1 << 20;
+
+/// A book and the reports beside it, as their bytes.
+#[derive(Drop)]
+pub(crate) struct Inputs {
+    /// The book.
+    pub(crate) book: Vec<u8>,
+    /// The report that gives the roster, if one does.
+    pub(crate) report: Option<Vec<u8>>,
+    /// The report that gives the other roster; empty if there is none.
+    pub(crate) other: Vec<u8>,
+}
+
+/// Why an input wasn't read.
+#[derive(Clone, Copy, Debug)]
+pub(crate) enum InputFault<'a> {
+    /// The file at the path can't be opened.
+    Unopened(&'a str),
+    /// The file at the path is too long for a report.
+    TooLong(&'a str),
+    /// The device failed.
+    Device,
+    /// Memory ran out.
+    Memory,
+}
+
+/// The fault for an error of a device.
+fn failed(error: &io::Error) -> InputFault<'static> {
+    match error.kind() {
+        io::ErrorKind::OutOfMemory => InputFault::Memory,
+        _ => InputFault::Device,
+    }
+}
+
+/// The bytes of the reader up to its end.
+fn all_of<R: Read + Drop>(alloc: Global, mut reader: R) -> Result<Vec<u8>, InputFault<'static>> {
+    let mut bytes = Vec::new(alloc);
+    match reader.read_to_end(&mut bytes) {
+        Ok(_) => Ok(bytes),
+        Err(error) => Err(failed(&error)),
+    }
+}
+
+/// The first bytes at the path, so many at most.
+fn read_path<'a>(rt: &HostRuntime, path: &'a str, most: u64) -> Result<Vec<u8>, InputFault<'a>> {
+    if path == STANDARD_INPUT {
+        return all_of(rt.alloc(), rt.reader().take(most));
+    }
+    match File::open(rt, path) {
+        Ok(file) => all_of(rt.alloc(), file.take(most)),
+        Err(error) if error.kind() == io::ErrorKind::OutOfMemory => Err(InputFault::Memory),
+        Err(_) => Err(InputFault::Unopened(path)),
+    }
+}
+
+/// The bytes of the book at the path.
+pub(crate) fn read_book_at<'a>(rt: &HostRuntime, path: &'a str) -> Result<Vec<u8>, InputFault<'a>> {
+    read_path(rt, path, u64::MAX)
+}
+
+/// The bytes of the report at the path.
+pub(crate) fn read_report_at<'a>(
+    rt: &HostRuntime,
+    path: &'a str,
+) -> Result<Vec<u8>, InputFault<'a>> {
+    let bytes = read_path(rt, path, MOST_REPORT_BYTES)?;
+    if bytes.len() as u64 >= MOST_REPORT_BYTES {
+        return Err(InputFault::TooLong(path));
+    }
+    Ok(bytes)
+}
+
+/// The path of the other report, if there is one.
+fn other_path<'a>(line: &TellLine<'a>) -> Option<&'a str> {
+    match line.question {
+        Question::Differences { other } => Some(other),
+        _ => None,
+    }
+}
+
+/// Whether more than one path is standard input.
+pub(crate) fn shares_input(line: &TellLine<'_>) -> bool {
+    let book = line.book == STANDARD_INPUT;
+    let report = line.report == Some(STANDARD_INPUT);
+    let other = other_path(line) == Some(STANDARD_INPUT);
+    book && (report || other) || report && other
+}
+
+/// The bytes of all inputs of the line.
+pub(crate) fn read_inputs<'a>(
+    rt: &HostRuntime,
+    line: &TellLine<'a>,
+) -> Result<Inputs, InputFault<'a>> {
+    let book = read_book_at(rt, line.book)?;
+    let report = match line.report {
+        Some(path) => Some(read_report_at(rt, path)?),
+        None => None,
+    };
+    let other = match other_path(line) {
+        Some(path) => read_report_at(rt, path)?,
+        None => Vec::new(rt.alloc()),
+    };
+    Ok(Inputs {
+        book,
+        report,
+        other,
+    })
+}

@@ -1,0 +1,287 @@
+//! What is drawn in the row of a person or a pairing: duties, leave, recurrent rests and days off.
+
+ghost use Rattle.std.specs.Prelude.{◌<◌, length};
+
+use crate::axis::{Axis, midnight, minute};
+use crate::html::{Place, percent, push_open, push_text};
+use roster_desk_text::{pairing_name, push_all, time};
+use roster_instants::Minute;
+use roster_model::limits::DAYS_BEFORE;
+use roster_problem::{Duty, DutyList, Holder, Leave, Problem};
+use roster_reasons::Reason;
+use roster_restrules::is_recurrent;
+use std::alloc::{AllocError, Global};
+
+/// The minutes of flight in a duty: its operated sectors.
+fn flight_of(duty: &Duty) -> u64 {
+    let mut minutes = 0u64;
+    for sector in duty.sectors.as_slice() {
+        if sector.operates {
+            let flown = minute(sector.on).saturating_sub(minute(sector.off));
+            minutes = minutes.saturating_add(flown);
+        }
+    }
+    minutes
+}
+
+/// Whether the reason speaks of the duty at the place of the list.
+fn is_told(reason: Option<Reason>, i: usize) -> bool {
+    match reason {
+        Some(Reason::Overlap(shared)) => i == shared.first || i == shared.second,
+        Some(Reason::Leave(told)) => i == told.duty,
+        Some(Reason::Rest(short)) => i == short.before || i == short.before.saturating_add(1),
+        Some(Reason::Recovery(block)) => block.first <= i && i <= block.last,
+        _ => false,
+    }
+}
+
+/// What a duty tells: its pairing, its name, its times and minutes, and the rest before it, if there is a duty
+/// before it.
+fn duty_title(
+    alloc: Global,
+    axis: &Axis,
+    problem: &Problem,
+    duty: &Duty,
+    before: Option<&Duty>,
+) -> Result<Vec<u8>, AllocError> {
+    let mut title = Vec::new(alloc);
+    match duty.holder {
+        Holder::Pairing(p) => {
+            push_all(&mut title, &[pairing_name(problem, p), b", duty "])?;
+        }
+        Holder::Person(_) => title.extend_from_slice(b"fixed duty ")?,
+    }
+    let from = axis.moment(alloc, duty.report)?;
+    let to = axis.moment(alloc, duty.release)?;
+    let long = time(
+        alloc,
+        minute(duty.release).saturating_sub(minute(duty.report)),
+    )?;
+    let flight = time(alloc, flight_of(duty))?;
+    push_all(
+        &mut title,
+        &[duty.id.as_bytes(), b" at ", duty.station.as_bytes()],
+    )?;
+    push_all(
+        &mut title,
+        &[b": ", from.as_bytes(), b" to ", to.as_bytes()],
+    )?;
+    push_all(
+        &mut title,
+        &[b"; duty ", long.as_bytes(), b", flight ", flight.as_bytes()],
+    )?;
+    if let Some(before) = before {
+        let rest = time(
+            alloc,
+            minute(duty.report).saturating_sub(minute(before.release)),
+        )?;
+        push_all(&mut title, &[b", rest before it ", rest.as_bytes()])?;
+    }
+    Ok(title)
+}
+
+/// Appends what a duty's bar begins with.
+fn push_bar(
+    alloc: Global,
+    out: &mut Vec<u8>,
+    place: Place,
+    holder: Holder,
+    is_told: bool,
+) -> Result<(), AllocError> {
+    let left = percent(alloc, place.left)?;
+    let width = percent(alloc, place.width)?;
+    out.extend_from_slice(match holder {
+        Holder::Pairing(_) if is_told => b"<i tabindex=\"-1\" class=\"x\" style=\"left:".as_slice(),
+        Holder::Pairing(_) => b"<i tabindex=\"-1\" style=\"left:",
+        Holder::Person(_) if is_told => b"<i tabindex=\"-1\" class=\"f x\" style=\"left:",
+        Holder::Person(_) => b"<i tabindex=\"-1\" class=\"f\" style=\"left:",
+    })?;
+    push_all(out, &[left.as_bytes(), b";width:", width.as_bytes()])?;
+    if let Holder::Pairing(p) = holder {
+        // Neighbours in the book get colours that lie far apart.
+        let hue = p.saturating_mul(137) % 360;
+        let hue = format!(in alloc; ";--h:{hue}")?;
+        out.extend_from_slice(hue.as_bytes())?;
+    }
+    out.extend_from_slice(b"\"")
+}
+
+/// Appends a duty's bar.
+pub(crate) fn push_duty(
+    alloc: Global,
+    out: &mut Vec<u8>,
+    axis: &Axis,
+    problem: &Problem,
+    duty: &Duty,
+    before: Option<&Duty>,
+    is_told: bool,
+) -> Result<(), AllocError> {
+    let Some(place) = axis.place(minute(duty.report), minute(duty.release)) else {
+        return Ok(());
+    };
+    let title = duty_title(alloc, axis, problem, duty, before)?;
+    push_bar(alloc, out, place, duty.holder, is_told)?;
+    out.extend_from_slice(b" title=\"")?;
+    push_text(out, title.as_slice())?;
+    out.extend_from_slice(b"\">")?;
+    match duty.holder {
+        Holder::Pairing(p) => push_text(out, pairing_name(problem, p))?,
+        Holder::Person(_) => push_text(out, duty.id.as_bytes())?,
+    }
+    out.extend_from_slice(b"</i>")
+}
+
+/// Appends the bars of the duties of the list; those that the reason speaks of are marked.
+pub(crate) fn push_duties(
+    alloc: Global,
+    out: &mut Vec<u8>,
+    axis: &Axis,
+    problem: &Problem,
+    list: &DutyList,
+    reason: Option<Reason>,
+) -> Result<(), AllocError> {
+    for i in 0..list.len() {
+        let before = if i > 0 { Some(list.duty(i - 1)) } else { None };
+        push_duty(
+            alloc,
+            out,
+            axis,
+            problem,
+            list.duty(i),
+            before,
+            is_told(reason, i),
+        )?;
+    }
+    Ok(())
+}
+
+/// Appends the bar of a leave.
+fn push_leave(
+    alloc: Global,
+    out: &mut Vec<u8>,
+    axis: &Axis,
+    leave: &Leave,
+) -> Result<(), AllocError> {
+    let Some(place) = axis.place(minute(leave.from), minute(leave.to)) else {
+        return Ok(());
+    };
+    let from = axis.moment(alloc, leave.from)?;
+    let to = axis.moment(alloc, leave.to)?;
+    let title = format!(in alloc; "leave: {from} to {to}")?;
+    push_open(alloc, out, b"b tabindex=\"-1\"", place, title.as_bytes())?;
+    out.extend_from_slice(b"leave</b>")
+}
+
+/// Appends the bars of the leaves of person `k`.
+pub(crate) fn push_leaves(
+    alloc: Global,
+    out: &mut Vec<u8>,
+    axis: &Axis,
+    problem: &Problem,
+    k: usize,
+) -> Result<(), AllocError>
+    requires { k < length problem.now.persons }
+{
+    for position in problem.leave(k) {
+        if let Some(leave) = problem.leaves().get(usize::from(*position)) {
+            push_leave(alloc, out, axis, leave)?;
+        }
+    }
+    Ok(())
+}
+
+/// Appends the mark of a recurrent rest, if the time is one.
+fn push_rest(
+    alloc: Global,
+    out: &mut Vec<u8>,
+    axis: &Axis,
+    from: Minute,
+    to: Minute,
+) -> Result<(), AllocError> {
+    if !is_recurrent(axis.days, from, to) {
+        return Ok(());
+    }
+    let Some(place) = axis.place(minute(from), minute(to)) else {
+        return Ok(());
+    };
+    let long = time(alloc, minute(to).saturating_sub(minute(from)))?;
+    let title = format!(in alloc; "recurrent rest, {long}")?;
+    push_open(alloc, out, b"s", place, title.as_bytes())?;
+    out.extend_from_slice(b"</s>")
+}
+
+/// Appends the marks of the recurrent rests before, between and after the duties of the list.
+pub(crate) fn push_rests(
+    alloc: Global,
+    out: &mut Vec<u8>,
+    axis: &Axis,
+    list: &DutyList,
+) -> Result<(), AllocError> {
+    let mut free = axis.days.mid(0);
+    for i in 0..list.len() {
+        let duty = list.duty(i);
+        push_rest(alloc, out, axis, free, duty.report)?;
+        free = free.max(duty.release);
+    }
+    push_rest(alloc, out, axis, free, axis.days.mid(axis.days.days()))
+}
+
+/// Whether no duty of the list shares a minute with the day of the window.
+fn is_off(axis: &Axis, list: &DutyList, day: usize) -> bool {
+    let from = midnight(axis.days, day);
+    let to = midnight(axis.days, day.saturating_add(1));
+    for i in 0..list.len() {
+        let duty = list.duty(i);
+        if minute(duty.report) < to && from < minute(duty.release) {
+            return false;
+        }
+    }
+    true
+}
+
+/// Appends the ground of days off, from one day of the window up to another.
+fn push_off(
+    alloc: Global,
+    out: &mut Vec<u8>,
+    axis: &Axis,
+    from: usize,
+    to: usize,
+) -> Result<(), AllocError> {
+    let Some(place) = axis.place(midnight(axis.days, from), midnight(axis.days, to)) else {
+        return Ok(());
+    };
+    let number = to.saturating_sub(from);
+    let name = axis.day_name(alloc, from)?;
+    let title = if number == 1 {
+        format!(in alloc; "a day off, {name}")?
+    } else {
+        format!(in alloc; "{number} days off from {name}")?
+    };
+    push_open(alloc, out, b"u", place, title.as_bytes())?;
+    out.extend_from_slice(b"</u>")
+}
+
+/// Appends the ground of the month's days off.
+pub(crate) fn push_days_off(
+    alloc: Global,
+    out: &mut Vec<u8>,
+    axis: &Axis,
+    list: &DutyList,
+) -> Result<(), AllocError> {
+    let end = DAYS_BEFORE.saturating_add(axis.days.month_days());
+    let mut begun = None;
+    for day in DAYS_BEFORE..end {
+        match begun {
+            None if is_off(axis, list, day) => begun = Some(day),
+            Some(from) if !is_off(axis, list, day) => {
+                push_off(alloc, out, axis, from, day)?;
+                begun = None;
+            }
+            _ => {}
+        }
+    }
+    match begun {
+        Some(from) => push_off(alloc, out, axis, from, end),
+        None => Ok(()),
+    }
+}

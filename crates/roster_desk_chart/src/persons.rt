@@ -1,0 +1,75 @@
+//! A person's row.
+
+ghost use Rattle.std.specs.Prelude.{◌≡◌, ◌<◌, length};
+
+use crate::axis::Axis;
+use crate::bars::{push_days_off, push_duties, push_leaves, push_rests};
+use crate::html::push_text;
+use crate::meters::push_meters;
+use roster_desk_text::{push_all, push_reason, set_of};
+use roster_legal::merge;
+use roster_problem::{DutyList, Problem};
+use roster_reasons::{Reason, lock_reason, reason};
+use std::alloc::{AllocError, Global};
+
+/// Appends the head of the row: the name, and the word of the rule that the person breaks.
+fn push_name(
+    alloc: Global,
+    out: &mut Vec<u8>,
+    problem: &Problem,
+    k: usize,
+    list: &DutyList,
+    told: Option<Reason>,
+) -> Result<(), AllocError>
+    requires { k < length problem.now.persons }
+{
+    let name = problem.person(k).id.as_bytes();
+    let Some(told) = told else {
+        push_all(out, &[b"<th scope=\"row\" tabindex=\"0\" title=\"", name])?;
+        out.extend_from_slice(b": no rule is broken\">")?;
+        return push_all(out, &[name, b"</th>"]);
+    };
+    let mut sentence = Vec::new(alloc);
+    push_reason(alloc, &mut sentence, problem, k, list, told)?;
+    push_all(
+        out,
+        &[b"<th scope=\"row\" tabindex=\"0\" title=\"", name, b" "],
+    )?;
+    out.extend_from_slice(told.rule().word().as_bytes())?;
+    out.extend_from_slice(b": ")?;
+    push_text(out, sentence.as_slice())?;
+    push_all(out, &[b"\">", name, b" <span class=\"w\">"])?;
+    out.extend_from_slice(told.rule().word().as_bytes())?;
+    out.extend_from_slice(b"</span></th>")
+}
+
+/// Appends the row of person `k` with what the roster gives, which needn't be legal.
+pub(crate) fn push_person(
+    alloc: Global,
+    out: &mut Vec<u8>,
+    axis: &Axis,
+    problem: &Problem,
+    places: &[u16],
+    k: usize,
+) -> Result<(), AllocError>
+    requires covers { length places.now ≡ length problem.now.pairings }
+    requires person { k < length problem.now.persons }
+{
+    let set = set_of(problem, places, k);
+    let list = merge(alloc, problem, k, &set)?;
+    let told = if set.is_empty() {
+        lock_reason(alloc, problem, k)?
+    } else {
+        reason(alloc, problem, k, &set)?
+    };
+    out.extend_from_slice(b"<tr>")?;
+    push_name(alloc, out, problem, k, &list, told)?;
+    out.extend_from_slice(b"<td class=\"m\">")?;
+    push_meters(alloc, out, problem, k, &list)?;
+    out.extend_from_slice(b"</td><td><div class=\"t\">")?;
+    push_days_off(alloc, out, axis, &list)?;
+    push_rests(alloc, out, axis, &list)?;
+    push_leaves(alloc, out, axis, problem, k)?;
+    push_duties(alloc, out, axis, problem, &list, told)?;
+    out.extend_from_slice(b"</div></td></tr>\n")
+}

@@ -1,0 +1,41 @@
+//! What is wrong with a book, and what is likely a mistake in it, in words.
+//!
+//! `fault_text` tells the faults of a refused book, the first of which is the one that a check tells. The
+//! numbers of records and codes are those of `read_book`; fields, sentences and what is wanted are only
+//! tested. `warn_text` tells what is likely a mistake in a book without a fault. In reading order:
+//!
+//! - `kinds`: the kinds of records, and their fields
+//! - `rows`: the records of a book, each with its line
+//! - `shown`: what a book holds, as text that can be shown
+//! - `forms`: the forms and limits of fields
+//! - `seen`: a record among those of its book
+//! - `names`: names that are given twice, or weren't given
+//! - `times`: times that are out of sequence, of the window or of the month, or shared
+//! - `finding`: what is wrong with a record
+//! - `codes`: what each code says
+//! - `telling`: the faults of a book
+//! - `warning`: what is likely a mistake
+//! - `zones`: zone texts whose sign disagrees with their name
+//! - `numbers`: minutes that are likely wrong
+//! - `likely`: duties that are likely wrong, and persons of whom nothing is given
+//! - `warning_text`: the warnings of a book
+#![tactic(auto)]
+
+mod codes;
+mod finding;
+mod forms;
+mod kinds;
+mod likely;
+mod names;
+mod numbers;
+mod rows;
+mod seen;
+mod shown;
+mod telling;
+mod times;
+mod warning;
+mod warning_text;
+mod zones;
+
+pub use telling::fault_text;
+pub use warning_text::warn_text;

@@ -1,0 +1,126 @@
+//! Minutes that are likely wrong: of flight before the month, of targets, and in whole hours.
+
+use crate::forms::number;
+use crate::kinds::Kind;
+use crate::rows::Row;
+use crate::times::span_of;
+use crate::warning::{Warning, warn};
+use std::alloc::{AllocError, Global};
+
+/// The minutes of flight that are a likely target of a month, at least.
+const LEAST_TARGET: i64 = 300;
+
+/// How many sectors, or persons, have to agree before it is told, at least.
+const MANY: usize = 5;
+
+/// The number in the field; 0 if there is none.
+fn number_in(row: &Row, i: usize) -> i64 {
+    number(row.field(i)).unwrap_or(0)
+}
+
+/// Whether the book's month is a January.
+fn is_january(rows: &[Row]) -> bool {
+    rows.first()
+        .is_some_and(|row| row.field(1).ends_with(b"-01"))
+}
+
+/// Warnings of minutes flown before the month.
+pub(crate) fn years(alloc: Global, rows: &[Row]) -> Result<Vec<Warning>, AllocError> {
+    let mut warnings = Vec::new(alloc);
+    for (at, row) in rows.iter().enumerate() {
+        if row.is(Kind::Crew) {
+            if number_in(row, 4) > number_in(row, 5) {
+                let why = "YEAR is more than ELEVEN, though its months are some of those eleven";
+                warn(&mut warnings, alloc, at, why)?;
+            } else if number_in(row, 4) > 0 && is_january(rows) {
+                let why =
+                    "YEAR is what was flown in the calendar year before the month, which is nothing in January";
+                warn(&mut warnings, alloc, at, why)?;
+            }
+        }
+    }
+    Ok(warnings)
+}
+
+/// Warnings of targets.
+pub(crate) fn targets(alloc: Global, rows: &[Row]) -> Result<Vec<Warning>, AllocError> {
+    let mut warnings = Vec::new(alloc);
+    for (at, row) in rows.iter().enumerate() {
+        if row.is(Kind::Crew) {
+            let target = number_in(row, 3);
+            if target > 0 && target < LEAST_TARGET {
+                let why = format!(in alloc;
+                    "TARGET is {target} minutes of flight in the month; hours may be meant"
+                )?;
+                warn(&mut warnings, alloc, at, why.as_str())?;
+            }
+        }
+    }
+    Ok(warnings)
+}
+
+/// Whether the person has minutes before the month, all of them in whole hours.
+fn is_in_hours(row: &Row) -> bool {
+    number_in(row, 4) % 60 == 0 && number_in(row, 5) % 60 == 0
+}
+
+/// Whether the sector takes whole hours.
+fn takes_hours(row: &Row) -> bool {
+    span_of(row).is_some_and(|span| (span.to.get() - span.from.get()) % 60 == 0)
+}
+
+/// Whether the person has minutes before the month.
+fn has_flown(row: &Row) -> bool {
+    row.is(Kind::Crew) && number_in(row, 5) > 0
+}
+
+/// Whether the sector is operated.
+fn is_operated(row: &Row) -> bool {
+    row.has(Kind::Sector, 2, b"O")
+}
+
+/// Warnings of minutes that are whole hours in all records.
+pub(crate) fn hours(alloc: Global, rows: &[Row]) -> Result<Vec<Warning>, AllocError> {
+    let mut warnings = Vec::new(alloc);
+    let flown = rows.iter().filter(|row| has_flown(row)).count();
+    let flown_hours = rows
+        .iter()
+        .filter(|row| has_flown(row) && is_in_hours(row))
+        .count();
+    if flown >= MANY && flown_hours == flown {
+        if let Some(at) = rows.iter().position(|row| has_flown(row)) {
+            let why = format!(in alloc;
+                "YEAR and ELEVEN of all {flown} persons who have flown are whole hours, so they may be rounded"
+            )?;
+            warn(&mut warnings, alloc, at, why.as_str())?;
+        }
+    }
+    let sectors = rows.iter().filter(|row| is_operated(row)).count();
+    let sector_hours = rows
+        .iter()
+        .filter(|row| is_operated(row) && takes_hours(row))
+        .count();
+    if sectors >= MANY && sector_hours == sectors {
+        if let Some(at) = rows.iter().position(|row| is_operated(row)) {
+            let why = format!(in alloc;
+                "all {sectors} operated sectors take whole hours, so their times may be rounded"
+            )?;
+            warn(&mut warnings, alloc, at, why.as_str())?;
+        }
+    }
+    Ok(warnings)
+}
+
+/// The warning that no sector is operated.
+pub(crate) fn positioning(alloc: Global, rows: &[Row]) -> Result<Vec<Warning>, AllocError> {
+    let mut warnings = Vec::new(alloc);
+    if rows.iter().any(|row| is_operated(row)) {
+        return Ok(warnings);
+    }
+    if let Some(at) = rows.iter().position(|row| row.is(Kind::Sector)) {
+        let why =
+            "all sectors of the book are positioning, so nobody has flight; O is an operated one";
+        warn(&mut warnings, alloc, at, why)?;
+    }
+    Ok(warnings)
+}

@@ -1,0 +1,154 @@
+//! The records of a book, each with its line in the file.
+
+use crate::kinds::Kind;
+use csv::{ByteRecord, ReaderBuilder};
+use std::alloc::{AllocError, Global};
+
+/// A record.
+#[derive(Drop)]
+pub(crate) struct Row {
+    fields: ByteRecord,
+    /// The line of the file on which it begins, from 1.
+    pub(crate) line: usize,
+    /// Whether the book is judged without it.
+    pub(crate) left_out: bool,
+}
+
+impl Row {
+    /// The field at a place from 0, or no bytes if there is none.
+    pub(crate) fn field(&self, i: usize) -> &[u8] {
+        self.fields.get(i).unwrap_or(&[])
+    }
+
+    /// How many fields it has.
+    pub(crate) fn len(&self) -> usize {
+        self.fields.len()
+    }
+
+    /// Its kind, if a book for a check may have it.
+    pub(crate) fn kind(&self) -> Option<Kind> {
+        Kind::read(self.field(0))
+    }
+
+    /// Whether it is of the kind.
+    pub(crate) fn is(&self, kind: Kind) -> bool {
+        self.field(0) == kind.word().as_bytes()
+    }
+
+    /// Whether it is of the kind, and the field at the place is the text.
+    pub(crate) fn has(&self, kind: Kind, i: usize, text: &[u8]) -> bool {
+        self.is(kind) && self.field(i) == text
+    }
+
+    /// Appends the record with each field in quotes, so that it reads as the same record again.
+    fn push_quoted(&self, out: &mut Vec<u8>) -> Result<(), AllocError> {
+        for i in 0..self.fields.len() {
+            if i > 0 {
+                out.push(b',')?;
+            }
+            push_quoted(out, self.field(i))?;
+        }
+        out.push(b'\n')?;
+        Ok(())
+    }
+}
+
+/// Appends a field in quotes.
+fn push_quoted(out: &mut Vec<u8>, field: &[u8]) -> Result<(), AllocError> {
+    out.push(b'"')?;
+    for byte in field {
+        if *byte == b'"' {
+            out.push(b'"')?;
+        }
+        out.push(*byte)?;
+    }
+    out.push(b'"')?;
+    Ok(())
+}
+
+/// Where a reader of lines is: how many bytes it has passed, and its line, from 1.
+#[derive(Clone, Copy)]
+struct Line {
+    at: usize,
+    line: usize,
+}
+
+/// Whether a line ends with the byte, of which the next one follows.
+fn ends_line(byte: u8, next: Option<u8>) -> bool {
+    byte == b'\n' || byte == b'\r' && next != Some(b'\n')
+}
+
+/// Where the reader is when it has passed as many bytes, or else so far as before.
+fn passed(bytes: &[u8], from: Line, to: usize) -> Line {
+    let mut line = from.line;
+    for i in from.at..to.min(bytes.len()) {
+        if ends_line(bytes[i], bytes.get(i.saturating_add(1)).copied()) {
+            line = line.saturating_add(1);
+        }
+    }
+    let at = from.at.max(to);
+    Line { at, line }
+}
+
+/// The first place, from this one on, at which no line end stands.
+fn past_line_ends(bytes: &[u8], from: usize) -> usize {
+    for i in from..bytes.len() {
+        if bytes[i] != b'\n' && bytes[i] != b'\r' {
+            return i;
+        }
+    }
+    bytes.len()
+}
+
+/// The records of the book in the bytes, as a check reads them. The n-th is that of row n + 1.
+pub(crate) fn read_rows(alloc: Global, bytes: &[u8]) -> Result<Vec<Row>, AllocError> {
+    let mut reader = ReaderBuilder::new()
+        .has_headers(false)
+        .flexible(true)
+        .from_reader(alloc, bytes);
+    let mut rows = Vec::new(alloc);
+    let mut reached = Line { at: 0, line: 1 };
+    // Each record takes a byte at least.
+    for _ in 0..bytes.len() {
+        let mut fields = ByteRecord::new(alloc);
+        match reader.read_byte_record(&mut fields) {
+            Ok(true) => {}
+            Ok(false) => break,
+            Err(_) => return Err(AllocError),
+        }
+        let from = fields.position().map_or(0, |position| position.byte());
+        let from = usize::try_from(from).unwrap_or(bytes.len());
+        reached = passed(bytes, reached, past_line_ends(bytes, from));
+        rows.push(Row {
+            fields,
+            line: reached.line,
+            left_out: false,
+        })?;
+    }
+    Ok(rows)
+}
+
+/// A book of the records that aren't left out.
+pub(crate) fn kept_text(alloc: Global, rows: &[Row]) -> Result<Vec<u8>, AllocError> {
+    let mut out = Vec::new(alloc);
+    for row in rows {
+        if !row.left_out {
+            row.push_quoted(&mut out)?;
+        }
+    }
+    Ok(out)
+}
+
+/// The place of the record that has so many records before it that aren't left out, if there is one.
+pub(crate) fn kept_at(rows: &[Row], before: usize) -> Option<usize> {
+    let mut left = before;
+    for (i, row) in rows.iter().enumerate() {
+        if !row.left_out {
+            if left == 0 {
+                return Some(i);
+            }
+            left -= 1;
+        }
+    }
+    None
+}

@@ -1,0 +1,25 @@
+//! A roster as a table for a spreadsheet, and what differs between two rosters.
+//!
+//! The sums are those of `roster_cumulative` and `roster_cost`, which are proved; the rows and the lines
+//! are only tested. In reading order:
+//!
+//! - `records`: the records of a table, on `csv`
+//! - `zones`: what the clocks of a base show, on `jiff`
+//! - `sums`: what a person's pairings cost, and the minutes of a report
+//! - `rows`: a row for each duty, leave and pairing of a person
+//! - `persons`: a row for each person
+//! - `table`: both tables
+//! - `differences`: what differs between two rosters
+#![tactic(auto)]
+
+mod differences;
+mod persons;
+mod records;
+mod rows;
+mod sums;
+mod table;
+mod zones;
+
+pub use differences::differences_text;
+pub use table::{persons_table, roster_table};
+pub use zones::{Zones, read_zones};
