@@ -1,8 +1,9 @@
 -- What lines cost, and the lines of all persons.
-use Rattle.std.specs.Prelude.{◌≡◌, ℕ, ◌≤◌, List, [], Some, length, map, slice_get, slice_index_or, All}
+use Rattle.std.specs.Prelude.{◌≡◌, ℕ, ◌<◌, ◌≤◌, List, [], Some, length, map, slice_get, slice_index_or, All}
 use Rattle.roster_model.specs.declared.limits.TheConstants.{MOST_LINES}
 use Rattle.roster_model.specs.Costs.{line_cost}
 use Rattle.roster_model.specs.Lines.{AreSomeLines, AreTables}
+use Rattle.roster_model.specs.Places.{set_of}
 use Rattle.roster_model.specs.Problem.{Problem}
 use Rattle.roster_lines.specs.Entries.{Entry, sets_of}
 
@@ -31,3 +32,8 @@ pub record AreListedOf (problem : Problem) (k : ℕ) (lines : List Entry) : Type
 pub record AreListed (problem : Problem) (table : List (List Entry)) : Type 0 where
   pub covers : length table ≡ length problem.persons
   pub each : (k : ℕ) (lines : List Entry) → slice_get table k ≡ Some lines → AreListedOf problem k lines
+
+-- in the places each person has a line of the table
+abbrev pub IsOfTable : List (List Entry) → List ℕ → Type 0
+IsOfTable table places =
+    (k : ℕ) → k < length table → (i : ℕ) × (slice_get (sets_of (lines_at table k)) i ≡ Some (set_of k places))

@@ -77,7 +77,7 @@ pub fn table_of(alloc: Global, problem: &Problem) -> Result<Table, TableFault>
 
 impl Table {
     /// No person's lines yet.
-    pub(crate) fn empty(alloc: Global) -> Table
+    pub fn empty(alloc: Global) -> Table
         ensures { result ≡ [] }
     {
         Table {
@@ -110,7 +110,7 @@ impl Table {
     }
 
     /// Adds lines of the next person.
-    pub(crate) fn push(&mut self, alloc: Global, lines: Lines) -> Result<(), AllocError>
+    pub fn push(&mut self, alloc: Global, lines: Lines) -> Result<(), AllocError>
         ensures { OnOk result (self.new ≡ self.old ++ lines ∷ []) }
     {
         let lines = SharedLines::new(alloc, lines)?;

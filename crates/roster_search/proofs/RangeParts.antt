@@ -12,7 +12,7 @@ use Rattle.roster_model.specs.Settled.{Anywhere, Settles}
 use Rattle.roster_model.proofs.SettledLemmas.{Settles-wider, Settles-within}
 use Rattle.roster_model.proofs.LineLemmas.{given_line}
 use Rattle.roster_lines.specs.Entries.{Entry, sets_of}
-use Rattle.roster_lines.specs.Person.{lines_at, AreListed, IsTableOf}
+use Rattle.roster_lines.specs.Person.{IsOfTable, lines_at, AreListed, IsTableOf}
 use Rattle.roster_regions.specs.Regions.{IsInRanges}
 use Rattle.roster_search.specs.Least.{IsLeastBelow}
 use Rattle.roster_search.specs.Parts.{base_of_person, AreOwnRanges, AreWhole, IsInPart, IsNumbered}
@@ -92,15 +92,27 @@ least_in_other problem Region Other limit (Some key) there back least = (
 
 -- ---- all lines
 
--- each legal roster has lines in the ranges of all lines
-pub in_whole : (problem : Problem) (table : List (List Entry)) (ranges : List (ℕ × ℕ)) (places : List ℕ) → IsTableOf problem table → AreWhole table (length table) ranges → IsLegalRoster problem places → IsInRanges table ranges places
-in_whole problem table ranges places is are legal k range at =
+-- in the ranges of all lines is who has lines of the table
+pub of_whole : (table : List (List Entry)) (ranges : List (ℕ × ℕ)) (places : List ℕ) → AreWhole table (length table) ranges → IsInRanges table ranges places → IsOfTable table places
+of_whole table ranges places are inside k here =
+    let found = inside k (0, length (lines_at table k)) (are.each k here) in
+    (found.0, found.3)
+
+pub in_whole_of : (table : List (List Entry)) (ranges : List (ℕ × ℕ)) (places : List ℕ) → AreWhole table (length table) ranges → IsOfTable table places → IsInRanges table ranges places
+in_whole_of table ranges places are is k range at =
     let inside : k < length table = omega (arith, slice_get_within ranges k range at, are.covers) in
-    let lines = lines_in_table problem table k is (omega (arith, inside, is.sets.covers, length-map table sets_of)) in
-    let found = lines.every (set_of k places) (given_line problem k places legal (omega (arith, inside, is.sets.covers, length-map table sets_of))) in
+    let found = is k inside in
     let whole : range ≡ (0, length (lines_at table k)) = same_Some _ _ (sym at ∙ are.each k inside) in
     let below : found.0 < length (lines_at table k) = omega (arith, slice_get_within (sets_of (lines_at table k)) found.0 (set_of k places) found.1, length-map (lines_at table k) (λ entry. entry.set)) in
     subst (λ (r : ℕ × ℕ). IsNumbered table k r (set_of k places)) (sym whole) (found.0, omega arith, below, found.1)
+
+-- each legal roster has lines in the ranges of all lines
+pub in_whole : (problem : Problem) (table : List (List Entry)) (ranges : List (ℕ × ℕ)) (places : List ℕ) → IsTableOf problem table → AreWhole table (length table) ranges → IsLegalRoster problem places → IsInRanges table ranges places
+in_whole problem table ranges places is are legal =
+    in_whole_of table ranges places are
+    (λ k inside.
+    let person : k < length problem.persons = omega (arith, inside, is.sets.covers, length-map table sets_of) in
+    (lines_in_table problem table k is person).every (set_of k places) (given_line problem k places legal person))
 
 -- so what settles those settles all
 pub settles_all : (problem : Problem) (table : List (List Entry)) (ranges : List (ℕ × ℕ)) (known : Option Key) (new : Key) → IsTableOf problem table → AreWhole table (length table) ranges → Settles problem (IsInRanges table ranges) (IsInRanges table ranges) known new → Settles problem Anywhere Anywhere known new

@@ -3,3 +3,4 @@ pub mod Firsts
 pub mod Parts
 pub mod Refined
 pub mod Open
+pub mod Limited

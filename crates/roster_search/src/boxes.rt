@@ -71,7 +71,11 @@ pub fn search_bases<R: Threads + Sync>(
 }
 
 /// The range of all lines, for each person.
-fn whole(alloc: Global, problem: &Problem, table: &Table) -> Result<Vec<(usize, usize)>, AllocError>
+pub(crate) fn whole(
+    alloc: Global,
+    problem: &Problem,
+    table: &Table,
+) -> Result<Vec<(usize, usize)>, AllocError>
     requires { AreListed problem.now table.now }
     ensures { IfOk result (λ ranges. AreWhole table.now (length table.now) ranges.items) }
 {

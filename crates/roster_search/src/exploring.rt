@@ -21,7 +21,7 @@ const FEWEST_LINES: usize = 1 << 15;
 const LINES_A_NODE: usize = 64;
 
 /// More nodes than any thread has time for.
-const MOST_NODES: usize = 1 << 32;
+pub(crate) const MOST_NODES: usize = 1 << 32;
 
 /// What comes of open nodes.
 #[derive(Drop)]
@@ -180,7 +180,7 @@ fn explore(
 }
 
 /// How long a visit of the last open node takes, in lines to look at.
-fn lines_of_last(problem: &Problem, nodes: &[OpenNode]) -> usize
+pub(crate) fn lines_of_last(problem: &Problem, nodes: &[OpenNode]) -> usize
     requires { All (IsRegion problem.now) nodes.now }
 {
     match nodes.last() {
@@ -190,7 +190,7 @@ fn lines_of_last(problem: &Problem, nodes: &[OpenNode]) -> usize
 }
 
 /// Visits the last of the open nodes. It answers a roster, or puts what is left of the node in its place.
-fn visit_last(
+pub(crate) fn visit_last(
     alloc: Global,
     problem: &Problem,
     nodes: &mut Vec<OpenNode>,

@@ -7,6 +7,7 @@
 //!
 //! - `boxes`: the least roster of a box, merged from those of its bases
 //! - `shared`: bases that several threads search
+//! - `limited`: a search that is given up once it has done so much work
 //! - `parts`: the rosters of one base
 //! - `least`: the least roster of a region
 //! - `root`: prices to begin with
@@ -30,6 +31,7 @@ mod finder;
 mod finding;
 mod first;
 mod least;
+mod limited;
 mod nodes;
 mod parts;
 mod refining;
@@ -39,4 +41,5 @@ mod tuning;
 mod visiting;
 
 pub use boxes::{least_of_box, search_bases};
+pub use limited::{Searched, least_within};
 pub use nodes::Nodes;

@@ -1,0 +1,117 @@
+//! A search that is given up once it has done so much work.
+
+ghost use Rattle.std.specs.Prelude.{IfOk};
+ghost use Rattle.roster_lines.specs.Person.{AreListed};
+ghost use Rattle.roster_search.specs.Limited.{IsSearched};
+
+use crate::boxes::whole;
+use crate::exploring::{MOST_NODES, lines_of_last, visit_last};
+use crate::finder::Finder;
+use crate::least::least;
+use crate::root::root_prices;
+use crate::visiting::OpenNode;
+use roster_lines::Table;
+use roster_prices::DualPrices;
+use roster_problem::{Problem, Roster};
+use roster_regions::Region;
+use std::alloc::{AllocError, Global};
+
+/// What comes of a search that may be given up.
+#[derive(Debug, Drop)]
+pub enum Searched {
+    /// The least roster, if one costs less than the limit.
+    Settled(Option<Roster>),
+    /// The work was done before that was known.
+    GivenUp,
+}
+
+/// The least roster in which each person has a line of the table, with its cost, if one costs less than the
+/// limit. It is given up once nodes have had so many lines to look at: work is counted, never time, so each run
+/// comes to the same.
+///
+/// Bases aren't searched apart here, since the limit is one of them all.
+pub fn least_within(
+    alloc: Global,
+    problem: &Problem,
+    table: &Table,
+    limit: i64,
+    work: u64,
+) -> Result<Searched, AllocError>
+    requires { AreListed problem.now table.now }
+    ensures { IfOk result (IsSearched problem.now table.now limit) }
+{
+    let ranges = whole(alloc, problem, table)?;
+    let region = Region::of_ranges(alloc, problem, table, &ranges)?;
+    let root = root_prices(alloc, problem, &region)?;
+    let mut patience = Patience::new(work);
+    let found = least(alloc, problem, region, &root, limit, &mut patience);
+    match found {
+        Ok(found) => Ok(Searched::Settled(found)),
+        Err(_) if patience.is_over => Ok(Searched::GivenUp),
+        Err(error) => Err(error),
+    }
+}
+
+/// One thread that finds a roster. It ends with a fault once it has done so much work, and then `is_over` says
+/// that it was no want of memory.
+#[derive(Drop)]
+struct Patience {
+    left: u64,
+    is_over: bool,
+}
+
+impl Patience {
+    /// A thread that has so much work to do.
+    fn new(work: u64) -> Patience {
+        Patience {
+            left: work,
+            is_over: false,
+        }
+    }
+
+    /// Whether a node with so many lines may be visited, which is then counted.
+    fn allows(&mut self, lines: usize) -> bool {
+        match self.left.checked_sub(lines as u64) {
+            Some(left) => {
+                self.left = left;
+                true
+            }
+            None => false,
+        }
+    }
+}
+
+impl Finder for Patience {
+    ghost may_find = { Unit };
+
+    ghost goes_on = { λ old new. Unit };
+
+    fn find(
+        &mut self,
+        alloc: Global,
+        problem: &Problem,
+        region: Region,
+        prices: &DualPrices,
+        most: i64,
+    ) -> Result<Option<Roster>, AllocError> {
+        let mut nodes = Vec::new(alloc);
+        nodes.push(OpenNode::new(region, prices.copy(alloc)?))?;
+        for _ in 0..MOST_NODES {
+            if nodes.is_empty() {
+                return Ok(None);
+            }
+            if !self.allows(lines_of_last(problem, &nodes)) {
+                break;
+            }
+            if let Some(roster) = visit_last(alloc, problem, &mut nodes, most)? {
+                return Ok(Some(roster));
+            }
+        }
+        self.is_over = true;
+        Err(AllocError)
+    }
+
+    ghost stays = { λ now. tt };
+
+    ghost follows = { λ old mid new first then. tt };
+}
