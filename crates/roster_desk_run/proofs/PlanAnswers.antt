@@ -1,8 +1,8 @@
 -- What is answered to a book, where it was answered to its problem.
-use Rattle.std.proofs.Common.{◌≡◌, ℕ, List, Option, Some, None, refl, sym, ◌∙◌, subst, inl, inr, ℤ}
+use Rattle.std.proofs.Common.{◌≡◌, ℕ, List, Option, Some, None, sym, ◌∙◌, subst, inl, inr, ℤ}
 use Rattle.roster_book.specs.Reading.{IsBookOf, OfTold}
 use Rattle.roster_book.specs.declared.book.Book.{Book}
-use Rattle.roster_model.specs.Answer.{IsFirstFault, IsRefusal, records_of}
+use Rattle.roster_model.specs.Answer.{IsFirstFault, records_of}
 use Rattle.roster_model.specs.Faults.{Fault, first_fault}
 use Rattle.roster_model.specs.Plans.{IsPlan, IsPlanAnswer, IsPlanReport, IsPlanned}
 use Rattle.roster_model.specs.Problem.{Problem}

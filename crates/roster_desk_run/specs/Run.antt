@@ -1,8 +1,6 @@
 -- How a run ends that answers a book with a plan.
-use Rattle.std.specs.Prelude.{◌≡◌, ℕ, List, Result, Ok, Err}
+use Rattle.std.specs.Prelude.{◌≡◌, ℕ, List}
 use Rattle.roster_model.specs.Texts.{fault_text}
-use Rattle.roster_report.specs.declared.fault.TextFault.{TextFault}
-use Rattle.roster_report.specs.declared.fault.TextFault.TheVariants as faults
 use Rattle.roster_desk_run.specs.declared.status.Status.{Status}
 use Rattle.roster_desk_run.specs.declared.status.Status.TheVariants as statuses
 

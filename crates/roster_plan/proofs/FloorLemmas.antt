@@ -1,16 +1,16 @@
 -- What pairings cost at least in a legal roster, one after another.
-use Rattle.std.proofs.Common.{◌≡◌, ℕ, ◌+◌, ◌<◌, ◌≤◌, true, false, Bool, eqb, ltb, cond, List, [], ◌∷◌, length, drop, get_or, Some, refl, sym, ap, ◌∙◌, subst, inl, inr, arith, ℤ, pos, ◌+ℤ◌, ◌≤ℤ◌, eq-eqb}
-use Rattle.std.specs.Prelude.{All, slice_get}
+use Rattle.std.proofs.Common.{◌≡◌, ℕ, ◌+◌, ◌<◌, ◌≤◌, true, eqb, ltb, cond, List, [], ◌∷◌, length, drop, get_or, Some, refl, sym, ap, ◌∙◌, subst, inl, inr, arith, ℤ, pos, ◌+ℤ◌, ◌≤ℤ◌, eq-eqb}
+use Rattle.std.specs.Prelude.{slice_get}
 use Rattle.std.proofs.lemmas.Option.{get_or_from_slice_get, slice_get-get_or}
 use Rattle.std.proofs.lemmas.List.{drop_more, drop_all}
-use Rattle.std.specs.List.{sum_by, range_with_len}
-use Rattle.std.proofs.lemmas.Bool.{cases_eq, cases_lt, eqb-true, lt-ltb, le-ltb, ne_eqb, false≢true}
+use Rattle.std.specs.List.{range_with_len}
+use Rattle.std.proofs.lemmas.Bool.{cases_eq, lt-ltb, le-ltb, ne_eqb, false≢true}
 use Rattle.std.proofs.lemmas.Int.{ints}
 use Rattle.roster_model.specs.records.Pairing.{Pairing}
 use Rattle.roster_model.specs.Problem.{Problem, units_of}
 use Rattle.roster_model.specs.Places.{set_of, open_number}
 use Rattle.roster_model.specs.Rules.{is_among, IsLegal}
-use Rattle.roster_model.specs.Costs.{cost_of, open_penalties, placed_units, missed_target, total}
+use Rattle.roster_model.specs.Costs.{cost_of, open_penalties, placed_units, missed_target}
 use Rattle.roster_model.specs.Rosters.{IsLegalRoster}
 use Rattle.roster_model.specs.Settled.{IsLowerBound}
 use Rattle.roster_model.proofs.CostLemmas.{total-pos}

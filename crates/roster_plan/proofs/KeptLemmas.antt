@@ -1,5 +1,5 @@
 -- What is kept of a given roster, with one number more.
-use Rattle.std.proofs.Common.{◌≡◌, ℕ, ◌+◌, ◌<◌, ◌≤◌, true, false, eqb, cond, List, [], ◌∷◌, ◌++◌, length, take, get_or, refl, sym, ap, ◌∙◌, subst, inl, inr, arith, eq-eqb}
+use Rattle.std.proofs.Common.{◌≡◌, ℕ, ◌<◌, ◌≤◌, cond, List, [], ◌∷◌, ◌++◌, length, take, get_or, refl, sym, ap, ◌∙◌, subst, inl, inr, arith, eq-eqb}
 use Rattle.std.specs.Prelude.{All, ◌⊎◌}
 use Rattle.std.proofs.lemmas.Bool.{cases_eq, cases_lt, ne_eqb}
 use Rattle.std.proofs.lemmas.List.{append-nil, length_push, get_or_push, get_or_append_left, take-append-le}
@@ -7,7 +7,7 @@ use Rattle.std.proofs.Math.Seq.{take-append_seam}
 use Rattle.std.proofs.lemmas.List.Elements.{All-push}
 use Rattle.roster_model.specs.Problem.{Problem}
 use Rattle.roster_model.specs.Places.{set_of, open_number}
-use Rattle.roster_model.specs.Plans.{IsKeptAt, IsKeptOf, FitsKept}
+use Rattle.roster_model.specs.Plans.{IsKeptAt, IsKeptOf}
 use Rattle.roster_model.specs.Rules.{IsLegal}
 use Rattle.roster_model.specs.Rosters.{IsLegalRoster}
 use Rattle.roster_model.proofs.PlacesLemmas.{set_of-push}

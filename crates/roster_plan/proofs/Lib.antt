@@ -2,3 +2,4 @@ mod Reassigned
 mod KeptLemmas
 mod FloorLemmas
 mod PlanLemmas
+mod ExactLemmas

@@ -1,5 +1,5 @@
 -- A plan is the earliest of some legal rosters.
-use Rattle.std.proofs.Common.{◌≡◌, ℕ, true, List, length, refl, sym, ap, ◌∙◌, subst, inl, inr, ℤ}
+use Rattle.std.proofs.Common.{◌≡◌, ℕ, true, List, refl, sym, subst, inl, inr, ℤ}
 use Rattle.std.specs.Prelude.{◌⊎◌}
 use Rattle.roster_model.specs.Problem.{Problem}
 use Rattle.roster_model.specs.Plans.{IsKeptOf, IsPlan, all_open}
@@ -17,21 +17,30 @@ either : (problem : Problem) (a b key : Key) → IsHeld problem a → IsHeld pro
 either problem a b key first second (inl is) = subst (IsHeld problem) (sym is) first
 either problem a b key first second (inr is) = subst (IsHeld problem) (sym is) second
 
-pub planned : (problem : Problem) (given kept found : List ℕ) (start open_one best known key : Key) (bound : ℤ)
-    → IsLegalRoster problem kept → IsKeptOf problem given kept → IsLegalRoster problem found → IsLowerBound problem bound
+-- the chosen one is held
+pub chosen_held : (problem : Problem) (kept found : List ℕ) (start open_one best known key : Key)
+    → IsLegalRoster problem kept → IsLegalRoster problem found
     → start ≡ key_of problem kept → open_one ≡ key_of problem (all_open problem) → best ≡ key_of problem found
-    → (known ≡ start) ⊎ (known ≡ open_one) → key_le known start ≡ true → key_le known open_one ≡ true
-    → (key ≡ best) ⊎ (key ≡ known) → key_le key known ≡ true
-    → IsPlan problem given key bound
-planned problem given kept found start open_one best known key bound legal is_kept better bounded starts opens finds from not_after_start not_after_open chosen not_after =
+    → (known ≡ start) ⊎ (known ≡ open_one) → (key ≡ best) ⊎ (key ≡ known)
+    → IsHeld problem key
+chosen_held problem kept found start open_one best known key legal better starts opens finds from chosen =
     let first = held problem kept start starts legal in
     let second = held problem (all_open problem) open_one opens (all_open_legal problem) in
     let third = held problem found best finds better in
+    either problem best known key third (either problem start open_one known first second from) chosen
+
+pub planned : (problem : Problem) (given kept : List ℕ) (start open_one known key final : Key) (bound : ℤ)
+    → IsKeptOf problem given kept → IsHeld problem final → IsLowerBound problem bound
+    → start ≡ key_of problem kept → open_one ≡ key_of problem (all_open problem)
+    → key_le known start ≡ true → key_le known open_one ≡ true → key_le key known ≡ true → key_le final key ≡ true
+    → IsPlan problem given final bound
+planned problem given kept start open_one known key final bound is_kept is_held bounded starts opens not_after_start not_after_open not_after better =
+    let first = key_le-trans final key known better not_after in
     record {
-      held = either problem best known key third (either problem start open_one known first second from) chosen;
+      held = is_held;
       kept = kept;
       is_kept = is_kept;
-      not_after_kept = subst (λ k. key_le key k ≡ true) starts (key_le-trans key known start not_after not_after_start);
-      not_after_open = subst (λ k. key_le key k ≡ true) opens (key_le-trans key known open_one not_after not_after_open);
+      not_after_kept = subst (λ k. key_le final k ≡ true) starts (key_le-trans final known start first not_after_start);
+      not_after_open = subst (λ k. key_le final k ≡ true) opens (key_le-trans final known open_one first not_after_open);
       bounded = bounded;
     }

@@ -1,5 +1,5 @@
 -- What a pairing costs at least.
-use Rattle.std.specs.Prelude.{ℕ, ◌<◌, List, [], ◌∷◌, length, slice_get, Some, ◌≡◌, ◌⊎◌, ℤ, pos, neg_ℤ, ◌≤ℤ◌}
+use Rattle.std.specs.Prelude.{ℕ, ◌<◌, [], ◌∷◌, length, slice_get, Some, ◌≡◌, ◌⊎◌, ℤ, pos, ◌≤ℤ◌}
 use Rattle.roster_model.specs.declared.limits.TheConstants.{MOST_UNITS}
 use Rattle.roster_model.specs.records.Pairing.{Pairing}
 use Rattle.roster_model.specs.Problem.{Problem, units_of}

@@ -1,3 +1,4 @@
 pub mod Kept
 pub mod Floors
 pub mod Drafts
+pub mod Exact

@@ -7,6 +7,7 @@
 //!
 //! - `kept`: what is legal of a given roster
 //! - `bound`: what no roster costs less than
+//! - `exact`: the best roster, if the bound is near enough to what it costs
 //! - `draft`: a roster that is legal at every moment
 //! - `random`: numbers that look random, the same in each run
 //! - `sets`: what a search asks of sets
@@ -20,6 +21,7 @@
 mod bound;
 mod changes;
 mod draft;
+mod exact;
 mod kept;
 mod moves;
 mod planning;

@@ -3,15 +3,16 @@
 ghost use Rattle.std.specs.Prelude.{◌≡◌, ◌≤◌, ◌⊎◌, All, IfOk, length, true};
 ghost use Rattle.roster_model.specs.Plans.{IsPlan};
 ghost use Rattle.roster_model.specs.Rosters.{IsLegalRoster, key_le, key_of};
-ghost use Rattle.roster_model.specs.Settled.{IsLowerBound};
+ghost use Rattle.roster_model.specs.Settled.{IsHeld, IsLowerBound};
 
 use crate::bound::lower_bound;
 use crate::changes::Change;
 use crate::draft::Draft;
+use crate::exact::{Found, best_or_bound};
 use crate::kept::kept;
 use crate::search::Search;
 use roster_cost::{comes_before, keys_are_in_order, roster_cost};
-use roster_pricing::raised_bound;
+use roster_pricing::PricedBound;
 use roster_problem::{Places, Problem, Roster, open_number};
 use std::alloc::{AllocError, Global};
 
@@ -62,26 +63,51 @@ pub fn plan(
     let found = improved(alloc, problem, &start, effort)?;
     let known = earlier(costed(problem, start), costed(problem, open));
     let roster = earlier(costed(problem, found), known);
-    let bound = best_bound(alloc, problem, roster.cost, effort)?;
-    Ok(Planned { roster, bound })
+    let planned = bounded(alloc, problem, roster, effort)?;
+    Ok(planned)
 }
 
-/// No legal roster costs less, in cost units: what each pairing costs at least, or what prices say if that is
-/// more. It need not be more than what the known roster costs.
-fn best_bound(alloc: Global, problem: &Problem, known: i64, effort: u32) -> Result<i64, AllocError>
-    ensures { IfOk result (IsLowerBound problem.now) }
+/// A legal roster, the known one or a better one, and what no legal roster costs less than, in cost units: what
+/// each pairing costs at least, or what prices say if that is more, or what the best roster costs.
+fn bounded(
+    alloc: Global,
+    problem: &Problem,
+    known: Roster,
+    effort: u32,
+) -> Result<Planned, AllocError>
+    requires { IsHeld problem.now known }
+    ensures held { IfOk result (λ planned. IsHeld problem.now planned.roster) }
+    ensures kept { IfOk result (λ planned. key_le planned.roster known ≡ true) }
+    ensures bounded { IfOk result (λ planned. IsLowerBound problem.now planned.bound) }
 {
+    keys_are_in_order();
     let floor = lower_bound(alloc, problem)?;
     let looks = looks_of(problem, effort);
     if looks == 0 {
-        return Ok(floor);
+        return Ok(Planned {
+            roster: known,
+            bound: floor,
+        });
     }
-    let raised = raised_bound(alloc, problem, known, looks)?;
-    if floor < raised {
-        Ok(raised)
-    } else {
-        Ok(floor)
+    let mut priced = PricedBound::new(alloc, problem)?;
+    priced.raise(alloc, known.cost, looks - 1)?;
+    match best_or_bound(alloc, problem, &priced, known.cost, effort)? {
+        Found::Best(roster) => {
+            let bound = roster.cost;
+            Ok(Planned { roster, bound })
+        }
+        Found::AtLeast(bound) => Ok(Planned {
+            roster: known,
+            bound: greater(floor, bound),
+        }),
     }
+}
+
+/// The greater of two bounds.
+fn greater(first: i64, second: i64) -> i64
+    ensures { (result ≡ first) ⊎ (result ≡ second) }
+{
+    if first < second { second } else { first }
 }
 
 /// How often an effort looks at prices: more often the greater it is, if there is time for so many steps.

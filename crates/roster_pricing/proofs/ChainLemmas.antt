@@ -180,6 +180,17 @@ pub line_together : (problem : Problem) (k : ℕ) (set : List ℕ)
 line_together problem k set parts line p q among_p among_q below =
     (below, All-is_among (λ r. r < length problem.pairings) set q line.places among_q, parts set (p ∷ q ∷ []) (pair_among set p q among_p among_q) line.legal)
 
+-- a line is a chain
+pub line_is_chain : (problem : Problem) (k : ℕ) (network : Network)
+    → ((whole part : List ℕ) → ((p : ℕ) → is_among part p ≡ true → is_among whole p ≡ true) → IsLegal problem k whole → IsLegal problem k part)
+    → IsNetwork problem k network → (set : List ℕ) → IsLine problem k set → IsChain network.followers.items network.first set
+line_is_chain problem k network parts is set line =
+    let together = line_together problem k set parts line in
+    let begins : (p : ℕ) (rest : List ℕ) → set ≡ p ∷ rest → is_among network.first p ≡ true = λ p rest e.
+    let among : is_among set p ≡ true = subst (λ s. is_among s p ≡ true) (sym e) (is_among-here p rest) in
+    (is.alone p).1 (All-is_among (λ r. r < length problem.pairings) set p line.places among, parts set (p ∷ []) (single_among set p among) line.legal) in
+    chain_of problem k network is network.first set (Ascends-from_rising set line.ascending) line.places together begins
+
 -- the row of all chains says of each line what it costs at least
 pub least_is : (problem : Problem) (prices : List ℤ) (k : ℕ) (network : Network) (values row : List ℤ)
     → ((whole part : List ℕ) → ((p : ℕ) → is_among part p ≡ true → is_among whole p ≡ true) → IsLegal problem k whole → IsLegal problem k part)
@@ -187,11 +198,6 @@ pub least_is : (problem : Problem) (prices : List ℤ) (k : ℕ) (network : Netw
     → IsNetwork problem k network → AreValues problem prices k values → IsRow network values network.first row
     → (set : List ℕ) → IsLine problem k set → value_at row 0 ≤ℤ reduced problem prices k set
 least_is problem prices k network values row parts adds is are row_is set line =
-    let together = line_together problem k set parts line in
-    let begins : (p : ℕ) (rest : List ℕ) → set ≡ p ∷ rest → is_among network.first p ≡ true = λ p rest e.
-    let among : is_among set p ≡ true = subst (λ s. is_among s p ≡ true) (sym e) (is_among-here p rest) in
-    (is.alone p).1 (All-is_among (λ r. r < length problem.pairings) set p line.places among, parts set (p ∷ []) (single_among set p among) line.legal) in
-    let chain = chain_of problem k network is network.first set (Ascends-from_rising set line.ascending) line.places together begins in
-    let below = row_is.below 0 is.some set chain in
+    let below = row_is.below 0 is.some set (line_is_chain problem k network parts is set line) in
     let cost = reduced_below problem prices k network values set is are (adds set line.ascending) line in
     omega (arith, ints, below, cost)

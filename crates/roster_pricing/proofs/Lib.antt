@@ -2,3 +2,4 @@ mod ChainLemmas
 mod RowLemmas
 mod ShareLemmas
 mod TermLemmas
+pub mod GapLemmas

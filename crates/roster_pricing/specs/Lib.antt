@@ -1,4 +1,5 @@
 pub mod Reduced
 pub mod Chains
 pub mod Networks
-pub mod Rising
+pub mod Looks
+pub mod Gaps

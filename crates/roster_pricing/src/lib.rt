@@ -15,11 +15,13 @@
 //! - `master`: the best prices for the chains that are known
 //! - `softness`: weights and logarithms in whole numbers
 //! - `rising`: prices that say more and more
+//! - `gap`: lines that a roster may have which costs little more than a bound
 //! - `lists`: what stands at a place of a list
 //! - `tuning`: the numbers that decide how good a bound is
 #![tactic(auto)]
 
 mod columns;
+mod gap;
 mod listing;
 mod lists;
 mod master;
@@ -32,4 +34,4 @@ mod softness;
 mod terms;
 mod tuning;
 
-pub use rising::raised_bound;
+pub use rising::PricedBound;

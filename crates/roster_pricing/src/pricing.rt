@@ -1,12 +1,12 @@
 //! Lower bounds by dual prices.
 
-ghost use Rattle.std.specs.Prelude.{◌≡◌, ◌<◌, ◌*◌, ◌≤ℤ◌, ◌-ℤ◌, ◌*ℤ◌, ℕ, ℤ, pos, IfOk, List, length};
+ghost use Rattle.std.specs.Prelude.{◌≡◌, ◌<◌, ◌*◌, ◌≤ℤ◌, ◌+ℤ◌, ◌-ℤ◌, ◌*ℤ◌, ℕ, ℤ, pos, IfOk, List, length};
 ghost use Rattle.roster_model.specs.Problem.{units_of};
 ghost use Rattle.roster_model.specs.Rosters.{IsLegalRoster};
-ghost use Rattle.roster_model.specs.Settled.{IsLowerBound};
 ghost use Rattle.roster_cost.specs.Amounts.{IsWithin};
 ghost use Rattle.roster_pricing.specs.Networks.{AreValues, IsNetwork};
-ghost use Rattle.roster_pricing.specs.Reduced.{reduced_costs, shares_behind, ArePrices, IsLeastOf, IsTermOf};
+ghost use Rattle.roster_pricing.specs.Looks.{AreLeasts, IsLook};
+ghost use Rattle.roster_pricing.specs.Reduced.{shares_behind, ArePrices, IsLeastOf, IsTermOf};
 
 use crate::columns::Columns;
 use crate::listing::renew_at;
@@ -28,6 +28,15 @@ pub(crate) struct Look {
     pub(crate) bound: i64,
     /// The same in parts of a cost unit, above what it costs that nobody has a pairing.
     pub(crate) parts: i64,
+    /// What the reduced cost of each person is at least, in parts of a cost unit.
+    pub(crate) leasts: Vec<i64>,
+}
+
+/// What the reduced costs of persons are at least, and their sum, in parts of a cost unit.
+#[derive(Debug, Drop)]
+pub(crate) struct Leasts {
+    sum: i64,
+    each: Vec<i64>,
 }
 
 /// The networks of all persons. Contracts see the problem.
@@ -68,15 +77,28 @@ impl<'a> Pricing<'a> {
         columns: &mut [Columns],
     ) -> Result<Look, AllocError>
         requires { ArePrices self.now prices.now }
-        ensures { IfOk result (λ look. IsLowerBound self.now look.bound) }
+        ensures { IfOk result
+            (λ look. IsLook self.now prices.now look.bound look.leasts.items) }
     {
         priced_shares_add_up();
         shares_add_up();
-        let leasts = self.sum_of_leasts(alloc, prices, columns)?;
+        let leasts = self.leasts(alloc, prices, columns)?;
         let terms = sum_of_terms(self.problem, prices);
-        let parts = leasts + terms;
+        let parts = leasts.sum + terms;
         let bound = cost_without_pairings(self.problem) + in_units(parts);
-        Ok(Look { bound, parts })
+        Ok(Look {
+            bound,
+            parts,
+            leasts: leasts.each,
+        })
+    }
+
+    /// The network of person `k`.
+    pub(crate) fn network(&self, k: usize) -> &Network
+        requires { k < length self.now.persons }
+        ensures { IsNetwork self.now k result.now }
+    {
+        &self.networks[k]
     }
 
     /// No line of person `k` has a lower reduced cost at the prices.
@@ -94,24 +116,27 @@ impl<'a> Pricing<'a> {
         least_of(alloc, self.problem, k, &self.networks[k], prices, columns)
     }
 
-    /// The sum of what each person's reduced costs are at least.
-    fn sum_of_leasts(
+    /// What each person's reduced costs are at least, and the sum.
+    fn leasts(
         &self,
         alloc: Global,
         prices: &[i64],
         columns: &mut [Columns],
-    ) -> Result<i64, AllocError>
+    ) -> Result<Leasts, AllocError>
         requires { ArePrices self.now prices.now }
-        ensures least { IfOk result (λ sum. (places : List ℕ) → IsLegalRoster self.now places
-            → sum ≤ℤ reduced_costs self.now prices.now (length self.now.persons) places) }
-        ensures within { IfOk result (IsWithin (MOST_PERSONS * MOST_LEAST)) }
+        ensures are { IfOk result (λ leasts. AreLeasts self.now prices.now
+            (length self.now.persons) leasts.sum leasts.each.items) }
+        ensures within { IfOk result (λ leasts. IsWithin (MOST_PERSONS * MOST_LEAST) leasts.sum) }
     {
         self.problem.is_sound();
         let mut sum = 0;
+        let mut each = Vec::new(alloc);
         for k in 0..self.problem.persons().len() {
-            sum += self.least(alloc, k, prices, columns)?;
+            let least = self.least(alloc, k, prices, columns)?;
+            each.push(least)?;
+            sum += least;
         }
-        Ok(sum)
+        Ok(Leasts { sum, each })
     }
 }
 
@@ -141,7 +166,7 @@ fn least_of(
 }
 
 /// What each pairing brings to person `k`: its units, less its price.
-fn values_of(
+pub(crate) fn values_of(
     alloc: Global,
     problem: &Problem,
     k: usize,
@@ -198,6 +223,7 @@ fn term_of(problem: &Problem, p: usize, price: i64) -> i64
 fn in_units(parts: i64) -> i64
     requires { IsWithin MOST_SUM parts }
     ensures least { (units : ℤ) → parts ≤ℤ (pos PARTS *ℤ units) → result ≤ℤ units }
+    ensures near { (pos PARTS *ℤ result) ≤ℤ (parts +ℤ pos PARTS) }
     ensures within { IsWithin MOST_SUM result }
 {
     let amount = parts.unsigned_abs();

@@ -1,53 +1,167 @@
 //! Prices on their rise: a bound that gets better round by round.
 
-ghost use Rattle.std.specs.Prelude.{◌≡◌, ◌<◌, IfOk, OnOk, length};
+ghost use Rattle.std.specs.Prelude.{◌≡◌, ◌<◌, ◌≤◌, ◌≤ℤ◌, ◌+ℤ◌, ℕ, pos, IfOk, List, length};
+ghost use Rattle.roster_model.specs.Costs.{cost_of};
+ghost use Rattle.roster_model.specs.Rosters.{IsLegalRoster};
 ghost use Rattle.roster_model.specs.Settled.{IsLowerBound};
 ghost use Rattle.roster_cost.specs.Amounts.{IsWithin};
-ghost use Rattle.roster_pricing.specs.Rising.{IsRise};
+ghost use Rattle.roster_lines.specs.Person.{AreListed, IsOfTable};
+ghost use Rattle.roster_pricing.specs.Looks.{IsLook};
 ghost use Rattle.roster_pricing.specs.Reduced.{ArePrices};
 
 use crate::columns::Columns;
+use crate::gap::lines_of_gap;
 use crate::lists::amount_at;
 use crate::master::ascend;
 use crate::parts::{MOST_PRICE, PARTS};
 use crate::pricing::Pricing;
 use crate::tuning::{FIRST_REACH, FIRST_STRIDE, LEAST_STRIDE, MOST_IDLE, MOST_STRIDE};
+use roster_lines::{Table, TableFault};
+use roster_model::limits::MOST_LINES;
 use roster_problem::Problem;
 use std::alloc::{AllocError, Global};
+use std::marker::Model;
 
-/// The best prices so far, what they say, and how far the next ones may lie from them.
+/// A number that no legal roster costs less than, and the prices that say so: the best so far. Contracts see
+/// the problem and the number.
 #[derive(Drop)]
-struct Rise {
+pub struct PricedBound<'a> {
+    problem: &'a Problem,
+    pricing: Pricing<'a>,
+    columns: Vec<Columns>,
     prices: Vec<i64>,
+    leasts: Vec<i64>,
     bound: i64,
     parts: i64,
+    // How far the next prices may lie from the best ones.
     stride: i64,
     // How many looks in a row have said no more in whole cost units.
     idle: u32,
 }
 
-/// A number that no legal roster costs less than, in cost units: the best of so many looks at prices, the first
-/// of them at none. Each look lists the chains that cost least, and the next prices are the best ones for all
-/// chains that are known: column generation, with prices kept near those of the best look. It ends before
-/// so many looks if many in a row say no more, or if the bound is what a known roster costs.
-pub fn raised_bound(
-    alloc: Global,
-    problem: &Problem,
-    known: i64,
-    looks: u32,
-) -> Result<i64, AllocError>
-    ensures { IfOk result (IsLowerBound problem.now) }
-{
-    let pricing = Pricing::new(alloc, problem)?;
-    let mut columns = no_columns(alloc, problem.persons().len())?;
-    let mut rise = first(alloc, problem, &pricing, &mut columns)?;
-    for _ in 1..looks {
-        if rise.idle >= MOST_IDLE || rise.bound >= known {
-            break;
-        }
-        step(alloc, problem, &pricing, &mut columns, &mut rise)?;
+impl<'a> Model for PricedBound<'a> {
+    ghost use Rattle.roster_pricing.specs.Looks.{Bounded, IsPricedBound};
+
+    ghost Value = { Bounded };
+
+    ghost view = { λ b. record { problem = b.problem.now; bound = b.bound } };
+
+    ghost invariant = { λ b. IsPricedBound b.problem.now b.pricing b.prices.items b.leasts.items
+        b.bound };
+}
+
+impl<'a> PricedBound<'a> {
+    /// What no prices at all say.
+    pub fn new(alloc: Global, problem: &'a Problem) -> Result<PricedBound<'a>, AllocError>
+        ensures { IfOk result (λ bound. bound.problem ≡ problem.now) }
+    {
+        let pricing = Pricing::new(alloc, problem)?;
+        let mut columns = no_columns(alloc, problem.persons().len())?;
+        let prices = no_prices(alloc, problem)?;
+        let look = pricing.look(alloc, &prices, &mut columns)?;
+        Ok(PricedBound {
+            problem,
+            pricing,
+            columns,
+            prices,
+            leasts: look.leasts,
+            bound: look.bound,
+            parts: look.parts,
+            stride: FIRST_STRIDE,
+            idle: 0,
+        })
     }
-    Ok(rise.bound)
+
+    /// No legal roster costs less, in cost units.
+    pub fn bound(&self) -> i64
+        ensures value { result ≡ self.now.bound }
+        ensures bound { IsLowerBound self.now.problem result }
+    {
+        self.bound
+    }
+
+    /// Raises the bound by so many looks at other prices. Each look lists the chains that cost least, and the
+    /// next prices are the best ones for all chains that are known: column generation, with prices kept near
+    /// those of the best look. It ends before so many looks if many in a row say no more, or if the bound is
+    /// what a known roster costs.
+    pub fn raise(&mut self, alloc: Global, known: i64, looks: u32) -> Result<(), AllocError>
+        ensures { self.new.problem ≡ self.old.problem }
+    {
+        for _ in 0..looks {
+            if self.idle >= MOST_IDLE || self.bound >= known {
+                break;
+            }
+            self.step(alloc)?;
+        }
+        Ok(())
+    }
+
+    /// For each person the lines that a legal roster may have which costs at most so many units more than the
+    /// bound, if no person's are more than `most`.
+    pub fn lines_within(&self, alloc: Global, gap: u32, most: usize) -> Result<Table, TableFault>
+        requires { (0 < most) × (most ≤ MOST_LINES) }
+        ensures listed { IfOk result (AreListed self.now.problem) }
+        ensures all { IfOk result (λ table. (places : List ℕ)
+            → IsLegalRoster self.now.problem places
+            → cost_of self.now.problem places ≤ℤ (self.now.bound +ℤ pos gap)
+            → IsOfTable table places) }
+    {
+        lines_of_gap(
+            alloc,
+            self.problem,
+            &self.pricing,
+            &self.prices,
+            &self.leasts,
+            self.bound,
+            gap,
+            most,
+        )
+    }
+
+    /// Looks at the next prices, and takes them if they say more.
+    fn step(&mut self, alloc: Global) -> Result<(), AllocError>
+        ensures { self.new.problem ≡ self.old.problem }
+    {
+        let problem = self.problem;
+        let penalties = penalties(alloc, problem)?;
+        let wanted = ascend(alloc, &self.columns, &self.prices, &penalties, self.stride)?;
+        let prices = limited(alloc, problem, &wanted)?;
+        let look = self.pricing.look(alloc, &prices, &mut self.columns)?;
+        if look.parts > self.parts {
+            self.idle = if look.bound > self.bound {
+                0
+            } else {
+                self.idle.wrapping_add(1)
+            };
+            self.stride = wider(self.stride);
+            self.parts = look.parts;
+            self.prices = prices;
+            self.leasts = look.leasts;
+            self.bound = look.bound;
+        } else {
+            self.idle = self.idle.wrapping_add(1);
+            self.stride = narrower(self.stride);
+        }
+        Ok(())
+    }
+}
+
+/// The next stride after one that said more.
+fn wider(stride: i64) -> i64 {
+    (stride.wrapping_mul(3) / 2).min(MOST_STRIDE)
+}
+
+/// The next stride after one that said no more.
+fn narrower(stride: i64) -> i64 {
+    (stride.wrapping_mul(3) / 5).max(LEAST_STRIDE)
+}
+
+/// No prices.
+fn no_prices(alloc: Global, problem: &Problem) -> Result<Vec<i64>, AllocError>
+    ensures { IfOk result (λ prices. ArePrices problem.now prices.items) }
+{
+    let prices = vec![in alloc; 0; problem.pairings().len()]?;
+    Ok(prices)
 }
 
 /// For each person no columns.
@@ -57,79 +171,6 @@ fn no_columns(alloc: Global, count: usize) -> Result<Vec<Columns>, AllocError> {
         columns.push(Columns::new(alloc, FIRST_REACH))?;
     }
     Ok(columns)
-}
-
-/// Begins with no prices.
-fn first(
-    alloc: Global,
-    problem: &Problem,
-    pricing: &Pricing<'_>,
-    columns: &mut [Columns],
-) -> Result<Rise, AllocError>
-    requires { pricing.now ≡ problem.now }
-    ensures { IfOk result (IsRise problem.now) }
-{
-    let prices = vec![in alloc; 0; problem.pairings().len()]?;
-    let look = pricing.look(alloc, &prices, columns)?;
-    Ok(Rise {
-        prices,
-        bound: look.bound,
-        parts: look.parts,
-        stride: FIRST_STRIDE,
-        idle: 0,
-    })
-}
-
-/// Looks at the next prices, and takes them if they say more.
-fn step(
-    alloc: Global,
-    problem: &Problem,
-    pricing: &Pricing<'_>,
-    columns: &mut [Columns],
-    rise: &mut Rise,
-) -> Result<(), AllocError>
-    requires pricing { pricing.now ≡ problem.now }
-    requires rise { IsRise problem.now rise.old }
-    ensures { OnOk result (IsRise problem.now rise.new) }
-{
-    let penalties = penalties(alloc, problem)?;
-    let wanted = ascend(alloc, columns, &rise.prices, &penalties, rise.stride)?;
-    let prices = limited(alloc, problem, &wanted)?;
-    let look = pricing.look(alloc, &prices, columns)?;
-    if look.parts > rise.parts {
-        take(problem, rise, prices, look.bound, look.parts);
-    } else {
-        miss(problem, rise);
-    }
-    Ok(())
-}
-
-/// Takes prices that say more, and goes on with larger strides.
-fn take(problem: &Problem, rise: &mut Rise, prices: Vec<i64>, bound: i64, parts: i64)
-    requires prices { ArePrices problem.now prices.items }
-    requires bound { IsLowerBound problem.now bound }
-    ensures { IsRise problem.now rise.new }
-{
-    let _ = problem;
-    rise.idle = if bound > rise.bound {
-        0
-    } else {
-        rise.idle.wrapping_add(1)
-    };
-    rise.prices = prices;
-    rise.bound = bound;
-    rise.parts = parts;
-    rise.stride = (rise.stride.wrapping_mul(3) / 2).min(MOST_STRIDE);
-}
-
-/// Goes on with smaller strides.
-fn miss(problem: &Problem, rise: &mut Rise)
-    requires { IsRise problem.now rise.old }
-    ensures { IsRise problem.now rise.new }
-{
-    let _ = problem;
-    rise.idle = rise.idle.wrapping_add(1);
-    rise.stride = (rise.stride.wrapping_mul(3) / 5).max(LEAST_STRIDE);
 }
 
 /// What it costs to leave each pairing open, in parts of a cost unit.

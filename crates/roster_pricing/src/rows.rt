@@ -36,6 +36,13 @@ impl Row {
         Ok(Row { values: copy })
     }
 
+    /// The values of all states.
+    pub(crate) fn all(&self) -> &[i64]
+        ensures { result.now ≡ self.now }
+    {
+        &self.values
+    }
+
     /// The value in state 0.
     pub(crate) fn first(&self) -> i64
         requires { 0 < length self.now }
@@ -70,7 +77,7 @@ impl Row {
 }
 
 /// So many steps of flight more than state `f` has, but no state past the last.
-fn next_state(states: usize, f: usize, step: usize) -> usize
+pub(crate) fn next_state(states: usize, f: usize, step: usize) -> usize
     requires { f < states }
     ensures value { result ≡ plain_next_state states f step }
     ensures inside { result < states }
@@ -132,7 +139,7 @@ fn lower(row: &mut [i64], f: usize, value: i64)
 }
 
 /// What a pairing brings, and the row behind it has in state `f`.
-fn led(after: &[i64], value: i64, f: usize) -> i64
+pub(crate) fn led(after: &[i64], value: i64, f: usize) -> i64
     requires inside { f < length after.now }
     requires value { IsWithin MOST_VALUE value }
     requires after { All (IsWithin MOST_AMOUNT) after.now }

@@ -1,4 +1,4 @@
-use Rattle.std.proofs.Common.{◌≡◌, ◌+◌, ℤ, w64, to_z, of_z, sym, subst, FitsSigned, rules}
+use Rattle.std.proofs.Common.{◌+◌, ℤ, w64, to_z, sym, subst, FitsSigned, rules}
 use Rattle.std.proofs.lemmas.Int.{to_z-of_z}
 use Rattle.roster_plan.specs.Floors.{IsFloorAmong}
 use Rattle.roster_plan.proofs.FloorLemmas.{one_person_more}

@@ -1,6 +1,5 @@
-use Rattle.std.proofs.Common.{◌≡◌, ◌+◌, ◌-◌, ◌*◌, ◌≤◌, ◌<◌, ℕ, length, ℤ, ◌+ℤ◌, ◌≤ℤ◌, pos, w64, to_z, of_z, sym, ap, subst, ◌∙◌, FitsSigned, rules, arith}
+use Rattle.std.proofs.Common.{◌≡◌, ◌+◌, ◌-◌, ◌<◌, ℕ, length, ℤ, ◌+ℤ◌, ◌≤ℤ◌, w64, to_z, of_z, sym, ap, subst, ◌∙◌, FitsSigned, rules, arith}
 use Rattle.std.proofs.lemmas.Int.{to_z-of_z, ints}
-use Rattle.roster_model.specs.declared.limits.TheConstants.{MOST_UNITS}
 use Rattle.roster_plan.proofs.FloorLemmas.{cost_behind, is_bound, one_more}
 use Rattle.roster_plan.proofs.bound.lower_bound.Goals as goal
 

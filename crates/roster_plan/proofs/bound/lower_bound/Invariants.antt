@@ -1,4 +1,4 @@
-use Rattle.std.proofs.Common.{◌≡◌, ℕ, ◌-◌, ◌*◌, ◌≤◌, List, length, drop, ◌≤ℤ◌, ◌+ℤ◌, pos}
+use Rattle.std.proofs.Common.{◌≡◌, ℕ, ◌-◌, ◌*◌, ◌≤◌, List, length, ◌≤ℤ◌}
 use Rattle.roster_model.specs.declared.limits.TheConstants.{MOST_UNITS}
 use Rattle.roster_model.specs.Rosters.{IsLegalRoster}
 use Rattle.roster_cost.specs.Amounts.{IsWithin}

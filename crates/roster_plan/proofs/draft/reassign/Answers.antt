@@ -1,4 +1,4 @@
-use Rattle.std.proofs.Common.{◌≡◌, ◌∙◌, sym, subst, ◌<◌, ◌≤◌, length, List, ℕ, arith}
+use Rattle.std.proofs.Common.{sym, subst, ◌<◌, length}
 use Rattle.std.specs.Prelude.{All}
 use Rattle.roster_model.specs.Places.{set_of, open_number}
 use Rattle.roster_model.proofs.SetLemmas.{places_of_number}

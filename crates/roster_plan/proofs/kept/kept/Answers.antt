@@ -1,4 +1,4 @@
-use Rattle.std.proofs.Common.{◌≡◌, ◌+◌, ◌≤◌, ℕ, length, get_or, sym, ap, ◌∙◌, subst, arith, rules}
+use Rattle.std.proofs.Common.{◌≤◌, ℕ, length, get_or, sym, ap, subst, arith, rules}
 use Rattle.roster_plan.specs.Kept.{AreKept, IsKeptNext}
 use Rattle.roster_plan.proofs.KeptLemmas.{all_kept, one_more, roster_kept}
 use Rattle.roster_plan.proofs.kept.kept.Goals as goal

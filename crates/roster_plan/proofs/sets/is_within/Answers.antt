@@ -1,4 +1,4 @@
-use Rattle.std.proofs.Common.{ℕ, ◌<◌, sym, ◌∙◌, inl, inr}
+use Rattle.std.proofs.Common.{◌<◌, sym, ◌∙◌, inl, inr}
 use Rattle.std.proofs.lemmas.Bool.{cases_lt, false≢true}
 use Rattle.roster_model.proofs.SetLemmas.{All-from_is_among}
 use Rattle.roster_plan.proofs.sets.is_within.Goals as goal

@@ -2,8 +2,9 @@ use Rattle.std.proofs.Common.{◌≡◌, ℕ, List, subst, ap, ◌∙◌, arith,
 use Rattle.std.proofs.lemmas.Int.{ints, to_z-of_z}
 use Rattle.roster_model.specs.Rosters.{IsLegalRoster}
 use Rattle.roster_cost.specs.Amounts.{cost_without_pairings}
+use Rattle.roster_pricing.specs.Looks.{IsLook}
 use Rattle.roster_pricing.specs.Reduced.{price_at, shares_behind}
-use Rattle.roster_pricing.proofs.ShareLemmas.{bound_below}
+use Rattle.roster_pricing.proofs.GapLemmas.{look_is}
 use Rattle.roster_pricing.proofs.pricing.Pricing.look.Goals as goal
 
 pub returns : goal.returns
@@ -11,7 +12,7 @@ returns c =
     let problem = c.args.self.now in
     let prices = c.args.prices.now in
     let same = c.self.view_is in
-    let leasts : ℤ = c.in_ok-leasts.leasts in
+    let leasts : ℤ = c.in_ok-leasts.leasts.sum in
     let terms : ℤ = c.sum_of_terms-terms.result in
     let units : ℤ = c.in_units.result in
     let idle : ℤ = c.cost_without_pairings.result in
@@ -37,9 +38,12 @@ returns c =
     let below : (places : List ℕ) → IsLegalRoster problem places → terms ≤ℤ shares_behind problem prices 0 places =
     subst (λ p. (places : List ℕ) → IsLegalRoster p places → terms ≤ℤ shares_behind p prices 0 places) same c.sum_of_terms-terms.ensures.least in
     let idle_is : idle ≡ cost_without_pairings problem = c.cost_without_pairings.ensures.value ∙ ap cost_without_pairings same in
-    let bound = bound_below problem prices leasts terms units
+    let near = c.in_units.ensures.near in
+    let look = look_is problem prices leasts terms units c.in_ok-leasts.leasts.each.items
     (λ places roster. c.shares_add_up.ensures problem places)
     (λ places roster. c.priced_shares_add_up.ensures problem (price_at prices) places roster.covers roster.numbers)
-    c.in_ok-leasts.ensures.least below
-    (λ more least. c.in_units.ensures.least more (omega (arith, ints, least, leasts_told, terms_told, sum_told))) in
-    λ places roster. let b = bound places roster in omega (arith, ints, b, idle_is, idle_told, units_told, whole_told)
+    c.in_ok-leasts.ensures.are below
+    (λ more least. c.in_units.ensures.least more (omega (arith, ints, least, leasts_told, terms_told, sum_told)))
+    (omega (arith, ints, near, leasts_told, terms_told, sum_told)) in
+    let bound : cost_without_pairings problem +ℤ units ≡ to_z w64 (of_z w64 whole) = omega (arith, ints, idle_is, idle_told, units_told, whole_told) in
+    subst (λ z. IsLook problem prices z c.in_ok-leasts.leasts.each.items) bound look

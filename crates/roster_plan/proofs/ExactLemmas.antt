@@ -1,0 +1,46 @@
+-- Why a search of the lines of cheap rosters speaks of all rosters.
+use Rattle.std.proofs.Common.{◌≡◌, ℕ, true, List, sym, subst, inl, inr, arith, ℤ, pos, ◌+ℤ◌, ◌<ℤ◌, ◌≤ℤ◌}
+use Rattle.std.proofs.lemmas.Int.{ints}
+use Rattle.roster_model.specs.Costs.{cost_of}
+use Rattle.roster_model.specs.Problem.{Problem}
+use Rattle.roster_model.specs.Rosters.{IsLegalRoster, Key, key_le, key_of}
+use Rattle.roster_model.specs.Settled.{Anywhere, IsHeld, IsLowerBound, IsNotAfter}
+use Rattle.roster_model.proofs.SettledLemmas.{held-key}
+use Rattle.roster_lines.specs.Entries.{Entry}
+use Rattle.roster_lines.specs.Person.{IsOfTable}
+use Rattle.roster_search.specs.Least.{CostsAtLeast, IsLeast}
+use Rattle.roster_search.proofs.FindLemmas.{cost_cases}
+use Rattle.roster_search.proofs.Keys.{by_cost, no_dearer}
+
+-- each roster that costs at most so much has lines of the table
+abbrev pub HasAllWithin : Problem → List (List Entry) → ℤ → Type 0
+HasAllWithin problem table most =
+    (places : List ℕ) → IsLegalRoster problem places → cost_of problem places ≤ℤ most → IsOfTable table places
+
+-- so the least of the table is the best of all, if it costs so little,
+pub best_of_all : (problem : Problem) (table : List (List Entry)) (most limit : ℤ) (key : Key) → HasAllWithin problem table most → limit ≤ℤ (most +ℤ pos 1)
+    → IsLeast problem (IsOfTable table) key → key.cost <ℤ limit → IsHeld problem key × IsNotAfter problem Anywhere key
+best_of_all problem table most limit key all near least cheap = (
+  least.held,
+  λ others legal anywhere. elim (cost_cases most (cost_of problem others)) [
+    | inl within ↦ least.least others legal (all others legal within)
+    | inr above ↦ by_cost key (key_of problem others) (omega (arith, ints, above, near, cheap))
+  ],
+)
+
+-- and no roster costs so little if none of the table does
+pub none_below : (problem : Problem) (table : List (List Entry)) (most limit : ℤ) → HasAllWithin problem table most → limit ≤ℤ (most +ℤ pos 1)
+    → CostsAtLeast problem (IsOfTable table) limit → IsLowerBound problem limit
+none_below problem table most limit all near above places legal =
+    elim (cost_cases most (cost_of problem places)) [
+      | inl within ↦ above places legal (all places legal within)
+      | inr dear ↦ omega (arith, ints, dear, near)
+    ]
+
+-- no roster costs less than the best one,
+pub best_is_bound : (problem : Problem) (key : Key) → IsNotAfter problem Anywhere key → IsLowerBound problem key.cost
+best_is_bound problem key best places legal = no_dearer key (key_of problem places) (best places legal tt)
+
+-- nor is any before it
+pub best_is_first : (problem : Problem) (key known : Key) → IsNotAfter problem Anywhere key → IsHeld problem known → key_le key known ≡ true
+best_is_first problem key known best is = subst (λ k. key_le key k ≡ true) (sym (held-key problem known is)) (best known.places is.legal tt)

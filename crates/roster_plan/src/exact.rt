@@ -1,0 +1,124 @@
+//! The best roster, if the bound is near enough to what it costs.
+//!
+//! A roster that costs at most so much more than the bound has lines of low reduced cost only. If these are
+//! few they are listed, and searched whole: the least of their rosters is then the best of all, or no roster
+//! costs so little.
+
+ghost use Rattle.std.specs.Prelude.{◌≡◌, ◌<◌, ◌≤◌, ◌≤ℤ◌, ◌+ℤ◌, pos, IfOk, IfSome};
+ghost use Rattle.roster_plan.specs.Exact.{IsExact};
+
+use crate::planning::MOST_EFFORT;
+use roster_lines::TableFault;
+use roster_model::limits::MOST_LINES;
+use roster_pricing::PricedBound;
+use roster_problem::{Problem, Roster};
+use roster_search::{Searched, least_within};
+use std::alloc::{AllocError, Global};
+
+/// The first gap, as a part of what is between the bound and the known roster.
+const FIRST_PART: u32 = 16;
+
+/// How many gaps are tried, at most. Each is about twice as wide as the one before.
+const MOST_GAPS: u32 = 8;
+
+/// How many lines a person may have at effort 0, and as many more with each effort more.
+const LINES_AN_EFFORT: usize = 4096;
+
+/// How many lines nodes may have to look at in one search at effort 0. Each effort more doubles them.
+const FEWEST_WORK: u64 = 1 << 19;
+
+/// What is found.
+#[derive(Debug, Drop)]
+pub(crate) enum Found {
+    /// The best roster, with its cost.
+    Best(Roster),
+    /// No legal roster costs less than so much.
+    AtLeast(i64),
+}
+
+/// The best roster, or what no roster costs less than: at least the bound. The known roster costs so much.
+pub(crate) fn best_or_bound(
+    alloc: Global,
+    problem: &Problem,
+    priced: &PricedBound<'_>,
+    known: i64,
+    effort: u32,
+) -> Result<Found, AllocError>
+    requires { priced.now.problem ≡ problem.now }
+    ensures { IfOk result (IsExact problem.now) }
+{
+    let whole = gap_of(priced.bound(), known);
+    let mut gap = whole / FIRST_PART;
+    let mut low = priced.bound();
+    for _ in 0..MOST_GAPS {
+        match within(alloc, problem, priced, gap, effort)? {
+            Some(Found::Best(roster)) => return Ok(Found::Best(roster)),
+            Some(Found::AtLeast(limit)) => low = limit,
+            None => break,
+        }
+        if gap == whole {
+            break;
+        }
+        gap = wider(gap, whole);
+    }
+    Ok(Found::AtLeast(low))
+}
+
+/// The best roster if it costs at most so many units more than the bound, or that none does; or nothing, if that
+/// takes too many lines or too long.
+fn within(
+    alloc: Global,
+    problem: &Problem,
+    priced: &PricedBound<'_>,
+    gap: u32,
+    effort: u32,
+) -> Result<Option<Found>, AllocError>
+    requires { priced.now.problem ≡ problem.now }
+    ensures { IfOk result (λ found. IfSome found (IsExact problem.now)) }
+{
+    let limit = limit_of(priced.bound(), gap);
+    let table = match priced.lines_within(alloc, gap, lines_of(effort)) {
+        Ok(table) => table,
+        Err(TableFault::TooMany(_)) => return Ok(None),
+        Err(TableFault::Memory) => return Err(AllocError),
+    };
+    match least_within(alloc, problem, &table, limit, work_of(effort))? {
+        Searched::Settled(Some(roster)) => Ok(Some(Found::Best(roster))),
+        Searched::Settled(None) => Ok(Some(Found::AtLeast(limit))),
+        Searched::GivenUp => Ok(None),
+    }
+}
+
+/// What costs at most so many units more than the bound costs less than this.
+fn limit_of(bound: i64, gap: u32) -> i64
+    ensures { result ≤ℤ ((bound +ℤ pos gap) +ℤ pos 1) }
+{
+    bound.saturating_add(i64::from(gap)).saturating_add(1)
+}
+
+/// How many units a cost is above the bound.
+fn gap_of(bound: i64, cost: i64) -> u32 {
+    cost.saturating_sub(bound).clamp(0, i64::from(u32::MAX)) as u32
+}
+
+/// The next gap, of at most the whole one.
+fn wider(gap: u32, whole: u32) -> u32 {
+    gap.saturating_mul(2).saturating_add(1).min(whole)
+}
+
+/// How many lines a person may have.
+fn lines_of(effort: u32) -> usize
+    ensures { (0 < result) × (result ≤ MOST_LINES) }
+{
+    let effort = if effort < MOST_EFFORT {
+        effort
+    } else {
+        MOST_EFFORT
+    };
+    LINES_AN_EFFORT * (effort as usize + 1)
+}
+
+/// How many lines nodes may have to look at in one search.
+fn work_of(effort: u32) -> u64 {
+    FEWEST_WORK << effort.min(MOST_EFFORT)
+}

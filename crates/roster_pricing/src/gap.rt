@@ -1,0 +1,210 @@
+//! Lines that a roster may have which costs little more than a bound.
+//!
+//! What a roster costs above the bound is what its persons' reduced costs are above the least ones, and what
+//! its pairings bring beside: nothing of that is below 0. So a line whose reduced cost alone is further above
+//! its person's least is in no such roster.
+
+ghost use Rattle.std.specs.Prelude.{◌≡◌, ◌<◌, ◌≤◌, ◌*◌, ◌+ℤ◌, ◌*ℤ◌, ◌≤ℤ◌, ℕ, pos, All, IfOk, List, length};
+ghost use Rattle.roster_model.specs.Costs.{cost_of};
+ghost use Rattle.roster_model.specs.Rosters.{IsLegalRoster};
+ghost use Rattle.roster_cost.specs.Amounts.{IsWithin};
+ghost use Rattle.roster_lines.specs.Person.{AreListed, IsOfTable};
+ghost use Rattle.roster_pricing.specs.Gaps.{IsAlong, IsLeastBehind, IsTabled};
+ghost use Rattle.roster_pricing.specs.Looks.{IsLook};
+ghost use Rattle.roster_pricing.specs.Networks.{AreRows, IsNetwork};
+ghost use Rattle.roster_pricing.specs.Reduced.{ArePrices};
+
+use crate::network::Network;
+use crate::parts::{MOST_LEAST, MOST_VALUE, PARTS};
+use crate::pricing::{Pricing, values_of};
+use crate::rows::{Row, led, next_state, rows_of};
+use roster_cumulative::flight_of_set;
+use roster_legal::part_of_legal_is_legal;
+use roster_lines::{LinesFault, Table, TableFault, Wanted, wanted_lines};
+use roster_model::limits::{MOST_LINES, MOST_PAIRINGS};
+use roster_problem::{Problem, Set};
+use std::alloc::{AllocError, Global};
+use std::marker::Model;
+
+/// For each person the lines that a legal roster may have which costs at most so many units more than the bound
+/// that the prices say.
+pub(crate) fn lines_of_gap(
+    alloc: Global,
+    problem: &Problem,
+    pricing: &Pricing<'_>,
+    prices: &[i64],
+    leasts: &[i64],
+    bound: i64,
+    gap: u32,
+    most: usize,
+) -> Result<Table, TableFault>
+    requires pricing { pricing.now ≡ problem.now }
+    requires prices { ArePrices problem.now prices.now }
+    requires look { IsLook problem.now prices.now bound leasts.now }
+    requires limit { (0 < most) × (most ≤ MOST_LINES) }
+    ensures listed { IfOk result (AreListed problem.now) }
+    ensures all { IfOk result (λ table. (places : List ℕ) → IsLegalRoster problem.now places
+        → cost_of problem.now places ≤ℤ (bound +ℤ pos gap) → IsOfTable table places) }
+{
+    let mut table = Table::empty(alloc);
+    for k in 0..problem.persons().len() {
+        let cheap = Cheap::new(
+            alloc,
+            problem,
+            k,
+            pricing.network(k),
+            prices,
+            limit_of(leasts[k], gap),
+        )?;
+        match wanted_lines(alloc, problem, k, &cheap, most) {
+            Ok(lines) => table.push(alloc, lines)?,
+            Err(LinesFault::TooMany) => return Err(TableFault::TooMany(k)),
+            Err(LinesFault::Memory) => return Err(TableFault::Memory),
+        }
+    }
+    Ok(table)
+}
+
+/// What a reduced cost may be at most that is no further above the least one than so many units, rounded up.
+fn limit_of(least: i64, gap: u32) -> i64
+    requires { IsWithin MOST_LEAST least }
+    ensures { result ≡ least +ℤ (pos PARTS *ℤ (pos gap +ℤ pos 1)) }
+{
+    least + PARTS as i64 * (i64::from(gap) + 1)
+}
+
+/// The lines of a person whose reduced cost is at most so much at the prices. Contracts see the problem, the
+/// person, the prices and how much that is.
+#[derive(Drop)]
+struct Cheap<'a> {
+    problem: &'a Problem,
+    person: usize,
+    network: &'a Network,
+    prices: &'a [i64],
+    values: Vec<i64>,
+    rows: Vec<Row>,
+    most: i64,
+}
+
+impl<'a> Model for Cheap<'a> {
+    ghost use Rattle.roster_pricing.specs.Gaps as gaps;
+
+    ghost Value = { gaps.Cheap };
+
+    ghost view = { λ c. record {
+      problem = c.problem.now;
+      person = c.person;
+      prices = c.prices.now;
+      most = c.most;
+    } };
+
+    ghost invariant = { λ c. gaps.IsTabled c.problem.now c.person c.prices.now c.network.now
+        c.values.items c.rows.items };
+}
+
+impl<'a> Cheap<'a> {
+    /// The lines of person `k`, whose network it is.
+    fn new(
+        alloc: Global,
+        problem: &'a Problem,
+        k: usize,
+        network: &'a Network,
+        prices: &'a [i64],
+        most: i64,
+    ) -> Result<Cheap<'a>, AllocError>
+        requires person { k < length problem.now.persons }
+        requires network { IsNetwork problem.now k network.now }
+        requires prices { ArePrices problem.now prices.now }
+        ensures { IfOk result (λ cheap. cheap ≡ record {
+          problem = problem.now;
+          person = k;
+          prices = prices.now;
+          most = most;
+        }) }
+    {
+        let values = values_of(alloc, problem, k, prices)?;
+        let rows = rows_of(alloc, problem, k, network, &values)?;
+        Ok(Cheap {
+            problem,
+            person: k,
+            network,
+            prices,
+            values,
+            rows,
+            most,
+        })
+    }
+}
+
+impl<'a> Wanted for Cheap<'a> {
+    ghost use Rattle.roster_pricing.specs.Gaps.{IsCheap};
+
+    ghost wants = { λ cheap problem k set. IsCheap cheap problem k set };
+
+    fn goes_on(&self, problem: &Problem, k: usize, set: &Set, p: usize, _: i64, _: u64) -> bool {
+        part_of_legal_is_legal();
+        flight_of_set();
+        self.problem.is_sound();
+        if k != self.person || problem.pairings().len() != self.rows.len() {
+            return true;
+        }
+        let least = least_behind(
+            self.problem,
+            k,
+            self.network,
+            &self.values,
+            &self.rows,
+            set,
+            p,
+        );
+        if least > self.most {
+            return false;
+        }
+        true
+    }
+}
+
+/// What a chain brings at least that begins with the set and pairing `p` behind it.
+fn least_behind(
+    problem: &Problem,
+    k: usize,
+    network: &Network,
+    values: &[i64],
+    rows: &[Row],
+    set: &Set,
+    p: usize,
+) -> i64
+    requires network { IsNetwork problem.now k network.now }
+    requires covers { length values.now ≡ length problem.now.pairings }
+    requires values { All (IsWithin MOST_VALUE) values.now }
+    requires rows { AreRows problem.now network.now values.now rows.now }
+    requires all { length rows.now ≡ length problem.now.pairings }
+    requires set { All (λ q. q < length problem.now.pairings) set.now }
+    requires place { p < length problem.now.pairings }
+    ensures { IsLeastBehind network.now values.now set.now p result }
+{
+    problem.is_sound();
+    let (value, state) = along(network, values, set);
+    let next = next_state(network.terms.len(), state, network.steps[p]);
+    value + led(rows[rows.len() - 1 - p].all(), values[p], next)
+}
+
+/// What a chain has brought that begins with the set, and the state of flight that it has come to.
+fn along(network: &Network, values: &[i64], set: &Set) -> (i64, usize)
+    requires some { 0 < length network.now.terms.items }
+    requires steps { All (λ p. p < length network.now.steps.items) set.now }
+    requires covers { All (λ p. p < length values.now) set.now }
+    requires values { All (IsWithin MOST_VALUE) values.now }
+    ensures along { IsAlong network.now values.now set.now result.0 result.1 }
+    ensures within { IsWithin (MOST_PAIRINGS * MOST_VALUE) result.0 }
+{
+    let mut value = 0;
+    let mut state = 0;
+    let mut from = 0;
+    while let Some(q) = set.first_from(from) {
+        value += values[q];
+        state = next_state(network.terms.len(), state, network.steps[q]);
+        from = q + 1;
+    }
+    (value, state)
+}
