@@ -55,7 +55,8 @@ pub struct Ascent {
     pub(crate) best: Reached,
     // The best of looks at all lines.
     pub(crate) sure: Reached,
-    pub(crate) fixed: i64,
+    // The bound by which lines were last left out, if any were.
+    pub(crate) fixed: Option<i64>,
     pub(crate) stalled: u32,
     pub(crate) patience: u32,
     pub(crate) is_root: bool,
@@ -111,7 +112,7 @@ impl Ascent {
             now: prices.copy(alloc)?,
             best: Reached::nothing(alloc, prices)?,
             sure: Reached::nothing(alloc, prices)?,
-            fixed: i64::MIN,
+            fixed: None,
             stalled: 0,
             patience,
             is_root,
@@ -173,7 +174,7 @@ impl Ascent {
 
     /// Has the next look at all lines.
     pub fn look_at_all(&mut self) {
-        self.near.leave();
+        self.near.hurry(self.scope.lines());
     }
 
     /// Takes note that the region has become smaller.

@@ -39,6 +39,8 @@ pub(crate) struct Look {
     masses: Vec<u64>,
     // The least values of the persons that were looked at, in all.
     bound: i64,
+    // How far a line's value is above the least of its person, at most.
+    spread: i64,
     // Lines that were near the least.
     lists: Vec<List>,
     // Whether memory ran out.
@@ -57,6 +59,7 @@ impl Look {
             weights: vec![in alloc; 0; depths]?,
             masses: vec![in alloc; 0; pairings]?,
             bound: 0,
+            spread: 0,
             lists: Vec::new(alloc),
             failed: false,
         })
@@ -70,6 +73,7 @@ impl Look {
             }
         }
         self.bound = 0;
+        self.spread = 0;
         self.failed = false;
     }
 
@@ -156,6 +160,7 @@ impl Look {
             }
         }
         self.bound = self.bound.wrapping_add(other.bound);
+        self.spread = self.spread.max(other.spread);
         self.failed = self.failed || other.failed;
     }
 
@@ -172,6 +177,11 @@ impl Look {
     /// The least values of all persons that it looked at, in all.
     pub(crate) fn bound(&self) -> i64 {
         self.bound
+    }
+
+    /// How far the value of a line is above the least one of its person, at most.
+    pub(crate) fn spread(&self) -> i64 {
+        self.spread
     }
 
     /// Tells whether memory ran out.
@@ -214,7 +224,8 @@ impl Look {
         softness: u32,
     ) -> Result<i64, AllocError> {
         self.values.resize(choices.count(), 0)?;
-        let least = read_values(choices, prices, &mut self.sums, &mut self.values);
+        let (least, greatest) = read_values(choices, prices, &mut self.sums, &mut self.values);
+        self.spread = self.spread.max(greatest.wrapping_sub(least));
         let (weights, masses) = (&mut self.weights, &mut self.masses);
         let total = weigh(choices, &self.values, least, softness, weights, masses);
         self.share(total, scope.pairings());
@@ -238,23 +249,26 @@ impl Look {
     }
 }
 
-/// Reads the value of each choice, and gives the least of a line. The sums are those on the way, by depth.
+/// Reads the value of each choice, and gives the least and the greatest of a line. The sums are those on the
+/// way, by depth.
 fn read_values<L: ChoiceList>(
     choices: &L,
     prices: &[i64],
     sums: &mut [i64],
     values: &mut [i64],
-) -> i64 {
+) -> (i64, i64) {
     let mut least = i64::MAX;
+    let mut greatest = i64::MIN;
     for i in 0..values.len() {
         let choice = choices.choice(i);
         let value = value_of(&choice, prices, sums);
         values[i] = value;
-        if choice.live && value < least {
-            least = value;
+        if choice.live {
+            least = least.min(value);
+            greatest = greatest.max(value);
         }
     }
-    least
+    (least, greatest)
 }
 
 /// The value of the choice to which the walk goes on.

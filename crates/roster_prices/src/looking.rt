@@ -5,7 +5,9 @@ ghost use Rattle.roster_regions.specs.Regions.{IsRegion};
 
 use crate::ascent::Ascent;
 use crate::look::Look;
-use crate::tuning::{FAIR_RISE, FIXING_RISE, LINES_FOR_THREADS, NEAR_HALVINGS, SAMPLE_LINES};
+use crate::tuning::{
+    FAIR_RISE, FEW_LINES_AT_A_NODE, FIXING_RISE, LINES_FOR_THREADS, NEAR_HALVINGS, SAMPLE_LINES,
+};
 use roster_problem::Problem;
 use roster_regions::Region;
 use std::alloc::{AllocError, Global};
@@ -167,11 +169,14 @@ impl Ascent {
         if turn.from_sample {
             self.now.stop();
             self.best.forget();
-            self.fixed = i64::MIN;
+            self.fixed = None;
         } else if !self.near.is_all() {
             turn.expected = Some(self.near_bound(problem, region)?);
         }
-        if self.is_root && self.sure.bound != i64::MIN && self.near.is_to_be_made() {
+        if self.is_root
+            && self.sure.bound != i64::MIN
+            && self.near.is_to_be_made(self.scope.lines())
+        {
             let reach = NEAR_HALVINGS << self.now.softness().saturating_add(5).min(50);
             self.near.begin(alloc, problem.persons().len(), reach)?;
             turn.reach = Some(reach);
@@ -202,10 +207,14 @@ impl Ascent {
         if turn.from_sample || bound > self.sure.bound {
             self.sure.take(&self.now, bound);
         }
+        if turn.expected.is_some() && self.near.misleads(self.scope.lines()) {
+            self.go_back();
+            return false;
+        }
         self.is_worth_fixing(bound, room)
     }
 
-    // Goes back to where it was before steps on a sample that led astray.
+    // Goes back to where it was before steps that led astray.
     fn go_back(&mut self) {
         self.now.take(&self.sure.prices);
         self.sure.forget();
@@ -227,12 +236,27 @@ impl Ascent {
             self.stalled.saturating_add(1)
         };
         self.best.take(&self.now, bound);
-        let rise = bound.saturating_sub(self.fixed).saturating_mul(FIXING_RISE);
-        if bound <= room && rise <= room.saturating_sub(self.fixed) {
+        if bound <= room && !self.rose_well(bound, room) {
             return false;
         }
-        self.fixed = bound;
+        self.fixed = Some(bound);
         true
+    }
+
+    // Whether the bound has risen well since lines were left out. If none were yet, prices at a node tell
+    // enough, since they are those of the node above; at a root they tell little.
+    fn rose_well(&self, bound: i64, room: i64) -> bool {
+        let Some(fixed) = self.fixed else {
+            return !self.is_root && self.is_some_line_beyond(room.saturating_sub(bound));
+        };
+        let rise = bound.saturating_sub(fixed);
+        rise.saturating_mul(FIXING_RISE) > room.saturating_sub(fixed)
+    }
+
+    // Whether some line is further from the least of its person than the gap, or lines are so few that it
+    // doesn't matter.
+    fn is_some_line_beyond(&self, gap: i64) -> bool {
+        self.scope.lines() < FEW_LINES_AT_A_NODE || self.look.spread() > gap
     }
 
     /// Looks at all lines once more, at the best prices: the bound that is told is then theirs.

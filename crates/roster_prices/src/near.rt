@@ -6,7 +6,10 @@ ghost use Rattle.roster_regions.specs.Regions.{IsRegion};
 use crate::look::Look;
 use crate::person_lines::PersonLines;
 use crate::picking::sample;
-use crate::tuning::{LEAST_NEAR_LOOKS, MOST_NEAR_LOOKS, SAMPLE_LINES, SAMPLE_STEPS};
+use crate::tuning::{
+    FEW_LINES_TO_LOOK_AT, LEAST_NEAR_LOOKS, MOST_MISLED, MOST_NEAR_LOOKS, SAMPLE_LINES,
+    SAMPLE_STEPS,
+};
 use roster_problem::Problem;
 use roster_regions::{Choice, Region};
 use std::alloc::{AllocError, Global};
@@ -31,6 +34,8 @@ pub(crate) struct NearLines {
     // How many looks there were since the lists were made, and how many may be.
     looks: u32,
     most_looks: u32,
+    // How often in a row lists hadn't all that counted.
+    misled: u32,
     // How far prices went since then, and how far they may.
     drift: i64,
     reach: i64,
@@ -45,6 +50,7 @@ impl NearLines {
             count: 0,
             looks: 0,
             most_looks: LEAST_NEAR_LOOKS,
+            misled: 0,
             drift: 0,
             reach: 0,
         }
@@ -75,9 +81,17 @@ impl NearLines {
         self.is_all() || self.looks >= self.most_looks || self.drift > self.reach
     }
 
-    /// Whether that look is to make lists.
-    pub(crate) fn is_to_be_made(&self) -> bool {
+    /// Whether that look is to make lists, of so many lines.
+    pub(crate) fn is_to_be_made(&self, lines: usize) -> bool {
+        if self.misleads(lines) {
+            return false;
+        }
         !self.is_all() || self.looks == 0 || self.looks >= LEAST_NEAR_LOOKS
+    }
+
+    /// Whether lists have misled so often that of so many lines all are to count.
+    pub(crate) fn misleads(&self, lines: usize) -> bool {
+        self.misled >= MOST_MISLED && lines <= FEW_LINES_TO_LOOK_AT
     }
 
     /// Whether no list was made yet.
@@ -93,6 +107,15 @@ impl NearLines {
     /// Prices went so far.
     pub(crate) fn drift(&mut self, far: i64) {
         self.drift = self.drift.saturating_add(far);
+    }
+
+    /// The next look is at all of so many lines. If they are few, it tells whether lists misled.
+    pub(crate) fn hurry(&mut self, lines: usize) {
+        if lines > FEW_LINES_TO_LOOK_AT {
+            self.leave();
+        } else {
+            self.looks = self.looks.max(self.most_looks);
+        }
     }
 
     /// All lines count again. The next look makes lists anew.
@@ -181,10 +204,12 @@ impl NearLines {
 
     /// Looks are at all lines less often, if the lists had all that counted, or else more often.
     pub(crate) fn trust(&mut self, had_all: bool) {
-        self.most_looks = if had_all {
-            self.most_looks.saturating_mul(2).min(MOST_NEAR_LOOKS)
+        if had_all {
+            self.misled = 0;
+            self.most_looks = self.most_looks.saturating_mul(2).min(MOST_NEAR_LOOKS);
         } else {
-            (self.most_looks / 2).max(LEAST_NEAR_LOOKS)
-        };
+            self.misled = self.misled.saturating_add(1);
+            self.most_looks = (self.most_looks / 2).max(LEAST_NEAR_LOOKS);
+        }
     }
 }

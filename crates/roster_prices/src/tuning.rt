@@ -25,6 +25,11 @@ pub(crate) const DAMPING: i64 = 3_072;
 /// Fixing is worth its time once the bound has risen by a part in so many of what was missing.
 pub(crate) const FIXING_RISE: i64 = 4;
 
+/// A node with fewer lines fixes after its first look in any case, as it is cheap, and what follows for
+/// pairings is drawn sooner: without that a dense book of 20 crew took twice as long. One with more fixes if
+/// some line goes: else `ties 16 4 14`, whose lines are all near the least, took three times as long.
+pub(crate) const FEW_LINES_AT_A_NODE: usize = 20_000;
+
 /// Lines lose half their weight at twice a person's share of the gap between bound and room, or before:
 /// a halving has 2^5 parts, so softness is at most the share's logarithm less this. Without such a limit
 /// seven of 25 shares and eight of 36 dense books don't end in 3 s; with it all end within 0.2 s.
@@ -57,6 +62,14 @@ pub(crate) const LEAST_NEAR_LOOKS: u32 = 8;
 
 /// See `LEAST_NEAR_LOOKS`.
 pub(crate) const MOST_NEAR_LOOKS: u32 = 32;
+
+/// After so many lists in a row that hadn't all that counted, looks are at all lines for good, if those are
+/// few. If pairings are alike, as in `ties 12 5 6`, too many lines are as near as the least: a list of some
+/// of them lacks some pairing, whose price then goes astray.
+pub(crate) const MOST_MISLED: u32 = 3;
+
+/// See `MOST_MISLED`.
+pub(crate) const FEW_LINES_TO_LOOK_AT: usize = 250_000;
 
 /// Fewer lines than this are looked at sooner than threads are started: from 20,000 on, four workers took
 /// 1.4 times as long as one on a month of one base.
