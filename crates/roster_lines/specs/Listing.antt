@@ -45,6 +45,11 @@ pub record ArePairs (problem : Problem) (k : ℕ) (pairs : Pairs) : Type 0 where
   pub rows : (p : ℕ) (row : List ℕ) → slice_get pairs.rows.items p ≡ Some row → IsRow problem k p row
   pub flights : AreFlights problem k pairs.flights.items
 
+-- those of each person
+pub record AreAllPairs (problem : Problem) (all : List Pairs) : Type 0 where
+  pub long : length all ≡ length problem.persons
+  pub each : (k : ℕ) (pairs : Pairs) → slice_get all k ≡ Some pairs → ArePairs problem k pairs
+
 -- The sets are lines of person k that stand before the mark, and each that is wanted of those there is
 -- among them.
 pub record IsUpTo (problem : Problem) (k : ℕ) (wants : List ℕ → Type 0) (mark : List ℕ) (sets : List (List ℕ)) : Type 0 where

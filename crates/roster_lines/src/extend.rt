@@ -93,13 +93,35 @@ pub fn wanted_lines<W: Wanted>(
     parts_are_legal(problem);
     let mut judge = Judge::new(alloc, problem);
     let pairs = pairs_of(alloc, &mut judge, problem, k)?;
+    lines_of_pairs(alloc, problem, k, &pairs, wanted, most)
+}
+
+/// `wanted_lines`, for which the pairs of person `k` are known.
+pub(crate) fn lines_of_pairs<W: Wanted>(
+    alloc: Global,
+    problem: &Problem,
+    k: usize,
+    pairs: &Pairs,
+    wanted: &W,
+    most: usize,
+) -> Result<Lines, LinesFault>
+    requires person { k < length problem.now.persons }
+    requires pairs { ArePairs problem.now k pairs.now }
+    requires limit { (0 < most) × (most ≤ MOST_LINES) }
+    ensures lines { IfOk result (λ lines. AreWantedLines problem.now k
+        (W.wants wanted.now problem.now k) (sets_of lines)) }
+    ensures costs { IfOk result (AreCosted problem.now k) }
+    ensures few { IfOk result (λ lines. length lines ≤ most) }
+    ensures fault { IfErr result (IsFaultWithin problem.now k most) }
+{
+    parts_are_legal(problem);
     let loads = Loads::new(alloc, problem, k, pairs.alone)?;
     let judged = JudgedSet::empty(alloc, &loads)?;
     let root = Stem::root(problem, k, pairs.alone);
     let mut lines = Lines::empty(alloc, root.cost(problem, k))?;
     let mut spare = Spare::new(alloc);
     extend(
-        &mut spare, &judged, problem, k, wanted, most, &pairs, &root, &mut lines,
+        &mut spare, &judged, problem, k, wanted, most, pairs, &root, &mut lines,
     )?;
     Ok(lines)
 }
@@ -185,7 +207,7 @@ fn line_with<'a, W: Wanted>(
 }
 
 /// What is part of a legal set is legal.
-fn parts_are_legal(problem: &Problem)
+pub(crate) fn parts_are_legal(problem: &Problem)
     ensures { (k : ℕ) → ArePartsLegal problem.now k }
 {
     part_of_legal_is_legal();

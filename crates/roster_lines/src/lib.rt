@@ -35,7 +35,7 @@ pub use laws::{
     one_list_of_numbers,
 };
 pub use lines::{Lines, Row};
-pub use pairs::{Pairs, pairs_of};
+pub use pairs::{Pairs, all_pairs, pairs_of};
 pub use shared::all_lines;
 pub use shared_lines::SharedLines;
 pub use table::{Table, TableFault, table_of};

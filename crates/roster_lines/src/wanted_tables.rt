@@ -2,12 +2,14 @@
 
 ghost use Rattle.std.specs.Prelude.{◌≡◌, ◌<◌, ◌≤◌, ℕ, IfErr, IfOk, length};
 ghost use Rattle.roster_model.specs.Problem.{Problem as Book};
+ghost use Rattle.roster_lines.specs.Listing.{AreAllPairs};
 ghost use Rattle.roster_lines.specs.Person.{AreListed};
 ghost use Rattle.roster_lines.specs.SomeLines.{IsFaultWithin};
 ghost use Rattle.roster_lines.specs.TableFaults.{IsTableFaultWithin};
 ghost use Rattle.roster_lines.specs.WantedTables.{AreAllWanted};
 
-use crate::extend::{LinesFault, wanted_lines};
+use crate::extend::{LinesFault, lines_of_pairs};
+use crate::pairs::Pairs;
 use crate::table::{Table, TableFault};
 use crate::wanted::Wanted;
 use roster_model::limits::MOST_LINES;
@@ -15,13 +17,15 @@ use roster_problem::Problem;
 use std::alloc::Global;
 
 /// The lines of each person that are wanted of that person, and those that they go on from, if no person's
-/// are more than `most`.
+/// are more than `most`. The pairs of all persons are known, as `all_pairs` has them.
 pub fn wanted_table<W: Wanted>(
     alloc: Global,
     problem: &Problem,
+    pairs: &[Pairs],
     wanted: &[W],
     most: usize,
 ) -> Result<Table, TableFault>
+    requires pairs { AreAllPairs problem.now pairs.now }
     requires covers { length wanted.now ≡ length problem.now.persons }
     requires limit { (0 < most) × (most ≤ MOST_LINES) }
     ensures listed { IfOk result (AreListed problem.now) }
@@ -30,7 +34,7 @@ pub fn wanted_table<W: Wanted>(
 {
     let mut table = Table::empty(alloc);
     for k in 0..problem.persons().len() {
-        match wanted_lines(alloc, problem, k, &wanted[k], most) {
+        match lines_of_pairs(alloc, problem, k, &pairs[k], &wanted[k], most) {
             Ok(lines) => table.push(alloc, lines)?,
             Err(fault) => return Err(fault_at(k, fault)),
         }

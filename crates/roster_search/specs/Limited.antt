@@ -1,6 +1,8 @@
 -- Searches that may be given up.
-use Rattle.std.specs.Prelude.{List, ℤ}
+use Rattle.std.specs.Prelude.{List, Some, unwrap_or, ℤ}
 use Rattle.roster_model.specs.Problem.{Problem}
+use Rattle.roster_model.specs.Rosters.{Key}
+use Rattle.roster_model.specs.Settled.{Settles}
 use Rattle.roster_lines.specs.Entries.{Entry}
 use Rattle.roster_lines.specs.Person.{IsOfTable}
 use Rattle.roster_search.specs.declared.limited.Searched.{Searched}
@@ -11,3 +13,8 @@ use Rattle.roster_search.specs.Least.{IsLeastBelow}
 abbrev pub IsSearched : Problem → List (List Entry) → ℤ → Searched → Type 0
 IsSearched problem table limit (Settled found) = IsLeastBelow problem (IsOfTable table) limit found
 IsSearched problem table limit GivenUp = Unit {0}
+
+-- the earlier one of the known roster and of the least roster of the table
+abbrev pub IsSearchedFrom : Problem → List (List Entry) → Key → Searched → Type 0
+IsSearchedFrom problem table known (Settled found) = Settles problem (IsOfTable table) (IsOfTable table) (Some known) (unwrap_or found known)
+IsSearchedFrom problem table known GivenUp = Unit {0}

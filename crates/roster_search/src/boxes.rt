@@ -87,7 +87,7 @@ pub(crate) fn whole(
 }
 
 /// `least_of_box`, if the least rosters of some bases are known.
-fn least_with<F: Finder>(
+pub(crate) fn least_with<F: Finder>(
     alloc: Global,
     problem: &Problem,
     table: &Table,

@@ -41,5 +41,5 @@ mod tuning;
 mod visiting;
 
 pub use boxes::{least_of_box, search_bases};
-pub use limited::{Searched, least_within};
+pub use limited::{Searched, least_by_bases, least_within};
 pub use nodes::Nodes;

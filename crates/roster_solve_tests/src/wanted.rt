@@ -6,8 +6,8 @@ ghost use Rattle.roster_lines.specs.Person.{AreListed};
 use crate::books::{problem_of, read};
 use crate::lines::{COSTS, TWO_DAYS, set_of};
 use roster_lines::{
-    Between, Lines, LinesFault, Table, TableFault, Wanted, lines_between, lines_of, wanted_lines,
-    wanted_table,
+    Between, Lines, LinesFault, Table, TableFault, Wanted, all_pairs, lines_between, lines_of,
+    wanted_lines, wanted_table,
 };
 use roster_model::limits::MOST_LINES;
 use roster_problem::{Problem, Set};
@@ -146,7 +146,8 @@ fn table_with_the_sixth(
         must: set_of(&[5]),
         may: set_of(&[0, 9]),
     }];
-    wanted_table(alloc, problem, &wanted, most)
+    let pairs = all_pairs(alloc, problem)?;
+    wanted_table(alloc, problem, &pairs, &wanted, most)
 }
 
 /// Checks the table of those lines.
