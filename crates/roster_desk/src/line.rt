@@ -28,6 +28,8 @@ pub(crate) struct PlanLine<'a> {
     pub(crate) book: &'a str,
     /// How much is to be tried, from 0 to 9.
     pub(crate) effort: u32,
+    /// The path of the report that gives the roster to begin with, or `-`; none if the book gives it.
+    pub(crate) start: Option<&'a str>,
 }
 
 /// What is told of a roster of a book.
@@ -124,18 +126,23 @@ fn person<'a>(alloc: Global) -> Arg<'a> {
         .help("Only this person")
 }
 
-/// `plan`, with its book and its effort.
+/// `plan`, with its book, its effort and its start.
 fn plan<'a>(alloc: Global) -> Result<Command<'a>, AllocError> {
     let effort = Arg::new(alloc, "effort")
         .long("effort")
         .value_name("N")
         .value_parser(builder::ValueParser::unsigned(0, 9))
         .default_value("5")
-        .help("How much is tried, from 0 to 9: each one more doubles it");
+        .help("How much is tried, from 0 to 9: each one more takes about twice as long");
+    let start = Arg::new(alloc, "start")
+        .long("start")
+        .value_name("REPORT")
+        .help("A report or plan to begin with, or -; what isn't legal of it is left out");
     Command::new(alloc, "plan")
         .about("Writes a legal roster of the book, however large it is, and a bound of its cost")
         .arg(book(alloc))?
-        .arg(effort)
+        .arg(effort)?
+        .arg(start)
 }
 
 /// `why`, with its book and report, and what it may be asked of.
@@ -273,12 +280,17 @@ fn asked<'a>(matches: &ArgMatches<'a>) -> Option<Line<'a>> {
     Some(Line::Tell(line))
 }
 
-/// The book and the effort in the matches.
+/// The book, the effort and the start in the matches.
 fn planned<'a>(matches: &ArgMatches<'a>) -> Option<PlanLine<'a>> {
     let found = matches.subcommand_matches("plan")?;
     let book = found.get_str("book")?;
     let effort = found.get_one::<u32>("effort").unwrap_or(USUAL_EFFORT);
-    Some(PlanLine { book, effort })
+    let start = found.get_str("start");
+    Some(PlanLine {
+        book,
+        effort,
+        start,
+    })
 }
 
 /// What is to be told by the matches.

@@ -5,8 +5,8 @@
 //! - `telling`: what is told of a roster, and the records of a report
 //! - `pages`: what is told of the records of a book
 //!
-//! `main` opens the book and hands it to `run` of `roster_desk_run`, or reads it and the reports whole and
-//! hands them to `tell` or `show`.
+//! `main` opens the book and hands it to `run` of `roster_desk_run`, with the report that a plan begins with,
+//! or reads it and the reports whole and hands them to `tell` or `show`.
 #![tactic(auto)]
 
 mod inputs;
@@ -68,32 +68,54 @@ fn answer(rt: &HostRuntime, line: &Line<'_>) -> ExitCode {
     }
 }
 
-/// Plans the book.
+/// Plans the book, from the roster of a report if the line names one.
 fn answer_plan(rt: &HostRuntime, line: &PlanLine<'_>) -> ExitCode {
+    let Some(path) = line.start else {
+        return plan_from(rt, line, None);
+    };
+    if line.book == STANDARD_INPUT && path == STANDARD_INPUT {
+        return inputs_shared(rt);
+    }
+    match read_report_at(rt, path) {
+        Ok(report) => plan_from(rt, line, Some(report.as_slice())),
+        Err(fault) => unread_input(rt, fault),
+    }
+}
+
+/// Plans the book, from the roster of the report if there is one.
+fn plan_from(rt: &HostRuntime, line: &PlanLine<'_>, report: Option<&[u8]>) -> ExitCode {
     let book = line.book;
     if book == STANDARD_INPUT {
-        return plan(rt, line, &mut Watched::new(rt.reader()));
+        return plan(rt, line, report, &mut Watched::new(rt.reader()));
     }
     match File::open(rt, book) {
-        Ok(file) => plan(rt, line, &mut Watched::new(file)),
+        Ok(file) => plan(rt, line, report, &mut Watched::new(file)),
         Err(error) if error.kind() == io::ErrorKind::OutOfMemory => ended(rt, Status::Memory),
         Err(_) => unopened(rt, book),
     }
 }
 
 /// Plans the book that is read.
-fn plan<R: Read>(rt: &HostRuntime, line: &PlanLine<'_>, reader: &mut Watched<R>) -> ExitCode
+fn plan<R: Read>(
+    rt: &HostRuntime,
+    line: &PlanLine<'_>,
+    report: Option<&[u8]>,
+    reader: &mut Watched<R>,
+) -> ExitCode
     requires { has_failed reader.old ≡ false }
 {
     let mut writer = Watched::new(io::writer(rt));
-    ended(rt, run(rt.alloc(), line.effort, reader, &mut writer))
+    let status = run(rt.alloc(), line.effort, report, reader, &mut writer);
+    if let (Some(path), Status::StartRefused { line, wrong }) = (line.start, status) {
+        let _ = eprintln!(rt; "error: {path}, line {line}: {wrong}");
+    }
+    ended(rt, status)
 }
 
 /// Tells of a roster.
 fn answer_tell(rt: &HostRuntime, line: &TellLine<'_>) -> ExitCode {
     if shares_input(line) {
-        let _ = eprintln!(rt; "error: only one of the paths may be -");
-        return ExitCode::from(LINE_REFUSED);
+        return inputs_shared(rt);
     }
     let inputs = match read_inputs(rt, line) {
         Ok(inputs) => inputs,
@@ -149,6 +171,12 @@ fn untold_ended(rt: &HostRuntime, untold: &Untold<'_>) -> ExitCode {
         }
         Untold::Memory => ended(rt, Status::Memory),
     }
+}
+
+/// Tells that more than one path is standard input.
+fn inputs_shared(rt: &HostRuntime) -> ExitCode {
+    let _ = eprintln!(rt; "error: only one of the paths may be -");
+    ExitCode::from(LINE_REFUSED)
 }
 
 /// Tells why an input wasn't read.

@@ -2,16 +2,18 @@
 use Rattle.std.proofs.Common.{◌≡◌, ℕ, List, Option, Some, None, sym, ◌∙◌, subst, inl, inr, ℤ}
 use Rattle.roster_book.specs.Reading.{IsBookOf, OfTold}
 use Rattle.roster_book.specs.declared.book.Book.{Book}
-use Rattle.roster_model.specs.Answer.{IsFirstFault, records_of}
+use Rattle.roster_model.specs.Answer.{IsFirstFault, IsRefusal, records_of}
 use Rattle.roster_model.specs.Faults.{Fault, first_fault}
-use Rattle.roster_model.specs.Plans.{IsPlan, IsPlanAnswer, IsPlanReport, IsPlanned}
+use Rattle.roster_model.specs.Plans.{IsPlan, IsPlanReport}
 use Rattle.roster_model.specs.Problem.{Problem}
 use Rattle.roster_model.specs.Record.{Check, Record}
 use Rattle.roster_model.specs.records.Assign.{assigned_in}
 use Rattle.roster_model.specs.Rosters.{Key}
-use Rattle.roster_model.specs.Texts.{IsPlanOf}
+use Rattle.roster_model.specs.Settled.{IsBest}
+use Rattle.roster_model.specs.Texts.{IsPlanOf, IsReportOf}
+use Rattle.roster_desk_run.specs.Run.{IsAnswerTo, IsFaultless, IsPlanFrom, IsPlanOfBook, IsRosterOf}
 
-text-weaker : (P Q Out : List ℕ → Type 0) → ((text : List ℕ) → P text → Q text) → (text : List ℕ) × P text × Out text → (text : List ℕ) × Q text × Out text
+pub text-weaker : (P Q Out : List ℕ → Type 0) → ((text : List ℕ) → P text → Q text) → (text : List ℕ) × P text × Out text → (text : List ℕ) × Q text × Out text
 text-weaker P Q Out more w = (w.0, more w.0 w.1, w.2)
 
 -- a text is written of the records of a book, where one of its problem is
@@ -26,16 +28,40 @@ no_fault records fault none (inl is) =
     absurd cc
 no_fault records fault none (inr is) = is.later
 
-pub plan_of_book : (records : List Record) (book : Book) → IsBookOf Check records book → (text : List ℕ) → IsPlanReport book.problem book.assigned text → IsPlanned records text
-plan_of_book records book is text p = record {
+pub plan_of_book : (report : Option (List ℕ)) (records : List Record) (book : Book) → IsBookOf Check records book → (text : List ℕ) → IsPlanFrom report book.problem book.assigned text → IsPlanOfBook report records text
+plan_of_book None records book is text p = record {
   faultless = λ fault first. no_fault records fault is.faultless first;
   reports = subst (λ tables. IsPlanReport tables (assigned_in records) text) is.problem_is (subst (λ places. IsPlanReport book.problem places text) is.assigned_is p);
 }
+plan_of_book (Some report) records book is text p = record {
+  faultless = λ fault first. no_fault records fault is.faultless first;
+  start = p.0;
+  is_start = subst (λ tables. IsRosterOf tables report p.0) is.problem_is p.1;
+  reports = subst (λ tables. IsPlanReport tables p.0 text) is.problem_is p.2;
+}
 
-pub answer_of_book : (records : List Record) (book : Book) → IsBookOf Check records book → (text : List ℕ) → IsPlanReport book.problem book.assigned text → IsPlanAnswer records text
-answer_of_book records book is text p = inr (plan_of_book records book is text p)
+pub answer_of_book : (report : Option (List ℕ)) (records : List Record) (book : Book) → IsBookOf Check records book → (text : List ℕ) → IsPlanFrom report book.problem book.assigned text → IsAnswerTo report records text
+answer_of_book None records book is text p = inr (plan_of_book None records book is text p)
+answer_of_book (Some report) records book is text p = inr (plan_of_book (Some report) records book is text p)
+
+-- a refusal is an answer
+pub answer_of_refusal : (report : Option (List ℕ)) (records : List Record) (text : List ℕ) → IsRefusal Check records text → IsAnswerTo report records text
+answer_of_refusal None records text refusal = inl refusal
+answer_of_refusal (Some report) records text refusal = inl refusal
+
+-- a plan that begins with a roster of the report
+pub from_report : (report : List ℕ) (problem : Problem) (assigned start : List ℕ) → IsRosterOf problem report start → (text : List ℕ) → IsPlanReport problem start text → IsPlanFrom (Some report) problem assigned text
+from_report report problem assigned start is text p = (start, is, p)
 
 -- the text of a plan, of a roster and a bound that are one
-pub report_of_plan : (problem : Problem) (given : List ℕ) (key : Key) (bound : ℤ) (Out : List ℕ → Type 0) → IsPlan problem given key bound → (text : List ℕ) × IsPlanOf problem bound key.places text × Out text → (text : List ℕ) × IsPlanReport problem given text × Out text
-report_of_plan problem given key bound Out plan w =
-    (w.0, record { key = key; bound = bound; plan = plan; written = w.1 }, w.2)
+pub report_of_plan : (problem : Problem) (given : List ℕ) (key : Key) (bound : ℤ) → IsPlan problem given key bound → (text : List ℕ) → IsPlanOf problem bound key.places text → IsPlanReport problem given text
+report_of_plan problem given key bound plan text written = inl (record { key = key; bound = bound; plan = plan; written = written })
+
+-- that of the best roster
+pub report_of_best : (problem : Problem) (given places : List ℕ) → IsBest problem places → (text : List ℕ) → IsReportOf problem places text → IsPlanReport problem given text
+report_of_best problem given places best text written = inr (record { places = places; best = best; written = written })
+
+-- a book that is read has no fault
+pub faultless_of_book : (book : Book) (told : Option (List ℕ)) → OfTold (λ records. IsBookOf Check records book) told → OfTold IsFaultless told
+faultless_of_book book None read = (read.0, λ fault first. no_fault read.0 fault read.1.faultless first)
+faultless_of_book book (Some bytes) read = λ fault first. no_fault (records_of bytes) fault read.faultless first

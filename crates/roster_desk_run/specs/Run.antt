@@ -1,16 +1,67 @@
--- How a run ends that answers a book with a plan.
-use Rattle.std.specs.Prelude.{◌≡◌, ℕ, List}
+-- What a plan is that may begin with a roster of a report, and how a run ends that answers a book with one.
+use Rattle.std.specs.Prelude.{◌≡◌, ◌<◌, ◌≤◌, ◌⊎◌, ℕ, Option, Some, None, List, All, length, slice_get}
+use Rattle.roster_model.specs.Answer.{IsFirstFault, IsRefusal}
+use Rattle.roster_model.specs.Faults.{Fault}
+use Rattle.roster_model.specs.Plans.{IsPlanAnswer, IsPlanned, IsPlanReport}
+use Rattle.roster_model.specs.Problem.{Problem, problem_of}
+use Rattle.roster_model.specs.Record.{Check, Record}
 use Rattle.roster_model.specs.Texts.{fault_text}
+use Rattle.roster_reports.specs.Given.{HasAll, IsGiven}
+use Rattle.roster_reports.specs.Text.{given_by_text}
 use Rattle.roster_desk_run.specs.declared.status.Status.{Status}
 use Rattle.roster_desk_run.specs.declared.status.Status.TheVariants as statuses
 
+-- ---- where a plan begins
+
+-- the roster has what a report gives, and nothing else
+pub record IsRosterOf (problem : Problem) (report places : List ℕ) : Type 0 where
+  pub covers : length places ≡ length problem.pairings
+  pub numbers : All (λ x. x ≤ length problem.persons) places
+  pub has : HasAll problem places (given_by_text report)
+  pub only : (p k : ℕ) → k < length problem.persons → slice_get places p ≡ Some k → IsGiven problem (given_by_text report) p k
+
+-- the text is that of a plan which begins with the assignments, or with the roster of the report if there is one
+abbrev pub IsPlanFrom : Option (List ℕ) → Problem → List ℕ → List ℕ → Type 0
+IsPlanFrom None problem assigned text = IsPlanReport problem assigned text
+IsPlanFrom (Some report) problem assigned text =
+    (start : List ℕ) × IsRosterOf problem report start × IsPlanReport problem start text
+
+-- no record of the book has a fault
+abbrev pub IsFaultless : List Record → Type 0
+IsFaultless book = (fault : Fault) → ¬ IsFirstFault Check book fault
+
+-- the book has no fault, and the text is a plan of it that begins with the roster of the report
+pub record IsPlannedFrom (report : List ℕ) (book : List Record) (text : List ℕ) : Type 0 where
+  pub faultless : IsFaultless book
+  pub start : List ℕ
+  pub is_start : IsRosterOf (problem_of book) report start
+  pub reports : IsPlanReport (problem_of book) start text
+
+-- the text is a plan of the book, which begins with the roster of the report if there is one
+abbrev pub IsPlanOfBook : Option (List ℕ) → List Record → List ℕ → Type 0
+IsPlanOfBook None book text = IsPlanned book text
+IsPlanOfBook (Some report) book text = IsPlannedFrom report book text
+
+-- the text answers the book that is to be planned so
+abbrev pub IsAnswerTo : Option (List ℕ) → List Record → List ℕ → Type 0
+IsAnswerTo None book text = IsPlanAnswer book text
+IsAnswerTo (Some report) book text = IsRefusal Check book text ⊎ IsPlannedFrom report book text
+
+-- ---- how a run ends
+
 abbrev pub IsFaultLine : ℕ → ℕ → List ℕ → Type 0
 IsFaultLine row code text = text ≡ fault_text (record { row = row; code = code })
+
+-- the report is refused
+abbrev pub IsStartRefused : Status → Type 0
+IsStartRefused (statuses.StartRefused line wrong) = Unit {0}
+IsStartRefused _ = ⊥
 
 -- the exit status of each outcome
 abbrev pub exit_number : Status → ℕ
 exit_number statuses.Answered = 0
 exit_number statuses.Refused = 1
+exit_number (statuses.StartRefused line wrong) = 1
 exit_number statuses.Memory = 3
 exit_number statuses.ReadFailed = 4
 exit_number statuses.WriteFailed = 4

@@ -1,4 +1,5 @@
-//! From the bytes of a reader to the plan of their book, written to a writer.
+//! From the bytes of a reader to the plan of their book, or the report of its best roster, written to a
+//! writer. The plan begins with the book's assignments, or with the roster of a report.
 //!
 //! - `running`: a book is read, and its one answer written
 //! - `status`: how a run ends

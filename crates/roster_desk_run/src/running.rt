@@ -1,34 +1,43 @@
 //! A run: a book is read, and its one answer written.
 
-ghost use Rattle.std.specs.Prelude.{◌≡◌, ◌≢◌, ◌↔◌, ◌≤◌, All, length, true, false};
+ghost use Rattle.std.specs.Prelude.{◌≡◌, ◌≢◌, ◌↔◌, ◌≤◌, All, IsErrOf, OnOk, length, true, false};
+ghost use Rattle.std.specs.Prelude.{None, option_map};
 ghost use Rattle.roster_model.specs.Answer.{IsRefusal};
-ghost use Rattle.roster_model.specs.Plans.{IsPlanAnswer, IsPlanned, IsPlanReport};
+ghost use Rattle.roster_model.specs.Plans.{IsPlan, IsPlanReport};
 ghost use Rattle.roster_model.specs.Record.{Check};
+ghost use Rattle.roster_model.specs.Settled.{IsBest};
 ghost use Rattle.roster_book.specs.Reading.{OfTold};
 ghost use Rattle.roster_watched.specs.Watch.{inner_of, has_failed, is_flushed};
 ghost use Rattle.roster_report.specs.Writing.{Writes, WritesPart};
-ghost use Rattle.roster_desk_run.specs.Run.{IsFaultLine};
+ghost use Rattle.roster_desk_run.specs.Run.{IsAnswerTo, IsFaultLine, IsFaultless};
+ghost use Rattle.roster_desk_run.specs.Run.{IsPlanFrom, IsPlanOfBook, IsStartRefused};
 
 use crate::status::Status;
 use roster_book::{Book, BookFault, Command, Watched, read_book};
-use roster_plan::plan;
-use roster_report::{TextFault, write_fault, write_plan};
+use roster_plan::{Planned, plan};
+use roster_problem::Problem;
+use roster_report::{TextFault, write_fault, write_plan, write_report};
+use roster_reports::{ReportFault, read_roster};
 use std::alloc::Global;
 use std::io::{Read, Write};
 
 /// Reads a book to its end or to its first fault, plans it with so much effort, from 0 to 9, and writes
-/// the one answer. The status tells if that could not be done.
+/// the one answer. The plan begins with the roster that the report gives, if there is one, and else with the
+/// book's assignments. The status tells if that could not be done.
 pub fn run<R: Read, W: Write>(
     alloc: Global,
     effort: u32,
+    report: Option<&[u8]>,
     reader: &mut Watched<R>,
     writer: &mut Watched<W>,
 ) -> Status
     requires reader_open { has_failed reader.old ≡ false }
     requires writer_open { has_failed writer.old ≡ false }
 
-    // A plan of the book in the bytes that the reader told, or, if its bytes aren't known, of some book.
-    ensures answered { result ≡ Status.Answered → OfTold (λ records. Writes (IsPlanned records)
+    // A plan of the book in the bytes that the reader told, or the report of its best roster; of some book
+    // if its bytes aren't known.
+    ensures answered { result ≡ Status.Answered → OfTold (λ records.
+        Writes (IsPlanOfBook (option_map (λ bytes. bytes.now) report.entry) records)
         (W.contents (inner_of writer.old)) (W.contents (inner_of writer.new)))
         (R.remaining (inner_of reader.old)) }
     // The line of the first fault in those bytes, as a check tells it.
@@ -37,7 +46,7 @@ pub fn run<R: Read, W: Write>(
         (R.remaining (inner_of reader.old)) }
     // The first bytes of one of them.
     ensures part { result ≡ Status.WriteFailed
-        → OfTold (λ records. WritesPart (IsPlanAnswer records)
+        → OfTold (λ records. WritesPart (IsAnswerTo (option_map (λ bytes. bytes.now) report.entry) records)
         (W.contents (inner_of writer.old)) (W.contents (inner_of writer.new)))
         (R.remaining (inner_of reader.old)) }
 
@@ -52,9 +61,15 @@ pub fn run<R: Read, W: Write>(
     // Nothing was written.
     ensures memory { result ≡ Status.Memory → writer.new ≡ writer.old }
     ensures unread_unwritten { result ≡ Status.ReadFailed → writer.new ≡ writer.old }
+    ensures start_refused { IsStartRefused result → writer.new ≡ writer.old }
+
+    // Only a report is refused so, of a book without a fault.
+    ensures start_there { IsStartRefused result → report.entry ≢ None }
+    ensures start_of_book { IsStartRefused result
+        → OfTold IsFaultless (R.remaining (inner_of reader.old)) }
 {
     match read_book(alloc, reader, Command::Check) {
-        Ok(book) => answer(alloc, effort, &book, writer),
+        Ok(book) => answer(alloc, effort, report, &book, writer),
         Err(BookFault::At { row, code }) => refuse(alloc, row, code, writer),
         Err(BookFault::Device) => Status::ReadFailed,
         Err(BookFault::Memory) => Status::Memory,
@@ -71,6 +86,7 @@ fn refuse<W: Write>(alloc: Global, row: usize, code: u8, writer: &mut Watched<W>
     ensures write_failed { (result ≡ Status.WriteFailed) ↔ (has_failed writer.new ≡ true) }
     ensures flushed { result ≡ Status.Refused → is_flushed writer.new ≡ true }
     ensures memory { result ≡ Status.Memory → writer.new ≡ writer.old }
+    ensures start_refused { ¬ IsStartRefused result }
     ensures others { (result ≢ Status.Answered) × (result ≢ Status.ReadFailed) }
 {
     match write_fault(alloc, row, code, writer) {
@@ -80,28 +96,95 @@ fn refuse<W: Write>(alloc: Global, row: usize, code: u8, writer: &mut Watched<W>
     }
 }
 
-/// Writes a plan of a book in which no record has a fault.
-fn answer<W: Write>(alloc: Global, effort: u32, book: &Book, writer: &mut Watched<W>) -> Status
+/// Plans a book in which no record has a fault, and writes what was found.
+fn answer<W: Write>(
+    alloc: Global,
+    effort: u32,
+    report: Option<&[u8]>,
+    book: &Book,
+    writer: &mut Watched<W>,
+) -> Status
     requires open { has_failed writer.old ≡ false }
     requires covers { length book.now.assigned ≡ length book.now.problem.pairings }
     requires numbers { All (λ x. x ≤ length book.now.problem.persons) book.now.assigned }
-    ensures answered { result ≡ Status.Answered
-        → Writes (IsPlanReport book.now.problem book.now.assigned)
+    ensures answered { result ≡ Status.Answered → Writes
+        (IsPlanFrom (option_map (λ bytes. bytes.now) report.entry) book.now.problem book.now.assigned)
         (W.contents (inner_of writer.old)) (W.contents (inner_of writer.new)) }
-    ensures part { result ≡ Status.WriteFailed
-        → WritesPart (IsPlanReport book.now.problem book.now.assigned)
+    ensures part { result ≡ Status.WriteFailed → WritesPart
+        (IsPlanFrom (option_map (λ bytes. bytes.now) report.entry) book.now.problem book.now.assigned)
         (W.contents (inner_of writer.old)) (W.contents (inner_of writer.new)) }
     ensures write_failed { (result ≡ Status.WriteFailed) ↔ (has_failed writer.new ≡ true) }
     ensures flushed { result ≡ Status.Answered → is_flushed writer.new ≡ true }
     ensures memory { result ≡ Status.Memory → writer.new ≡ writer.old }
+    ensures start_refused { IsStartRefused result → writer.new ≡ writer.old }
+    ensures start_there { IsStartRefused result → report.entry ≢ None }
     ensures others { (result ≢ Status.Refused) × (result ≢ Status.ReadFailed) }
 {
-    let Ok(planned) = plan(alloc, &book.problem, book.assigned.as_slice(), effort) else {
+    let problem = &book.problem;
+    let Some(report) = report else {
+        return answer_from(alloc, effort, problem, book.assigned.as_slice(), writer);
+    };
+    match read_roster(alloc, problem, report) {
+        Ok(start) => answer_from(alloc, effort, problem, start.as_slice(), writer),
+        Err(ReportFault::At { line, wrong }) => Status::StartRefused { line, wrong },
+        Err(ReportFault::Memory) => Status::Memory,
+    }
+}
+
+/// Writes a plan that begins with these places.
+fn answer_from<W: Write>(
+    alloc: Global,
+    effort: u32,
+    problem: &Problem,
+    start: &[u16],
+    writer: &mut Watched<W>,
+) -> Status
+    requires open { has_failed writer.old ≡ false }
+    requires covers { length start.now ≡ length problem.now.pairings }
+    requires numbers { All (λ x. x ≤ length problem.now.persons) start.now }
+    ensures answered { result ≡ Status.Answered → Writes (IsPlanReport problem.now start.now)
+        (W.contents (inner_of writer.old)) (W.contents (inner_of writer.new)) }
+    ensures part { result ≡ Status.WriteFailed → WritesPart (IsPlanReport problem.now start.now)
+        (W.contents (inner_of writer.old)) (W.contents (inner_of writer.new)) }
+    ensures write_failed { (result ≡ Status.WriteFailed) ↔ (has_failed writer.new ≡ true) }
+    ensures flushed { result ≡ Status.Answered → is_flushed writer.new ≡ true }
+    ensures memory { result ≡ Status.Memory → writer.new ≡ writer.old }
+    ensures start_refused { ¬ IsStartRefused result }
+    ensures others { (result ≢ Status.Refused) × (result ≢ Status.ReadFailed) }
+{
+    let Ok(planned) = plan(alloc, problem, start, effort) else {
         return Status::Memory;
     };
-    match write_plan(alloc, &book.problem, &planned.roster, planned.bound, writer) {
+    match write_planned(alloc, problem, start, &planned, writer) {
         Ok(()) => Status::Answered,
         Err(TextFault::Memory) => Status::Memory,
         Err(TextFault::Device) => Status::WriteFailed,
     }
+}
+
+/// Writes a plan that begins with these places, or the report of its roster if that is known to be the best
+/// one.
+fn write_planned<W: Write>(
+    alloc: Global,
+    problem: &Problem,
+    start: &[u16],
+    planned: &Planned,
+    writer: &mut Watched<W>,
+) -> Result<(), TextFault>
+    requires open { has_failed writer.old ≡ false }
+    requires plan { IsPlan problem.now start.now planned.now.roster planned.now.bound }
+    requires best { planned.now.is_best ≡ true → IsBest problem.now planned.now.roster.places }
+    ensures written { OnOk result (Writes (IsPlanReport problem.now start.now)
+        (W.contents (inner_of writer.old)) (W.contents (inner_of writer.new))) }
+    ensures holds { OnOk result (has_failed writer.new ≡ false) }
+    ensures flushed { OnOk result (is_flushed writer.new ≡ true) }
+    ensures memory { IsErrOf result TextFault.Memory → writer.new ≡ writer.old }
+    ensures device { IsErrOf result TextFault.Device → has_failed writer.new ≡ true }
+    ensures prefix { IsErrOf result TextFault.Device → WritesPart (IsPlanReport problem.now start.now)
+        (W.contents (inner_of writer.old)) (W.contents (inner_of writer.new)) }
+{
+    if planned.is_best {
+        return write_report(alloc, problem, &planned.roster, writer);
+    }
+    write_plan(alloc, problem, &planned.roster, planned.bound, writer)
 }

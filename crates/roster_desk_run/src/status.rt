@@ -4,15 +4,23 @@ ghost use Rattle.std.specs.Prelude.{◌≡◌};
 ghost use Rattle.std.specs.Process.{exit_status};
 ghost use Rattle.roster_desk_run.specs.Run.{exit_number};
 
+use roster_reports::Wrong;
 use std::process::ExitCode;
 
 /// How a run ended.
 #[derive(Clone, Copy, Debug, PartialEq, Eq)]
 pub enum Status {
-    /// The plan was written.
+    /// The plan was written, or the report of the best roster.
     Answered,
     /// The book has a fault, and its line was written.
     Refused,
+    /// The report with which the plan was to begin gives no roster of the book, and nothing was written.
+    StartRefused {
+        /// The number of its line, from 1.
+        line: usize,
+        /// What is wrong with it.
+        wrong: Wrong,
+    },
     /// Memory ran out, and nothing was written.
     Memory,
     /// The reader failed, and nothing was written.
@@ -28,16 +36,16 @@ impl Status {
     {
         match self {
             Status::Answered => ExitCode::SUCCESS,
-            Status::Refused => ExitCode::from(1),
+            Status::Refused | Status::StartRefused { .. } => ExitCode::from(1),
             Status::Memory => ExitCode::from(3),
             Status::ReadFailed | Status::WriteFailed => ExitCode::from(4),
         }
     }
 
-    /// What standard error is told, if anything.
+    /// What standard error is told, if anything. That a report is refused is told by whoever has its path.
     pub fn message(self) -> Option<&'static str> {
         match self {
-            Status::Answered | Status::Refused => None,
+            Status::Answered | Status::Refused | Status::StartRefused { .. } => None,
             Status::Memory => Some("error: memory"),
             Status::ReadFailed => Some("error: read"),
             Status::WriteFailed => Some("error: write"),

@@ -9,7 +9,7 @@ use Rattle.roster_model.specs.Places.{set_of, open_number}
 use Rattle.roster_model.specs.Rosters.{Key, key_of, key_le}
 use Rattle.roster_model.specs.Settled.{IsHeld, IsLowerBound}
 use Rattle.roster_model.specs.Texts.{IsPlanOf}
-use Rattle.roster_model.specs.Answer.{IsFirstFault, IsRefusal}
+use Rattle.roster_model.specs.Answer.{IsBestReport, IsFirstFault, IsRefusal}
 
 -- ---- where a plan starts
 
@@ -48,12 +48,16 @@ pub record IsPlan (problem : Problem) (given : List ℕ) (key : Key) (bound : �
   pub not_after_open : key_le key (key_of problem (all_open problem)) ≡ true
   pub bounded : IsLowerBound problem bound
 
--- the text is that of a plan
-pub record IsPlanReport (problem : Problem) (given : List ℕ) (text : List ℕ) : Type 0 where
+-- the text is that of a plan, with its bound
+pub record IsPlanText (problem : Problem) (given : List ℕ) (text : List ℕ) : Type 0 where
   pub key : Key
   pub bound : ℤ
   pub plan : IsPlan problem given key bound
   pub written : IsPlanOf problem bound key.places text
+
+-- the text is that of a plan, or the report of the best roster
+abbrev pub IsPlanReport : Problem → List ℕ → List ℕ → Type 0
+IsPlanReport problem given text = IsPlanText problem given text ⊎ IsBestReport problem text
 
 -- ---- answers
 

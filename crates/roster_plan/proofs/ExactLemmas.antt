@@ -4,7 +4,7 @@ use Rattle.std.proofs.lemmas.Int.{ints}
 use Rattle.roster_model.specs.Costs.{cost_of}
 use Rattle.roster_model.specs.Problem.{Problem}
 use Rattle.roster_model.specs.Rosters.{IsLegalRoster, Key, key_le, key_of}
-use Rattle.roster_model.specs.Settled.{Anywhere, IsHeld, IsLowerBound, IsNotAfter}
+use Rattle.roster_model.specs.Settled.{Anywhere, IsBest, IsHeld, IsLowerBound, IsNotAfter}
 use Rattle.roster_model.proofs.SettledLemmas.{held-key}
 use Rattle.roster_lines.specs.Entries.{Entry}
 use Rattle.roster_lines.specs.Person.{IsOfTable}
@@ -44,3 +44,11 @@ best_is_bound problem key best places legal = no_dearer key (key_of problem plac
 -- nor is any before it
 pub best_is_first : (problem : Problem) (key known : Key) → IsNotAfter problem Anywhere key → IsHeld problem known → key_le key known ≡ true
 best_is_first problem key known best is = subst (λ k. key_le key k ≡ true) (sym (held-key problem known is)) (best known.places is.legal tt)
+
+-- and it is the best of the definitions
+pub is_best : (problem : Problem) (key : Key) → IsHeld problem key → IsNotAfter problem Anywhere key → IsBest problem key.places
+is_best problem key is best = record {
+  is_legal = is.legal;
+  inside = tt;
+  least = subst (IsNotAfter problem Anywhere) (held-key problem key is) best;
+}

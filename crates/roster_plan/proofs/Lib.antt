@@ -3,3 +3,4 @@ mod KeptLemmas
 mod FloorLemmas
 mod PlanLemmas
 mod ExactLemmas
+mod NearLemmas

@@ -17,30 +17,28 @@ either : (problem : Problem) (a b key : Key) → IsHeld problem a → IsHeld pro
 either problem a b key first second (inl is) = subst (IsHeld problem) (sym is) first
 either problem a b key first second (inr is) = subst (IsHeld problem) (sym is) second
 
--- the chosen one is held
-pub chosen_held : (problem : Problem) (kept found : List ℕ) (start open_one best known key : Key)
-    → IsLegalRoster problem kept → IsLegalRoster problem found
-    → start ≡ key_of problem kept → open_one ≡ key_of problem (all_open problem) → best ≡ key_of problem found
-    → (known ≡ start) ⊎ (known ≡ open_one) → (key ≡ best) ⊎ (key ≡ known)
-    → IsHeld problem key
-chosen_held problem kept found start open_one best known key legal better starts opens finds from chosen =
-    let first = held problem kept start starts legal in
-    let second = held problem (all_open problem) open_one opens (all_open_legal problem) in
-    let third = held problem found best finds better in
-    either problem best known key third (either problem start open_one known first second from) chosen
+-- the earlier one of what is kept and of no pairings at all is held
+pub chosen_held : (problem : Problem) (kept : List ℕ) (start open_one known : Key) → IsLegalRoster problem kept
+    → start ≡ key_of problem kept → open_one ≡ key_of problem (all_open problem) → (known ≡ start) ⊎ (known ≡ open_one) → IsHeld problem known
+chosen_held problem kept start open_one known legal starts opens from =
+    either problem start open_one known (held problem kept start starts legal) (held problem (all_open problem) open_one opens (all_open_legal problem)) from
 
-pub planned : (problem : Problem) (given kept : List ℕ) (start open_one known key final : Key) (bound : ℤ)
+-- and so is the earlier one of what is found and of a roster that is held
+pub found_held : (problem : Problem) (found : List ℕ) (best known key : Key) → IsLegalRoster problem found → IsHeld problem known
+    → best ≡ key_of problem found → (key ≡ best) ⊎ (key ≡ known) → IsHeld problem key
+found_held problem found best known key legal is finds from = either problem best known key (held problem found best finds legal) is from
+
+pub planned : (problem : Problem) (given kept : List ℕ) (start open_one known final : Key) (bound : ℤ)
     → IsKeptOf problem given kept → IsHeld problem final → IsLowerBound problem bound
     → start ≡ key_of problem kept → open_one ≡ key_of problem (all_open problem)
-    → key_le known start ≡ true → key_le known open_one ≡ true → key_le key known ≡ true → key_le final key ≡ true
+    → key_le known start ≡ true → key_le known open_one ≡ true → key_le final known ≡ true
     → IsPlan problem given final bound
-planned problem given kept start open_one known key final bound is_kept is_held bounded starts opens not_after_start not_after_open not_after better =
-    let first = key_le-trans final key known better not_after in
+planned problem given kept start open_one known final bound is_kept is_held bounded starts opens not_after_start not_after_open better =
     record {
       held = is_held;
       kept = kept;
       is_kept = is_kept;
-      not_after_kept = subst (λ k. key_le final k ≡ true) starts (key_le-trans final known start first not_after_start);
-      not_after_open = subst (λ k. key_le final k ≡ true) opens (key_le-trans final known open_one first not_after_open);
+      not_after_kept = subst (λ k. key_le final k ≡ true) starts (key_le-trans final known start better not_after_start);
+      not_after_open = subst (λ k. key_le final k ≡ true) opens (key_le-trans final known open_one better not_after_open);
       bounded = bounded;
     }

@@ -2,3 +2,4 @@ pub mod Kept
 pub mod Floors
 pub mod Drafts
 pub mod Exact
+pub mod Near

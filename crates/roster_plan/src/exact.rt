@@ -107,7 +107,7 @@ fn wider(gap: u32, whole: u32) -> u32 {
 }
 
 /// How many lines a person may have.
-fn lines_of(effort: u32) -> usize
+pub(crate) fn lines_of(effort: u32) -> usize
     ensures { (0 < result) × (result ≤ MOST_LINES) }
 {
     let effort = if effort < MOST_EFFORT {
@@ -119,6 +119,6 @@ fn lines_of(effort: u32) -> usize
 }
 
 /// How many lines nodes may have to look at in one search.
-fn work_of(effort: u32) -> u64 {
+pub(crate) fn work_of(effort: u32) -> u64 {
     FEWEST_WORK << effort.min(MOST_EFFORT)
 }

@@ -3,15 +3,17 @@
 ghost use Rattle.std.specs.Prelude.{◌≡◌, ◌≤◌, ◌⊎◌, All, IfOk, length, true};
 ghost use Rattle.roster_model.specs.Plans.{IsPlan};
 ghost use Rattle.roster_model.specs.Rosters.{IsLegalRoster, key_le, key_of};
-ghost use Rattle.roster_model.specs.Settled.{IsHeld, IsLowerBound};
+ghost use Rattle.roster_model.specs.Settled.{Anywhere, IsBest, IsHeld, IsLowerBound, IsNotAfter};
 
 use crate::bound::lower_bound;
 use crate::changes::Change;
 use crate::draft::Draft;
-use crate::exact::{Found, best_or_bound};
+use crate::exact::{Found, best_or_bound, lines_of, work_of};
 use crate::kept::kept;
+use crate::nearby::{improved_nearby, search_all};
 use crate::search::Search;
 use roster_cost::{comes_before, keys_are_in_order, roster_cost};
+use roster_lines::all_pairs;
 use roster_pricing::PricedBound;
 use roster_problem::{Places, Problem, Roster, open_number};
 use std::alloc::{AllocError, Global};
@@ -42,6 +44,8 @@ pub struct Planned {
     pub roster: Roster,
     /// No legal roster costs less.
     pub bound: i64,
+    /// Whether the roster is known to be the best one, which isn't after any legal roster.
+    pub is_best: bool,
 }
 
 /// A plan that isn't after what is kept of the given places, nor after no pairings at all. Effort, from 0 to
@@ -54,15 +58,50 @@ pub fn plan(
 ) -> Result<Planned, AllocError>
     requires covers { length given.now ≡ length problem.now.pairings }
     requires numbers { All (λ x. x ≤ length problem.now.persons) given.now }
-    ensures { IfOk result
+    ensures plan { IfOk result
         (λ planned. IsPlan problem.now given.now planned.roster planned.bound) }
+    ensures best { IfOk result
+        (λ planned. planned.is_best ≡ true → IsBest problem.now planned.roster.places) }
 {
     keys_are_in_order();
     let open = vec![in alloc; open_number(problem); problem.pairings().len()]?;
     let start = kept(alloc, problem, given)?;
-    let found = improved(alloc, problem, &start, effort)?;
     let known = earlier(costed(problem, start), costed(problem, open));
-    let roster = earlier(costed(problem, found), known);
+    let planned = planned_from(alloc, problem, known, effort)?;
+    Ok(planned)
+}
+
+/// A legal roster, the known one or a better one, and what no legal roster costs less than: the best roster
+/// if all lines are few.
+fn planned_from(
+    alloc: Global,
+    problem: &Problem,
+    known: Roster,
+    effort: u32,
+) -> Result<Planned, AllocError>
+    requires { IsHeld problem.now known }
+    ensures held { IfOk result (λ planned. IsHeld problem.now planned.roster) }
+    ensures kept { IfOk result (λ planned. key_le planned.roster known ≡ true) }
+    ensures bounded { IfOk result (λ planned. IsLowerBound problem.now planned.bound) }
+    ensures best { IfOk result
+        (λ planned. planned.is_best ≡ true → IsNotAfter problem.now Anywhere planned.roster) }
+{
+    keys_are_in_order();
+    let pairs = all_pairs(alloc, problem)?;
+    let (lines, work) = (lines_of(effort), work_of(effort));
+    let all = search_all(alloc, problem, &pairs, known, lines, work)?;
+    let start = all.roster;
+    if all.is_settled {
+        let bound = start.cost;
+        return Ok(Planned {
+            roster: start,
+            bound,
+            is_best: true,
+        });
+    }
+    let found = improved(alloc, problem, start.places.as_slice(), effort)?;
+    let roster = earlier(costed(problem, found), start);
+    let roster = improved_nearby(alloc, problem, &pairs, roster, effort)?;
     let planned = bounded(alloc, problem, roster, effort)?;
     Ok(planned)
 }
@@ -79,6 +118,8 @@ fn bounded(
     ensures held { IfOk result (λ planned. IsHeld problem.now planned.roster) }
     ensures kept { IfOk result (λ planned. key_le planned.roster known ≡ true) }
     ensures bounded { IfOk result (λ planned. IsLowerBound problem.now planned.bound) }
+    ensures best { IfOk result
+        (λ planned. planned.is_best ≡ true → IsNotAfter problem.now Anywhere planned.roster) }
 {
     keys_are_in_order();
     let floor = lower_bound(alloc, problem)?;
@@ -87,6 +128,7 @@ fn bounded(
         return Ok(Planned {
             roster: known,
             bound: floor,
+            is_best: false,
         });
     }
     let mut priced = PricedBound::new(alloc, problem)?;
@@ -94,11 +136,16 @@ fn bounded(
     match best_or_bound(alloc, problem, &priced, known.cost, effort)? {
         Found::Best(roster) => {
             let bound = roster.cost;
-            Ok(Planned { roster, bound })
+            Ok(Planned {
+                roster,
+                bound,
+                is_best: true,
+            })
         }
         Found::AtLeast(bound) => Ok(Planned {
             roster: known,
             bound: greater(floor, bound),
+            is_best: false,
         }),
     }
 }

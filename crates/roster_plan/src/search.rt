@@ -120,8 +120,8 @@ impl<'a> Search<'a> {
     }
 }
 
-// The set of a number in the places, which may be any list.
-fn set_of(places: &[u16], number: usize) -> Set {
+/// The set of a number in the places, which may be any list.
+pub(crate) fn set_of(places: &[u16], number: usize) -> Set {
     let mut set = Set::empty();
     for (p, place) in places.iter().enumerate() {
         if usize::from(*place) == number {

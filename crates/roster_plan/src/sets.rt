@@ -1,6 +1,7 @@
 //! What a search asks of sets.
 
-ghost use Rattle.std.specs.Prelude.{◌≡◌, ◌<◌, true, All};
+ghost use Rattle.std.specs.Prelude.{◌≡◌, ◌<◌, ◌≤◌, ℕ, true, All};
+ghost use Rattle.roster_model.specs.Rules.{is_among};
 
 use roster_model::limits::MOST_PAIRINGS;
 use roster_problem::Set;
@@ -13,6 +14,18 @@ pub(crate) fn is_within(set: &Set, count: usize) -> bool
         return false;
     };
     true
+}
+
+/// The set of the first `count` pairings.
+pub(crate) fn all_of(count: usize) -> Set
+    requires { count ≤ MOST_PAIRINGS }
+    ensures { (p : ℕ) → p < count → is_among result p ≡ true }
+{
+    let mut all = Set::empty();
+    for p in 0..count {
+        all.put(p);
+    }
+    all
 }
 
 /// Puts the pairing at place `p` into the set, if there may be such a place.

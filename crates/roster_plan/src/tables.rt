@@ -169,8 +169,8 @@ fn fits(judge: &mut Judge<'_>, problem: &Problem, k: usize, set: &Set) -> Result
     judge.is_legal(k, set)
 }
 
-// When each pairing begins, or ends.
-fn times(alloc: Global, problem: &Problem, ends: bool) -> Result<Vec<i64>, AllocError> {
+/// When each pairing begins, or ends.
+pub(crate) fn times(alloc: Global, problem: &Problem, ends: bool) -> Result<Vec<i64>, AllocError> {
     let mut times = Vec::new(alloc);
     for p in 0..problem.pairings().len() {
         times.push(time_of(problem, p, ends))?;

@@ -1,11 +1,18 @@
-use Rattle.roster_model.specs.Plans.{IsPlanAnswer, IsPlanned, IsPlanReport}
-use Rattle.roster_desk_run.proofs.PlanAnswers.{answer_of_book, plan_of_book, text_of_book}
+use Rattle.std.proofs.Common.{Option, List, ℕ}
+use Rattle.std.specs.Prelude.{option_map}
+use Rattle.roster_desk_run.specs.Run.{IsAnswerTo, IsPlanFrom, IsPlanOfBook}
+use Rattle.roster_desk_run.proofs.PlanAnswers.{answer_of_book, faultless_of_book, plan_of_book, text_of_book}
 use Rattle.roster_desk_run.proofs.running.run.Goals as goal
 
 pub returns-in-Ok-clause-answered : goal.returns-in-Ok-clause-answered
 returns-in-Ok-clause-answered g c = λ answered.
-    text_of_book c.in-Ok.book _ (IsPlanReport c.in-Ok.book.problem c.in-Ok.book.assigned) _ IsPlanned (λ records is. plan_of_book records c.in-Ok.book is) (c.answer.ensures.answered answered) c.in-Ok.ensures.book
+    let report : Option (List ℕ) = option_map (λ bytes. bytes.now) c.args.report in
+    text_of_book c.in-Ok.book _ (IsPlanFrom report c.in-Ok.book.problem c.in-Ok.book.assigned) _ (IsPlanOfBook report) (λ records is. plan_of_book report records c.in-Ok.book is) (c.answer.ensures.answered answered) c.in-Ok.ensures.book
 
 pub returns-in-Ok-clause-part : goal.returns-in-Ok-clause-part
 returns-in-Ok-clause-part g c = λ failed.
-    text_of_book c.in-Ok.book _ (IsPlanReport c.in-Ok.book.problem c.in-Ok.book.assigned) _ IsPlanAnswer (λ records is. answer_of_book records c.in-Ok.book is) (c.answer.ensures.part failed) c.in-Ok.ensures.book
+    let report : Option (List ℕ) = option_map (λ bytes. bytes.now) c.args.report in
+    text_of_book c.in-Ok.book _ (IsPlanFrom report c.in-Ok.book.problem c.in-Ok.book.assigned) _ (IsAnswerTo report) (λ records is. answer_of_book report records c.in-Ok.book is) (c.answer.ensures.part failed) c.in-Ok.ensures.book
+
+pub returns-in-Ok-clause-start_of_book : goal.returns-in-Ok-clause-start_of_book
+returns-in-Ok-clause-start_of_book g c = λ refused. faultless_of_book c.in-Ok.book _ c.in-Ok.ensures.book

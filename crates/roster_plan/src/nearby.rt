@@ -1,0 +1,174 @@
+//! Neighbourhoods of a roster, searched whole.
+//!
+//! In a neighbourhood each person keeps some pairings and may have some others. Its lines are listed, and the
+//! least of its rosters is found, as the best roster of a small month is: that is the neighbourhood in which
+//! nobody keeps anything, and everybody may have all.
+
+ghost use Rattle.std.specs.Prelude.{◌≡◌, ◌<◌, ◌≤◌, ℕ, true, List, IfOk, length, replicate};
+ghost use Rattle.roster_lines.specs.Listing.{AreAllPairs};
+ghost use Rattle.roster_model.specs.Rosters.{IsLegalRoster, key_le};
+ghost use Rattle.roster_model.specs.Settled.{Anywhere, IsHeld, IsNotAfter};
+ghost use Rattle.roster_plan.specs.Near.{IsNear};
+
+use crate::neighbourhoods::Neighbourhoods;
+use crate::planning::MOST_EFFORT;
+use crate::sets::all_of;
+use roster_cost::keys_are_in_order;
+use roster_lines::{Between, Pairs, TableFault, wanted_table};
+use roster_model::limits::MOST_LINES;
+use roster_problem::{Problem, Roster, Set};
+use roster_search::{Searched, least_by_bases};
+use std::alloc::{AllocError, Global};
+
+/// How many lines a person may have in a neighbourhood.
+const LINES_NEARBY: usize = 4096;
+
+/// How many lines nodes may have to look at in the search of a neighbourhood.
+const WORK_NEARBY: u64 = 1 << 19;
+
+/// How many neighbourhoods are searched at effort 0, and as many more with each effort more: the longer
+/// changes were tried before, the less searches find.
+const SEARCHES_AN_EFFORT: u32 = 20;
+
+/// A roster that is at least as good as a known one.
+#[derive(Debug, Drop)]
+pub(crate) struct Nearby {
+    /// The roster.
+    pub(crate) roster: Roster,
+    /// Whether no roster of the neighbourhood is better.
+    pub(crate) is_settled: bool,
+}
+
+/// The earlier one of the known roster and the least one of the neighbourhood; or the known one, if somebody
+/// has more than `most` lines there, or nodes have more lines to look at than `work`.
+pub(crate) fn search_nearby(
+    alloc: Global,
+    problem: &Problem,
+    pairs: &[Pairs],
+    known: Roster,
+    wanted: &[Between],
+    most: usize,
+    work: u64,
+) -> Result<Nearby, AllocError>
+    requires pairs { AreAllPairs problem.now pairs.now }
+    requires known { IsHeld problem.now known }
+    requires covers { length wanted.now ≡ length problem.now.persons }
+    requires limit { (0 < most) × (most ≤ MOST_LINES) }
+    ensures held { IfOk result (λ nearby. IsHeld problem.now nearby.roster) }
+    ensures kept { IfOk result (λ nearby. key_le nearby.roster known ≡ true) }
+    ensures settled { IfOk result (λ nearby. nearby.is_settled ≡ true
+        → IsNotAfter problem.now (IsNear wanted.now) nearby.roster) }
+{
+    keys_are_in_order();
+    let table = match wanted_table(alloc, problem, pairs, wanted, most) {
+        Ok(table) => table,
+        Err(TableFault::TooMany(_)) => {
+            return Ok(Nearby {
+                roster: known,
+                is_settled: false,
+            });
+        }
+        Err(TableFault::Memory) => return Err(AllocError),
+    };
+    match least_by_bases(alloc, problem, &table, &known, work)? {
+        Searched::Settled(Some(roster)) => Ok(Nearby {
+            roster,
+            is_settled: true,
+        }),
+        Searched::Settled(None) => Ok(Nearby {
+            roster: known,
+            is_settled: true,
+        }),
+        Searched::GivenUp => Ok(Nearby {
+            roster: known,
+            is_settled: false,
+        }),
+    }
+}
+
+/// The best roster of all, if each person has few enough lines and the search of them ends; or the known
+/// one.
+pub(crate) fn search_all(
+    alloc: Global,
+    problem: &Problem,
+    pairs: &[Pairs],
+    known: Roster,
+    most: usize,
+    work: u64,
+) -> Result<Nearby, AllocError>
+    requires pairs { AreAllPairs problem.now pairs.now }
+    requires known { IsHeld problem.now known }
+    requires limit { (0 < most) × (most ≤ MOST_LINES) }
+    ensures held { IfOk result (λ nearby. IsHeld problem.now nearby.roster) }
+    ensures kept { IfOk result (λ nearby. key_le nearby.roster known ≡ true) }
+    ensures best { IfOk result (λ nearby. nearby.is_settled ≡ true
+        → IsNotAfter problem.now Anywhere nearby.roster) }
+{
+    let wanted = all_free(alloc, problem)?;
+    let nearby = search_nearby(alloc, problem, pairs, known, &wanted, most, work)?;
+    Ok(nearby)
+}
+
+/// The neighbourhood of all legal rosters: nobody keeps anything, and everybody may have all.
+fn all_free(alloc: Global, problem: &Problem) -> Result<Vec<Between>, AllocError>
+    ensures covers { IfOk result (λ wanted. length wanted.items ≡ length problem.now.persons) }
+    ensures all { IfOk result (λ wanted. (places : List ℕ) → IsLegalRoster problem.now places
+        → IsNear wanted.items places) }
+{
+    problem.is_sound();
+    let free = Between {
+        must: Set::empty(),
+        may: all_of(problem.pairings().len()),
+    };
+    let wanted = repeated(alloc, &free, problem.persons().len())?;
+    Ok(wanted)
+}
+
+/// So many times the same.
+fn repeated(alloc: Global, between: &Between, count: usize) -> Result<Vec<Between>, AllocError>
+    ensures { IfOk result (λ list. list.items ≡ replicate count between.now) }
+{
+    let mut list = Vec::with_capacity(alloc, count)?;
+    for _ in 0..count {
+        list.push(*between)?;
+    }
+    Ok(list)
+}
+
+/// A roster that isn't after the known one: the earliest that searches of some neighbourhoods come to.
+pub(crate) fn improved_nearby(
+    alloc: Global,
+    problem: &Problem,
+    pairs: &[Pairs],
+    known: Roster,
+    effort: u32,
+) -> Result<Roster, AllocError>
+    requires pairs { AreAllPairs problem.now pairs.now }
+    requires known { IsHeld problem.now known }
+    ensures held { IfOk result (IsHeld problem.now) }
+    ensures kept { IfOk result (λ roster. key_le roster known ≡ true) }
+{
+    keys_are_in_order();
+    let mut neighbourhoods = Neighbourhoods::new(alloc, problem)?;
+    let mut roster = known;
+    for _ in 0..searches_of(effort) {
+        let wanted = neighbourhoods.next(alloc, problem, roster.places.as_slice())?;
+        let nearby = search_nearby(
+            alloc,
+            problem,
+            pairs,
+            roster,
+            &wanted,
+            LINES_NEARBY,
+            WORK_NEARBY,
+        )?;
+        neighbourhoods.tell(nearby.is_settled);
+        roster = nearby.roster;
+    }
+    Ok(roster)
+}
+
+/// How many neighbourhoods an effort searches.
+fn searches_of(effort: u32) -> u32 {
+    SEARCHES_AN_EFFORT.saturating_mul(effort.min(MOST_EFFORT).saturating_add(1))
+}

@@ -1,0 +1,198 @@
+//! Which neighbourhood is searched next. Nothing rests on it: each choice may be another one.
+
+ghost use Rattle.std.specs.Prelude.{◌≡◌, IfOk, length};
+
+use crate::random::Random;
+use crate::search::set_of;
+use crate::sets::{add, amount_at, without};
+use crate::tables::times;
+use roster_lines::Between;
+use roster_problem::{Problem, Set, open_number};
+use std::alloc::{AllocError, Global};
+
+/// Where the random numbers begin.
+const SEED: u64 = 20_240_302;
+
+/// The minutes of a day.
+const DAY: i64 = 24 * 60;
+
+/// More days than a month has.
+const MANY_DAYS: u32 = 40;
+
+/// About so many open pairings may be given to persons.
+const MOST_OPEN: usize = 12;
+
+/// How large the kinds of neighbourhoods are at first, in quarters: of a person, of a day, and of a day.
+const FIRST_SIZES: [u32; 3] = [12, 48, 32];
+
+/// Neighbourhoods of some persons, and of some days. They grow as long as searches of them end, and shrink if
+/// one is given up.
+#[derive(Drop)]
+pub(crate) struct Neighbourhoods {
+    random: Random,
+    // When pairings begin.
+    begins: Vec<i64>,
+    // The kinds and how large they are, and the kind of the last one.
+    sizes: Vec<u32>,
+    kind: usize,
+}
+
+impl Neighbourhoods {
+    /// Those of a problem.
+    pub(crate) fn new(alloc: Global, problem: &Problem) -> Result<Neighbourhoods, AllocError> {
+        let mut sizes = Vec::new(alloc);
+        for size in FIRST_SIZES {
+            sizes.push(size)?;
+        }
+        Ok(Neighbourhoods {
+            random: Random::new(SEED),
+            begins: times(alloc, problem, false)?,
+            sizes,
+            kind: 0,
+        })
+    }
+
+    /// The next neighbourhood of a roster: what each person must keep and may have beside.
+    pub(crate) fn next(
+        &mut self,
+        alloc: Global,
+        problem: &Problem,
+        places: &[u16],
+    ) -> Result<Vec<Between>, AllocError>
+        ensures { IfOk result (λ wanted. length wanted.items ≡ length problem.now.persons) }
+    {
+        self.kind = self.random.below(self.sizes.len());
+        let persons = self.persons(alloc, problem)?;
+        let free = self.free(problem, places, &persons);
+        wanted_of(alloc, problem, places, &persons, &free)
+    }
+
+    /// Whether the search of the last neighbourhood has ended.
+    pub(crate) fn tell(&mut self, is_settled: bool) {
+        let size = self.size();
+        let next = if is_settled {
+            size.saturating_add(1).min(4 * MANY_DAYS)
+        } else {
+            size.saturating_sub(4).max(8)
+        };
+        if let Some(size) = self.sizes.get_mut(self.kind) {
+            *size = next;
+        }
+    }
+
+    // How large the last neighbourhood is, in quarters.
+    fn size(&self) -> u32 {
+        match self.sizes.get(self.kind) {
+            Some(size) => *size,
+            None => 0,
+        }
+    }
+
+    // Some persons of one base: a few, half of them, or all.
+    fn persons(&mut self, alloc: Global, problem: &Problem) -> Result<Vec<usize>, AllocError> {
+        let mut left = Vec::new(alloc);
+        let k = self.random.below(problem.persons().len());
+        if let Some(first) = problem.persons().get(k) {
+            for (k, person) in problem.persons().iter().enumerate() {
+                if person.base == first.base {
+                    left.push(k)?;
+                }
+            }
+        }
+        let count = match self.kind {
+            0 => (self.size() / 4) as usize,
+            1 => left.len().saturating_add(1) / 2,
+            _ => left.len(),
+        };
+        let mut chosen = Vec::new(alloc);
+        for _ in 0..count {
+            let i = self.random.below(left.len());
+            if i < left.len() {
+                chosen.push(left.swap_remove(i))?;
+            }
+        }
+        Ok(chosen)
+    }
+
+    // The pairings that these persons have or that are open, all of them or those of some days.
+    fn free(&mut self, problem: &Problem, places: &[u16], persons: &[usize]) -> Set {
+        let mut free = Set::empty();
+        let Some(base) = base_of(problem, persons) else {
+            return free;
+        };
+        let (first, last) = self.days();
+        let nobody = usize::from(open_number(problem));
+        let open = places
+            .iter()
+            .filter(|place| usize::from(**place) == nobody)
+            .count();
+        for (p, place) in places.iter().enumerate() {
+            let begin = amount_at(&self.begins, p);
+            let number = usize::from(*place);
+            let is_there = if number == nobody {
+                is_of_base(problem, p, base) && self.random.below(open) < MOST_OPEN
+            } else {
+                persons.contains(&number)
+            };
+            if is_there && begin >= first && begin <= last {
+                add(&mut free, p);
+            }
+        }
+        free
+    }
+
+    // From when to when the pairings begin.
+    fn days(&mut self) -> (i64, i64) {
+        if self.kind == 0 || self.begins.is_empty() {
+            return (i64::MIN, i64::MAX);
+        }
+        let p = self.random.below(self.begins.len());
+        let middle = amount_at(&self.begins, p);
+        let minutes = i64::from(self.size()).wrapping_mul(DAY / 8);
+        (middle.wrapping_sub(minutes), middle.wrapping_add(minutes))
+    }
+}
+
+// The base of the first of the persons.
+fn base_of(problem: &Problem, persons: &[usize]) -> Option<usize> {
+    let k = persons.first()?;
+    let person = problem.persons().get(*k)?;
+    Some(person.base)
+}
+
+// Whether the pairing at place `p` is of the base.
+fn is_of_base(problem: &Problem, p: usize, base: usize) -> bool {
+    match problem.pairings().get(p) {
+        Some(pairing) => pairing.base == base,
+        None => false,
+    }
+}
+
+// What everybody keeps and may have beside: these persons lose and may have what is free.
+fn wanted_of(
+    alloc: Global,
+    problem: &Problem,
+    places: &[u16],
+    persons: &[usize],
+    free: &Set,
+) -> Result<Vec<Between>, AllocError>
+    ensures { IfOk result (λ wanted. length wanted.items ≡ length problem.now.persons) }
+{
+    let mut wanted = Vec::new(alloc);
+    for k in 0..problem.persons().len() {
+        let had = set_of(places, k);
+        let between = if persons.contains(&k) {
+            Between {
+                must: without(&had, free),
+                may: *free,
+            }
+        } else {
+            Between {
+                must: had,
+                may: Set::empty(),
+            }
+        };
+        wanted.push(between)?;
+    }
+    Ok(wanted)
+}
