@@ -6,6 +6,7 @@
 //!
 //! - `words`: times, days and names
 //! - `sentences`: a reason in words
+//! - `persons`: what a roster gives to a person, and the rule that is broken with it
 //! - `asked`: which pairings and persons are asked for
 //! - `why`: who could have a pairing, and why others mustn't
 //! - `limits`: how near to each limit each person is
@@ -13,12 +14,14 @@
 
 mod asked;
 mod limits;
+mod persons;
 mod sentences;
 mod why;
 mod words;
 
 pub use asked::{Asked, Unknown, find};
 pub use limits::{limits_text, push_limit};
+pub use persons::{broken_with, duties_with, set_with};
 pub use sentences::push_reason;
-pub use why::{set_of, why_text};
+pub use why::why_text;
 pub use words::{instant, pairing_name, push_all, time};

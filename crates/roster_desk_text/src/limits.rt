@@ -2,12 +2,11 @@
 
 ghost use Rattle.std.specs.Prelude.{◌≡◌, ◌<◌, length};
 
+use crate::persons::duties_with;
 use crate::sentences::counted;
-use crate::why::set_of;
 use crate::words::{day, push_all, time};
 use roster_instants::BaseDays;
-use roster_legal::merge;
-use roster_problem::{DutyList, Limit, Problem};
+use roster_problem::{Limit, Problem};
 use roster_reasons::{Amount, standing};
 use std::alloc::{AllocError, Global};
 
@@ -47,19 +46,18 @@ fn push_use(
     }
 }
 
-/// Appends how much of a limit the person uses, and what is left.
+/// Appends how much of a limit the person uses, which is the amount, and what is left.
 pub fn push_limit(
     alloc: Global,
     out: &mut Vec<u8>,
     problem: &Problem,
     k: usize,
-    list: &DutyList,
     limit: Limit,
+    amount: Amount,
 ) -> Result<(), AllocError>
     requires { k < length problem.now.persons }
 {
     let person = problem.person(k).id.as_bytes();
-    let amount = standing(problem, k, list, limit);
     let left = time(alloc, amount.left())?;
     push_all(out, &[person, b" "])?;
     out.extend_from_slice(limit.rule().word().as_bytes())?;
@@ -79,10 +77,10 @@ fn push_person(
     requires covers { length places.now ≡ length problem.now.pairings }
     requires person { k < length problem.now.persons }
 {
-    let set = set_of(problem, places, k);
-    let list = merge(alloc, problem, k, &set)?;
+    let list = duties_with(alloc, problem, places, k)?;
     for limit in Limit::ALL {
-        push_limit(alloc, out, problem, k, &list, limit)?;
+        let amount = standing(problem, k, &list, limit);
+        push_limit(alloc, out, problem, k, limit, amount)?;
         out.extend_from_slice(b"\n")?;
     }
     Ok(())

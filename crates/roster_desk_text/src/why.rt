@@ -1,25 +1,54 @@
 //! Who could have a pairing, and why others mustn't.
 
-ghost use Rattle.std.specs.Prelude.{◌≡◌, ◌<◌, ◌≤◌, All, IfOk, length, vec_len};
-ghost use Rattle.roster_model.specs.declared.limits.TheConstants.{MOST_PAIRINGS};
+ghost use Rattle.std.specs.Prelude.{◌≡◌, ◌<◌, IfOk, length};
 
 use crate::asked::Asked;
+use crate::persons::{broken_with, duties_with};
 use crate::sentences::push_reason;
 use crate::words::push_all;
 use roster_cost::roster_cost;
-use roster_legal::merge;
-use roster_problem::{Problem, Set, open_number};
-use roster_reasons::reason;
+use roster_problem::{DutyList, Problem, open_number};
+use roster_reasons::Reason;
 use std::alloc::{AllocError, Global};
 
-/// The pairings at whose places the list has the number.
-#[tactic(auto, using(roster_model::proofs::SetLemmas::places_of_number))]
-pub fn set_of(problem: &Problem, places: &[u16], number: usize) -> Set
-    requires { length places.now ≡ length problem.now.pairings }
-    ensures { All (λ p. p < length problem.now.pairings) result }
+/// What stands in place of a pairing in the line of what a person has already; no pairing has that name.
+const NO_PAIRING: &[u8] = b"-";
+
+/// Appends the rule and what breaks it.
+fn push_told(
+    alloc: Global,
+    out: &mut Vec<u8>,
+    problem: &Problem,
+    k: usize,
+    list: &DutyList,
+    told: Reason,
+) -> Result<(), AllocError>
+    requires { k < length problem.now.persons }
 {
-    problem.is_sound();
-    Set::of_places(places, number)
+    out.extend_from_slice(told.rule().word().as_bytes())?;
+    out.extend_from_slice(b": ")?;
+    push_reason(alloc, out, problem, k, list, told)
+}
+
+/// Appends the line of a person who breaks a rule with the roster, or is locked.
+fn push_broken(
+    alloc: Global,
+    out: &mut Vec<u8>,
+    problem: &Problem,
+    places: &[u16],
+    k: usize,
+) -> Result<(), AllocError>
+    requires covers { length places.now ≡ length problem.now.pairings }
+    requires person { k < length problem.now.persons }
+{
+    let Some(told) = broken_with(alloc, problem, places, k)? else {
+        return Ok(());
+    };
+    let list = duties_with(alloc, problem, places, k)?;
+    let person = problem.person(k).id.as_bytes();
+    push_all(out, &[NO_PAIRING, b" ", person, b" "])?;
+    push_told(alloc, out, problem, k, &list, told)?;
+    out.extend_from_slice(b"\n")
 }
 
 /// The places with the pairing at `p` given to person `k`.
@@ -58,13 +87,10 @@ fn push_line(
     let person = problem.person(k).id.as_bytes();
     push_all(out, &[pairing, b" ", person, b" "])?;
     let moved = with_pairing(alloc, problem, places, p, k)?;
-    let set = set_of(problem, moved.as_slice(), k);
-    match reason(alloc, problem, k, &set)? {
+    match broken_with(alloc, problem, moved.as_slice(), k)? {
         Some(told) => {
-            let list = merge(alloc, problem, k, &set)?;
-            out.extend_from_slice(told.rule().word().as_bytes())?;
-            out.extend_from_slice(b": ")?;
-            push_reason(alloc, out, problem, k, &list, told)?;
+            let list = duties_with(alloc, problem, moved.as_slice(), k)?;
+            push_told(alloc, out, problem, k, &list, told)?;
         }
         None => {
             let cost = roster_cost(problem, moved.as_slice());
@@ -73,6 +99,24 @@ fn push_line(
         }
     }
     out.extend_from_slice(b"\n")
+}
+
+/// Appends the lines of those who break a rule with the roster or are locked, of the persons asked for.
+fn push_all_broken(
+    alloc: Global,
+    out: &mut Vec<u8>,
+    problem: &Problem,
+    places: &[u16],
+    person: Option<usize>,
+) -> Result<(), AllocError>
+    requires { length places.now ≡ length problem.now.pairings }
+{
+    for k in 0..problem.persons().len() {
+        if person.is_none_or(|asked| asked == k) {
+            push_broken(alloc, out, problem, places, k)?;
+        }
+    }
+    Ok(())
 }
 
 /// Appends the lines of a pairing, for each person that is asked for.
@@ -106,7 +150,9 @@ fn is_asked(problem: &Problem, places: &[u16], p: usize, named: Option<usize>) -
 }
 
 /// For each pairing and person that is asked for a line: what the roster would cost if the person had the
-/// pairing too, or why that isn't legal. The places are the roster, which needn't be legal.
+/// pairing too, or why that isn't legal. If no pairing is named, lines of what persons have stand before
+/// them: which rule they break with it, and by which they are locked. The places are the roster, which
+/// needn't be legal.
 pub fn why_text(
     alloc: Global,
     problem: &Problem,
@@ -116,6 +162,9 @@ pub fn why_text(
     requires { length places.now ≡ length problem.now.pairings }
 {
     let mut out = Vec::new(alloc);
+    if asked.pairing.is_none() {
+        push_all_broken(alloc, &mut out, problem, places, asked.person)?;
+    }
     for p in 0..places.len() {
         if is_asked(problem, places, p, asked.pairing) {
             push_pairing(alloc, &mut out, problem, places, p, asked.person)?;

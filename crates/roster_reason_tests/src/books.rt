@@ -4,7 +4,7 @@ ghost use Rattle.std.specs.Prelude.{◌<◌, All, IfSome, length};
 
 use roster_book::{BookFault, Command, Watched, read_book};
 use roster_problem::{Problem, Set};
-use roster_reasons::{Reason, lock_reason, reason};
+use roster_reasons::{Reason, first_reason, reason};
 use std::alloc::Global;
 use std::process::Abort;
 use std::test::Fail;
@@ -51,7 +51,7 @@ pub fn is_locked(
 ) -> Result<(), Fail> {
     let problem = problem_of(alloc, book)?;
     assert!(rt; !problem.persons().is_empty());
-    let told = lock_reason(alloc, &problem, 0)?;
+    let told = first_reason(alloc, &problem, 0, &Set::empty())?;
     assert!(rt; told == wanted);
     Ok(())
 }

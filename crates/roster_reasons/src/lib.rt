@@ -1,9 +1,9 @@
 //! Why a person mustn't have a set of pairings, and how near to each limit a person is.
 //!
 //! `reason` tells the first rule that a person breaks with a set, and what breaks it: which duties, and by
-//! how many minutes. `lock_reason` tells it of what locks a person. `standing` tells how much of a limit is
-//! used. Each number is that of the definitions, and of all that breaks a rule the earliest is told. In
-//! reading order:
+//! how many minutes. `first_reason` tells it of the empty set too, which breaks a rule if the person is
+//! locked. `standing` tells how much of a limit is used. Each number is that of the definitions, and of all
+//! that breaks a rule the earliest is told. In reading order:
 //!
 //! - `value`: what is told
 //! - `base`, `overlap`, `leave`, `rest`, `recovery`, `days_off`: what first breaks one of these rules
@@ -28,7 +28,7 @@ mod telling;
 mod value;
 
 pub use amounts::standing;
-pub use telling::{lock_reason, reason};
+pub use telling::{first_reason, reason};
 pub use value::{
     Amount, DutyInLeave, FewDaysOff, LongBlock, MonthFlight, Reason, RunOfDays, SharedDuties,
     ShortRest,

@@ -1,6 +1,6 @@
 //! The reason for a set.
 
-ghost use Rattle.std.specs.Prelude.{◌<◌, [], All, IfOk, MatchOption, length};
+ghost use Rattle.std.specs.Prelude.{◌<◌, All, IfOk, MatchOption, length};
 ghost use Rattle.roster_model.specs.Rules as model;
 ghost use Rattle.roster_model.specs.Rules.{Holds, IsLegal};
 ghost use Rattle.roster_reasons.specs.Reasons.{IsReason};
@@ -11,8 +11,9 @@ use roster_legal::{first_broken, merge};
 use roster_problem::{Problem, Set};
 use std::alloc::{AllocError, Global};
 
-/// What first breaks the first rule that person `k` breaks with the set, if there is one.
-fn first_reason(
+/// What first breaks the first rule that person `k` breaks with the set, if there is one. Of the empty set it
+/// tells what locks the person.
+pub fn first_reason(
     alloc: Global,
     problem: &Problem,
     k: usize,
@@ -50,14 +51,4 @@ pub fn reason(
         return Ok(None);
     }
     first_reason(alloc, problem, k, set)
-}
-
-/// What locks person `k`: the first rule that is broken without any pairing, and what first breaks it, if
-/// there is one.
-pub fn lock_reason(alloc: Global, problem: &Problem, k: usize) -> Result<Option<Reason>, AllocError>
-    requires { k < length problem.now.persons }
-    ensures { IfOk result (λ reason. MatchOption reason
-        ((rule : model.Rule) → Holds problem.now k [] rule) (IsReason problem.now k [])) }
-{
-    first_reason(alloc, problem, k, &Set::empty())
 }

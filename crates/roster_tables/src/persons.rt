@@ -1,12 +1,11 @@
 //! A row for each person.
 
-ghost use Rattle.std.specs.Prelude.{◌≡◌, ◌<◌, All, length};
+ghost use Rattle.std.specs.Prelude.{◌≡◌, ◌<◌, length};
 
 use crate::records::Records;
 use crate::sums::sums_of;
-use roster_desk_text::set_of;
-use roster_legal::merge;
-use roster_problem::{Problem, Set};
+use roster_desk_text::duties_with;
+use roster_problem::Problem;
 use std::alloc::{AllocError, Global};
 
 /// The names of the columns.
@@ -43,15 +42,6 @@ fn leaves_of(problem: &Problem, k: usize) -> usize
     problem.leave(k).len()
 }
 
-/// How many duties person `k` has with the set, the fixed ones included.
-fn duties_of(alloc: Global, problem: &Problem, k: usize, set: &Set) -> Result<usize, AllocError>
-    requires person { k < length problem.now.persons }
-    requires places { All (λ p. p < length problem.now.pairings) set.now }
-{
-    let list = merge(alloc, problem, k, set)?;
-    Ok(list.len())
-}
-
 /// Puts the row of person `k` behind the others.
 pub(crate) fn push_person(
     alloc: Global,
@@ -64,9 +54,9 @@ pub(crate) fn push_person(
     requires person { k < length problem.now.persons }
 {
     let person = problem.person(k);
-    let set = set_of(problem, places, k);
+    let list = duties_with(alloc, problem, places, k)?;
     let pairings = count_of(places, k).to_string(alloc)?;
-    let duties = duties_of(alloc, problem, k, &set)?.to_string(alloc)?;
+    let duties = list.len().to_string(alloc)?;
     let leaves = leaves_of(problem, k).to_string(alloc)?;
     let sums = sums_of(alloc, problem, places, k)?;
     let flight = sums.minutes[0].to_string(alloc)?;

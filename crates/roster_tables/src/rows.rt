@@ -4,9 +4,8 @@ ghost use Rattle.std.specs.Prelude.{◌≡◌, ◌<◌, length};
 
 use crate::records::Records;
 use crate::zones::{Zones, utc};
-use roster_desk_text::{pairing_name, set_of};
+use roster_desk_text::{duties_with, pairing_name};
 use roster_instants::Minute;
-use roster_legal::merge;
 use roster_problem::{Duty, Holder, Problem, Sector};
 use std::alloc::{AllocError, Global};
 
@@ -174,8 +173,7 @@ fn push_duties(
     requires covers { length places.now ≡ length problem.now.pairings }
     requires person { k < length problem.now.persons }
 {
-    let set = set_of(problem, places, k);
-    let list = merge(alloc, problem, k, &set)?;
+    let list = duties_with(alloc, problem, places, k)?;
     for i in 0..list.len() {
         let row = duty_row(problem, list.duty(i));
         push_row(alloc, records, problem, zones, k, &row)?;

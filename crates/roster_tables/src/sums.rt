@@ -4,8 +4,7 @@ ghost use Rattle.std.specs.Prelude.{◌≡◌, ◌<◌, length};
 
 use roster_cost::line_cost;
 use roster_cumulative::{greatest_duty, greatest_flight, month_flight};
-use roster_desk_text::set_of;
-use roster_legal::merge;
+use roster_desk_text::{duties_with, set_with};
 use roster_model::profile::{LONG_RUN, MIDDLE_RUN, SHORT_RUN};
 use roster_problem::Problem;
 use std::alloc::{AllocError, Global};
@@ -33,11 +32,10 @@ pub(crate) fn sums_of(
     requires covers { length places.now ≡ length problem.now.pairings }
     requires person { k < length problem.now.persons }
 {
-    let set = set_of(problem, places, k);
-    let list = merge(alloc, problem, k, &set)?;
+    let list = duties_with(alloc, problem, places, k)?;
     let days = problem.days_of(k);
     Ok(Sums {
-        cost: line_cost(problem, k, &set),
+        cost: line_cost(problem, k, &set_with(problem, places, k)),
         minutes: [
             month_flight(days, &list),
             greatest_duty(days, &list, SHORT_RUN),
