@@ -6,6 +6,7 @@ use crate::names::{find_not_given, find_twice};
 use crate::seen::{Other, Seen};
 use crate::times::{find_busy, find_out_of_sequence, find_out_of_window, find_wrong_start};
 use roster_instants::{BaseDays, ZoneFault};
+use roster_model::limits::MOST_LINES;
 use std::alloc::{AllocError, Global};
 use std::str;
 
@@ -201,6 +202,15 @@ fn find_no_duty(alloc: Global, seen: Seen<'_>) -> Result<Finding, AllocError> {
     Finding::with(alloc, 1, wanted, other)
 }
 
+/// What is to be done about a person who has too many legal sets.
+fn find_crowded(alloc: Global) -> Result<Finding, AllocError> {
+    let wanted = format!(in alloc;
+        "{MOST_LINES} legal sets at most: a book for a part of the month or base; or roster-desk plan, \
+         which takes this one"
+    )?;
+    Finding::plain(alloc, 1, wanted.as_str())
+}
+
 /// What is wrong with the record of a kind, by the number of the code.
 fn find_of_kind(
     alloc: Global,
@@ -221,6 +231,7 @@ fn find_of_kind(
         12 => find_wrong_start(alloc, seen),
         13 => find_busy(alloc, seen, kind),
         14 => find_no_duty(alloc, seen),
+        15 => find_crowded(alloc),
         _ => Finding::plain(alloc, 0, kind.layout()),
     }
 }

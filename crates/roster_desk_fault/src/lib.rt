@@ -13,6 +13,7 @@
 //! - `times`: times that are out of sequence, of the window or of the month, or shared
 //! - `finding`: what is wrong with a record
 //! - `codes`: what each code says
+//! - `crowded`: persons with more legal sets of pairings than `solve` lists
 //! - `telling`: the faults of a book
 //! - `warning`: what is likely a mistake
 //! - `zones`: zone texts whose sign disagrees with their name
@@ -22,6 +23,7 @@
 #![tactic(auto)]
 
 mod codes;
+mod crowded;
 mod finding;
 mod forms;
 mod kinds;

@@ -107,7 +107,8 @@ pub(crate) fn nights(alloc: Global, rows: &[Row]) -> Result<Vec<Warning>, AllocE
         let (all, night) = reports_of(rows, pairings.as_slice(), &days);
         if all >= MANY_REPORTS && night > all / 2 && !shows_utc(&days) {
             let why = format!(in alloc;
-                "{night} of {all} duties of its pairings report from 23:00 to 05:00 by its clocks; local times may stand for UTC"
+                "{night} of {all} duties of its pairings report from 23:00 to 05:00 by its clocks; \
+                 local times may stand for UTC"
             )?;
             warn(&mut warnings, alloc, at, why.as_str())?;
         }

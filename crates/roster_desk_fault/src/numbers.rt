@@ -34,7 +34,8 @@ pub(crate) fn years(alloc: Global, rows: &[Row]) -> Result<Vec<Warning>, AllocEr
                 warn(&mut warnings, alloc, at, why)?;
             } else if number_in(row, 4) > 0 && is_january(rows) {
                 let why =
-                    "YEAR is what was flown in the calendar year before the month, which is nothing in January";
+                    "YEAR is what was flown in the calendar year before the month, which is nothing in \
+                     January";
                 warn(&mut warnings, alloc, at, why)?;
             }
         }
@@ -90,7 +91,8 @@ pub(crate) fn hours(alloc: Global, rows: &[Row]) -> Result<Vec<Warning>, AllocEr
     if flown >= MANY && flown_hours == flown {
         if let Some(at) = rows.iter().position(|row| has_flown(row)) {
             let why = format!(in alloc;
-                "YEAR and ELEVEN of all {flown} persons who have flown are whole hours, so they may be rounded"
+                "YEAR and ELEVEN of all {flown} persons who have flown are whole hours, so they may be \
+                 rounded"
             )?;
             warn(&mut warnings, alloc, at, why.as_str())?;
         }

@@ -1,13 +1,20 @@
 //! The faults of a book in words.
 
+ghost use Rattle.std.specs.Prelude.{IfErr, IfOk};
+ghost use Rattle.roster_book.specs.Reading.{IsBookOf, TellsFirst};
+ghost use Rattle.roster_model.specs.Answer.{records_of};
+ghost use Rattle.roster_model.specs.Record.{Check};
+
 use crate::codes::sentence;
+use crate::crowded::first_crowded;
 use crate::finding::{Finding, find};
 use crate::kinds::Kind;
 use crate::rows::{Row, kept_at, kept_text, read_rows};
 use crate::seen::{Other, Seen};
 use crate::shown::{push_field, push_record};
-use roster_book::{BookFault, Command, read_book};
+use roster_book::{Book, BookFault, Command, read_book};
 use roster_desk_text::push_all;
+use roster_problem::Problem;
 use roster_watched::Watched;
 use std::alloc::{AllocError, Global};
 
@@ -16,6 +23,9 @@ pub(crate) const MOST_TOLD: usize = 20;
 
 /// The code of a book that doesn't begin with its month.
 const NO_PERIOD: u8 = 1;
+
+/// The code of a person with too many legal sets.
+const CROWDED: u8 = 15;
 
 /// The first fault of a book.
 #[derive(Clone, Copy, Debug)]
@@ -26,13 +36,28 @@ struct First {
     code: u8,
 }
 
+/// The book in the bytes, as a check reads it, or its first fault.
+fn read(alloc: Global, bytes: &[u8]) -> Result<Book, BookFault>
+    ensures book { IfOk result (λ book. IsBookOf Check (records_of bytes.now) book) }
+    ensures fault { IfErr result (TellsFirst Check (records_of bytes.now)) }
+{
+    let mut reader = Watched::new(bytes);
+    read_book(alloc, &mut reader, Command::Check)
+}
+
+/// The record and the code of the fault; bytes in memory are no device that fails.
+fn first_of(fault: BookFault) -> Result<First, AllocError> {
+    match fault {
+        BookFault::At { row, code } => Ok(First { row, code }),
+        BookFault::Device | BookFault::Memory => Err(AllocError),
+    }
+}
+
 /// The first fault of the book in the bytes, as a check tells it.
 fn first_fault(alloc: Global, bytes: &[u8]) -> Result<Option<First>, AllocError> {
-    let mut reader = Watched::new(bytes);
-    match read_book(alloc, &mut reader, Command::Check) {
+    match read(alloc, bytes) {
         Ok(_) => Ok(None),
-        Err(BookFault::At { row, code }) => Ok(Some(First { row, code })),
-        Err(BookFault::Device) | Err(BookFault::Memory) => Err(AllocError),
+        Err(fault) => Ok(Some(first_of(fault)?)),
     }
 }
 
@@ -130,8 +155,41 @@ fn count(rows: &[Row], kind: Kind) -> usize {
     rows.iter().filter(|row| row.is(kind)).count()
 }
 
-/// The text of a book without a fault: how many records of each kind there are.
-fn good_text(alloc: Global, rows: &[Row]) -> Result<Vec<u8>, AllocError> {
+/// The place of the record of the kind that has so many of its kind before it, if there is one.
+fn place_of(rows: &[Row], kind: Kind, before: usize) -> Option<usize> {
+    let mut left = before;
+    for (at, row) in rows.iter().enumerate() {
+        if row.is(kind) {
+            if left == 0 {
+                return Some(at);
+            }
+            left -= 1;
+        }
+    }
+    None
+}
+
+/// Appends the fault that `solve` tells of a book without another one, if there is a person with too many
+/// legal sets.
+fn push_crowded(
+    alloc: Global,
+    out: &mut Vec<u8>,
+    rows: &[Row],
+    problem: &Problem,
+) -> Result<(), AllocError> {
+    let Some(k) = first_crowded(alloc, problem)? else {
+        return Ok(());
+    };
+    let Some(at) = place_of(rows, Kind::Crew, k) else {
+        return Ok(());
+    };
+    push_fault(alloc, out, rows, at, CROWDED)?;
+    out.extend_from_slice(b"told by solve and replay alone; other persons may have as many\n")
+}
+
+/// The text of a book without a fault: how many records of each kind there are, and the fault that only
+/// `solve` tells, if there is one.
+fn good_text(alloc: Global, rows: &[Row], problem: &Problem) -> Result<Vec<u8>, AllocError> {
     let mut out = Vec::new(alloc);
     out.extend_from_slice(b"NO FAULT\n")?;
     for kind in Kind::ALL {
@@ -142,6 +200,7 @@ fn good_text(alloc: Global, rows: &[Row]) -> Result<Vec<u8>, AllocError> {
         };
         out.extend_from_slice(line.as_bytes())?;
     }
+    push_crowded(alloc, &mut out, rows, problem)?;
     Ok(out)
 }
 
@@ -165,11 +224,12 @@ fn push_end(
 
 /// The faults of the book in the bytes, the first one as a check tells it, and each later one as if the
 /// faulty records before it weren't there; at most [`MOST_TOLD`]. If there is none, how many records of each
-/// kind there are. It is valid UTF-8.
+/// kind there are, and the first person whose legal sets are too many for `solve`. It is valid UTF-8.
 pub fn fault_text(alloc: Global, bytes: &[u8]) -> Result<Vec<u8>, AllocError> {
     let mut rows = read_rows(alloc, bytes)?;
-    let Some(first) = first_fault(alloc, bytes)? else {
-        return good_text(alloc, &rows);
+    let first = match read(alloc, bytes) {
+        Ok(book) => return good_text(alloc, &rows, &book.problem),
+        Err(fault) => first_of(fault)?,
     };
     let mut out = Vec::new(alloc);
     if rows.is_empty() {
