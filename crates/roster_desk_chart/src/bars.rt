@@ -35,8 +35,8 @@ fn is_told(reason: Option<Reason>, i: usize) -> bool {
     }
 }
 
-/// What a duty tells: its pairing, its name, its times and minutes, and the rest before it, if there is a duty
-/// before it.
+/// What a duty tells: its pairing, its name, its times and minutes, and the rest before it, if there is a
+/// duty before it.
 fn duty_title(
     alloc: Global,
     axis: &Axis,

@@ -1,19 +1,33 @@
 //! Text of a page.
 
+ghost use Rattle.std.specs.Prelude.{◌≡◌, ◌++◌, OnOk};
+ghost use Rattle.std.specs.List.{flat_map};
+ghost use Rattle.roster_desk_chart.specs.Markup.{shown_as};
+
 use roster_desk_text::push_all;
 use std::alloc::{AllocError, Global};
 
+/// Appends a byte of text so that it is no markup.
+#[tactic(auto, unfolding(crate::specs::Markup::shown_as))]
+fn push_byte(out: &mut Vec<u8>, byte: u8) -> Result<(), AllocError>
+    ensures { OnOk result (out.new.items ≡ out.old.items ++ shown_as byte) }
+{
+    match byte {
+        b'&' => out.extend_from_slice(b"&amp;"),
+        b'<' => out.extend_from_slice(b"&lt;"),
+        b'>' => out.extend_from_slice(b"&gt;"),
+        b'"' => out.extend_from_slice(b"&quot;"),
+        b'\'' => out.extend_from_slice(b"&#39;"),
+        other => out.extend_from_slice(&[other]),
+    }
+}
+
 /// Appends text so that it is no markup, in an element or in an attribute in double quotes.
-pub(crate) fn push_text(out: &mut Vec<u8>, text: &[u8]) -> Result<(), AllocError> {
+pub(crate) fn push_text(out: &mut Vec<u8>, text: &[u8]) -> Result<(), AllocError>
+    ensures { OnOk result (out.new.items ≡ out.old.items ++ flat_map shown_as text.now) }
+{
     for byte in text {
-        match *byte {
-            b'&' => out.extend_from_slice(b"&amp;")?,
-            b'<' => out.extend_from_slice(b"&lt;")?,
-            b'>' => out.extend_from_slice(b"&gt;")?,
-            b'"' => out.extend_from_slice(b"&quot;")?,
-            b'\'' => out.extend_from_slice(b"&#39;")?,
-            other => out.push(other)?,
-        }
+        push_byte(out, *byte)?;
     }
     Ok(())
 }

@@ -37,9 +37,10 @@ fn push_meter(
 ) -> Result<(), AllocError>
     requires { k < length problem.now.persons }
 {
-    let (used, most) = minutes_of(standing(problem, k, list, limit));
+    let amount = standing(problem, k, list, limit);
+    let (used, most) = minutes_of(amount);
     let mut title = Vec::new(alloc);
-    push_limit(alloc, &mut title, problem, k, list, limit)?;
+    push_limit(alloc, &mut title, problem, k, limit, amount)?;
     let class: &[u8] = if used > most { b" class=\"o\"" } else { b"" };
     push_all(out, &[b"<span tabindex=\"-1\"", class, b" title=\""])?;
     push_text(out, title.as_slice())?;

@@ -15,11 +15,16 @@ use std::alloc::{AllocError, Global};
 
 /// What the signs of the page mean.
 const KEY: &[u8] =
-    b"<p class=\"key\"><span><i style=\"--h:137\">P</i>duty of a pairing, in its colour</span><span><i class=\"f\">F</i>fixed duty</span><span><i class=\"x\">P</i>breaks the rule that is told</span><span><b>leave</b></span><span><u></u>days off</span><span><u class=\"r\"></u>recurrent rest</span></p>\n";
+    b"<p class=\"key\"><span><i style=\"--h:137\">P</i>duty of a pairing, in its colour</span>\
+      <span><i class=\"f\">F</i>fixed duty</span><span><i class=\"x\">P</i>breaks the rule that is told</span>\
+      <span><b>leave</b></span><span><u></u>days off</span>\
+      <span><u class=\"r\"></u>recurrent rest</span></p>\n";
 
 /// What the meters mean, and how the page is used.
 const HELP: &[u8] =
-    b"<p>Meters: duty in 7, 14 and 28 days, flight in 28 days (F), in the calendar year (Y) and in twelve months (12). Days are local days of the base; a dark one has a change of clocks. Point at a bar, tap it, or go to it with Tab and the arrow keys.</p>\n";
+    b"<p>Meters: duty in 7, 14 and 28 days, flight in 28 days (F), in the calendar year (Y) and in twelve \
+      months (12). Days are local days of the base; a dark one has a change of clocks. Point at a bar, tap \
+      it, or go to it with Tab and the arrow keys.</p>\n";
 
 /// The person with whom a base's section begins, if anybody is at home there.
 fn first_at(problem: &Problem, base: usize) -> Option<usize> {
@@ -79,7 +84,8 @@ fn push_summary(
     let pairings = problem.pairings().len();
     let open = open_count(problem, places);
     let text = format!(in alloc;
-        "<h1>Roster {year}-{month:02}</h1>\n<p>Cost {cost}. {persons} persons, {pairings} pairings, of which {open} are open.</p>\n"
+        "<h1>Roster {year}-{month:02}</h1>\n<p>Cost {cost}. {persons} persons, {pairings} pairings, \
+         of which {open} are open.</p>\n"
     )?;
     out.extend_from_slice(text.as_bytes())?;
     out.extend_from_slice(KEY)?;

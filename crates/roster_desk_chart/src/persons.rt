@@ -6,10 +6,9 @@ use crate::axis::Axis;
 use crate::bars::{push_days_off, push_duties, push_leaves, push_rests};
 use crate::html::push_text;
 use crate::meters::push_meters;
-use roster_desk_text::{push_all, push_reason, set_of};
-use roster_legal::merge;
+use roster_desk_text::{broken_with, duties_with, push_all, push_reason};
 use roster_problem::{DutyList, Problem};
-use roster_reasons::{Reason, lock_reason, reason};
+use roster_reasons::Reason;
 use std::alloc::{AllocError, Global};
 
 /// Appends the head of the row: the name, and the word of the rule that the person breaks.
@@ -55,13 +54,8 @@ pub(crate) fn push_person(
     requires covers { length places.now ≡ length problem.now.pairings }
     requires person { k < length problem.now.persons }
 {
-    let set = set_of(problem, places, k);
-    let list = merge(alloc, problem, k, &set)?;
-    let told = if set.is_empty() {
-        lock_reason(alloc, problem, k)?
-    } else {
-        reason(alloc, problem, k, &set)?
-    };
+    let list = duties_with(alloc, problem, places, k)?;
+    let told = broken_with(alloc, problem, places, k)?;
     out.extend_from_slice(b"<tr>")?;
     push_name(alloc, out, problem, k, &list, told)?;
     out.extend_from_slice(b"<td class=\"m\">")?;
