@@ -3,7 +3,11 @@
 import argparse
 import inspect
 import os
+import subprocess
 import sys
+from functools import cache
+
+CRATES = {"roster": "roster_cli", "roster-desk": "roster_desk"}
 
 
 class Words(argparse.ArgumentParser):
@@ -44,3 +48,16 @@ def one_of(*numbers):
         return int(word)
 
     return read
+
+
+@cache
+def built(name, variable):
+    """The program of the name that the environment's variable names, or the proved build of the sources that are here."""
+    if os.environ.get(variable):
+        return os.environ[variable]
+    root = os.path.dirname(os.path.dirname(os.path.abspath(__file__)))
+    asks = ["bash", "-c", '. "$1"; take_program "$2"; is_proved', "bench", f"{root}/roster", name]
+    if subprocess.run(asks, check=False).returncode != 0:
+        tool = os.path.basename(sys.argv[0])
+        sys.exit(f"bench/{tool}: there is no proved build of the sources that are here; ./{name} makes it.")
+    return f"{root}/crates/{CRATES[name]}/out/{CRATES[name]}"
