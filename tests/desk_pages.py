@@ -57,6 +57,13 @@ MISTAKES = [
     ("crew,O'HARA,ZRH,0,0,0", 4, "ID", None),
     ("duty,D3,P,P1,Z\u00dcRICH,2024-06-13T08:00Z,2024-06-13T14:00Z", 4, "STATION", None),
     ("duty,D3,p,P1,LHR,2024-06-13T08:00Z,2024-06-13T14:00Z", 4, "P or C", None),
+    ("crew,ANNA-MEIER-HUBER,ZRH,0,0,60001", 5, "ELEVEN", None),
+    ("crew,ANNA.MEIER,ZRH,0,0,0", 4, "ID", None),
+    ("crew,ANNA/MEIER,ZRH,0,0,0", 4, "ID", None),
+    ("crew,_ANNA,ZRH,0,0,0", 4, "ID", None),
+    ("crew, CARL,ZRH,0,0,0", 4, "ID", None),
+    ("crew,CARL,ZRH ,0,0,0", 4, "BASE", None),
+    ("duty,D3,P,P1,LHR,2024-06-13T08:00+00:00,2024-06-13T14:00Z", 4, "REPORT", None),
     ("sector,D1,X,2024-06-11T17:00Z,2024-06-11T18:00Z", 4, "O or P", None),
     ("sector,D1,O,2024-06-11,2024-06-11T18:00Z", 4, "OFF", None),
     ("sector,D1,O,2024-06-11T17:00Z,18:00", 4, "ON", None),
@@ -67,6 +74,10 @@ MISTAKES = [
     ("crew,CARL,ZRH,0,0,+5", 4, "ELEVEN", None),
     ("crew,CARL,ZRH,0,0,10 000", 4, "ELEVEN", None),
     ("pairing,P2,ZRH,1e3", 4, "PENALTY", None),
+    ("pairing,P2,ZRH,10.0", 4, "PENALTY", None),
+    ("pairing,P2,ZRH,10'000", 4, "PENALTY", None),
+    ("pairing,P2,ZRH,5 ", 4, "PENALTY", None),
+    ("base,OSL," + "U" * 65, 4, "ZONE", None),
     ("cost,BEN,P1,1234567890123", 4, "UNITS", None),
     ("base,OSL,UTC 0", 4, "ZONE", None),
     ("assign,P1,--", 4, "PERSON", None),
@@ -88,6 +99,7 @@ MISTAKES = [
     ("duty,D3,P,p1,LHR,2024-06-13T08:00Z,2024-06-13T14:00Z", 7, "PAIRING", 9),
     ("duty,D3,P,ANNA,LHR,2024-06-13T08:00Z,2024-06-13T14:00Z", 7, "PAIRING", 5),
     ("duty,D3,C,P1,LHR,2024-06-13T08:00Z,2024-06-13T14:00Z", 7, "PERSON", 9),
+    ("duty,D3,P,P9,LHR,2024-06-13T08:00Z,2024-06-13T14:00Z", 7, "PAIRING", None),
     ("sector,D9,O,2024-06-13T08:00Z,2024-06-13T14:00Z", 7, "DUTY", None),
     ("leave,CARL,2024-06-20T00:00Z,2024-06-21T00:00Z", 7, "PERSON", None),
     ("cost,CARL,P1,5", 7, "PERSON", None),
@@ -101,23 +113,27 @@ MISTAKES = [
     ("sector,D1,O,2024-06-11T21:00Z,2024-06-11T22:01Z", 8, "ON", 10),
     ("leave,BEN,2024-06-21T00:00Z,2024-06-21T00:00Z", 8, "TO", None),
     ("duty,D3,P,P1,LHR,2025-06-13T08:00Z,2025-06-13T14:00Z", 9, "RELEASE", None),
+    ("duty,D3,C,ANNA,LHR,2024-04-26T23:59Z,2024-04-27T14:00Z", 9, "REPORT", None),
     ("leave,BEN,2024-01-21T00:00Z,2024-06-01T00:00Z", 9, "FROM", None),
     ("leave,BEN,2024-06-21T00:00Z,2024-08-21T00:00Z", 9, "TO", None),
     ("base,OSL,Europe/Oslo", 10, "ZONE", None),
     ("base,OSL,CET", 10, "ZONE", None),
     ("base,OSL,UTC", 10, "ZONE", None),
+    ("base,OSL,CET-1CEST", 10, "ZONE", None),
     ("base,OSL,AMT-0:19:32", 10, "ZONE", None),
     ("pairing,P2,ZRH,0\nduty,D3,P,P2,LHR,2024-06-13T08:00Z,2024-06-13T14:00Z", 12, "STATION", 15),
     ("pairing,P2,ZRH,0\nduty,D3,P,P2,ZRH,2024-05-31T23:59Z,2024-06-01T14:00Z", 12, "REPORT", 15),
     ("leave,BEN,2024-06-13T14:59Z,2024-06-14T00:00Z", 13, "FROM", 8),
     ("leave,BEN,2024-06-13T00:00Z,2024-06-13T07:01Z", 13, "TO", 8),
     ("duty,T1,C,ANNA,ZRH,2024-06-11T23:00Z,2024-06-12T06:00Z", 13, "REPORT", 7),
+    ("leave,ANNA,2024-06-10T00:00Z,2024-06-12T00:00Z", 13, "FROM", 7),
     ("pairing,P2,ZRH,0", 14, "ID", None),
 ]
 FIRST = [
     ("", "1 1", None),
     ("KIND,FIELDS\n" + GOOD, "1 1", "the kind"),
     ("period;2024-06\n", "1 1", "the kind"),
+    (GOOD.replace("period", "Period"), "1 1", "the kind"),
     (GOOD.replace("UTC0", "UTC0\n" * 17, 1), "4 2", "the kind"),
     ("period,2024-06\n" + "".join(f"base,B{i},UTC0\n" for i in range(17)), "18 11", "the kind"),
 ]
@@ -180,7 +196,7 @@ def codes_in_documents(root, desk, tests, told):
     report = open(f"{root}/docs/REPORT.md", encoding="utf-8").read()
     for code, words in sorted(told.items()):
         tests.told(f"code {code} in docs/REPORT.md", f"| {code} | {words}" not in report and f"other words: {words}")
-    tests.told("codes of data/", set(told) != set(range(1, 15)) and f"only {sorted(told)}")
+    tests.told("codes of data/", set(told) != set(range(1, 16)) and f"only {sorted(told)}")
 
 
 def fault_books(root, desk, check, tests):
@@ -197,15 +213,15 @@ def fault_books(root, desk, check, tests):
         found = faults(text)
         if wanted.startswith("FAULT "):
             wrong = not found and "no fault" or found and "FAULT " + found[0][0] != wanted and "another fault"
-            for head, lines in found:
-                code = int(head.split()[1])
-                words = lines.get("code", "")
-                if words.startswith("the record "):
-                    told_codes[code] = words[len("the record ") :]
-                elif head != "1 1":
-                    wrong = wrong or "no words"
         else:
             wrong = not text.startswith("NO FAULT\n") and "a fault"
+        for head, lines in found:
+            code = int(head.split()[1])
+            words = lines.get("code", "")
+            if words.startswith("the record "):
+                told_codes[code] = words[len("the record ") :]
+            elif head != "1 1":
+                wrong = wrong or "no words"
         tests.told(f"fault of {name}", told.returncode != 0 and f"status {told.returncode}", wrong)
     codes_in_documents(root, desk, tests, told_codes)
 
@@ -239,38 +255,79 @@ def broken(books, draw):
     return bytes(book)
 
 
-def broken_books(root, desk, check, tests, count):
+def crowded_books(root, desk, tests):
+    """A book that only `solve` refuses: the fault that it tells, of the first person with too many legal sets."""
+    folder = f"{root}/data/294783-legal-sets"
+    text = desk("fault", f"{folder}/book.csv").stdout.decode()
+    found = faults(text)
+    wanted = open(f"{folder}/stdout").read().strip()
+    told = found and ("FAULT " + found[0][0], found[0][1].get("field"))
+    tests.told("a person with too many sets", not text.startswith("NO FAULT\n") and "a fault", told != (wanted, "ID") and f"told is {told}")
+    few = desk("fault", f"{root}/data/196527-legal-sets/book.csv").stdout.decode()
+    tests.told("a person with as many sets as there may be", faults(few) and "a fault")
+
+
+# How many books are broken at random.
+BROKEN = 2000
+# What is asked of a broken book beside its faults.
+ASKED = [["why"], ["limits"], ["table"], ["table", "--persons"], ["chart"], ["warn"], ["plan", "--effort", "0"]]
+
+
+def is_clean(text):
+    """Whether it is UTF-8 without control characters, and without those that turn the direction of writing."""
+    try:
+        return not any(ord(c) < 32 and c != "\n" or 127 <= ord(c) < 160 or c in "\u202e\ufeff" for c in text.decode())
+    except UnicodeDecodeError:
+        return False
+
+
+def wrong_fault(told, wanted):
+    """What is wrong with the faults that are told of a book, of which a check tells this first line."""
+    first = told.stdout.split(b"\n")[0].decode("utf-8", "replace")
+    is_right = first == wanted if wanted.startswith("FAULT ") else first == "NO FAULT"
+    return (told.returncode != 0 or told.stderr or not is_clean(told.stdout) or not is_right) and first
+
+
+def wrong_answer(told, wanted):
+    """What is wrong with an answer of another command: a book with a fault gets its line and status 1."""
+    is_fault = wanted.startswith("FAULT ")
+    is_right = told.returncode == is_fault and not told.stderr and is_clean(told.stdout)
+    return (not is_right or is_fault and told.stdout.decode() != wanted + "\n") and told.stdout[:100]
+
+
+def broken_books(root, desk, check, tests, count, seed):
     """No broken book stops the desk, and the first fault is that of a check."""
     books = []
     for name in sorted(os.listdir(f"{root}/data")):
         book = open(f"{root}/data/{name}/book.csv", "rb").read()
         if len(book) < 4000 and b"step," not in book:
             books.append(book)
-    draw = random.Random(20241)
-    failed = 0
+    draw = random.Random(seed)
+    failed = faulty = 0
     for n in range(count):
         book = broken(books, draw)
         wanted = check(book)
-        told = desk("fault", "-", book=book)
-        try:
-            text = told.stdout.decode("utf-8")
-        except UnicodeDecodeError:
-            text = ""
-        first = text.splitlines()[0] if text else "nothing"
-        is_right = first == wanted if wanted.startswith("FAULT ") else first == "NO FAULT"
-        if told.returncode != 0 or told.stderr or not is_right:
-            failed += 1
-            tests.told(f"broken book {n}", f"{first} in place of {wanted}, status {told.returncode}: {book[:300]!r}")
-    tests.told(f"{count} broken books", failed and f"{failed} are told otherwise")
+        faulty += wanted.startswith("FAULT ")
+        asked = draw.choice(ASKED)
+        for words, wrong in ((["fault"], wrong_fault), (asked, wrong_answer)):
+            told = desk(*words, "-", book=book)
+            if wrong(told, wanted):
+                failed += 1
+                tests.told(f"{words} of broken book {n}", f"not of {wanted}: {told} of {book[:300]!r}")
+    tests.told(f"{count} broken books, {faulty} with a fault", failed and f"{failed} are told otherwise")
 
 
 def odd_books(desk, tests):
     """Fields of a megabyte, and what isn't text."""
     for name, field in [("a megabyte", b"A" * 1000000), ("markup", b"<script>&"), ("no text", b"\xff\x00\x1b[31m\xe2\x80\xae")]:
         told = desk("fault", "-", book=b"period,2024-06\nbase," + field + b",UTC0\ncrew,A," + field + b",0,0,0\n")
-        text = told.stdout.decode()
-        odd = [c for c in text if ord(c) < 32 and c != "\n" or ord(c) in (0x202E, 127)]
-        tests.told(f"a field of {name}", told.returncode != 0 and "a status", len(text) > 3000 and "too long", odd and "control characters", len(faults(text)) != 2 and "other faults")
+        tests.told(
+            f"a field of {name}",
+            told.returncode != 0 and "a status",
+            len(told.stdout) > 3000 and "too long",
+            not is_clean(told.stdout) and "control characters",
+            len(faults(told.stdout.decode())) != 2 and "other faults",
+        )
 
 
 CREWS = "".join(f"crew,C{n},ZRH,0,{60 * n},{120 * n}\n" for n in range(1, 6))
@@ -408,7 +465,20 @@ def charts(root, desk, check, tests):
         told = desk("chart", "-", book=book)
         took = time.monotonic() - began
         tests.told(f"chart of {name}", told.returncode != 0 and "a status", wrong_page(told.stdout.decode()), took > 10 and f"{took:.1f} s")
+    checked_by_tidy(root, desk, tests)
     seen_in_browser(root, desk, tests)
+
+
+def checked_by_tidy(root, desk, tests):
+    """A checker of HTML has nothing to say of a page."""
+    checker = shutil.which("tidy")
+    if not checker:
+        print("tidy isn't here: no checker of HTML reads the chart")
+        return
+    page = desk("chart", f"{root}/examples/month-of-two-bases-checked.csv").stdout
+    words = ["-quiet", "-errors", "-utf8", "--drop-empty-elements", "no"]
+    said = subprocess.run([checker, *words], input=page, capture_output=True, check=False)
+    tests.told("the chart by a checker of HTML", said.returncode != 0 and f"told is {said.stderr[:200]}")
 
 
 def seen_in_browser(root, desk, tests):
@@ -434,12 +504,34 @@ def seen_in_browser(root, desk, tests):
             subprocess.run([browser, *words, f"file://{page}"], capture_output=True, check=False, timeout=120)
             drawn = os.path.exists(picture) and os.path.getsize(picture) > 10000
             tests.told(f"a picture of the chart, {width} wide", not drawn and "nothing is drawn")
+        printed = f"{folder}/chart.pdf"
+        words = ["--headless", "--no-sandbox", "--disable-gpu", f"--print-to-pdf={printed}", f"file://{page}"]
+        subprocess.run([browser, *words], capture_output=True, check=False, timeout=120)
+        tests.told("the chart printed", not os.path.exists(printed) and "nothing is printed")
+        opened_soon(root, desk, browser, folder, tests)
 
 
-def pages(root, desk, check, tests, count=2000):
+def opened_soon(root, desk, browser, folder, tests):
+    """The page of 64 persons and 256 pairings opens about as soon as an empty one."""
+    took = {}
+    for name, page in (("empty", b"<!DOCTYPE html><title>empty</title>"), ("full", desk("chart", "-", book=made(root, "month", "full", "1")).stdout)):
+        with open(f"{folder}/{name}.html", "wb") as file:
+            file.write(page)
+        words = ["--headless", "--no-sandbox", "--disable-gpu", "--dump-dom", f"file://{folder}/{name}.html"]
+        times = []
+        for _ in range(3):
+            began = time.monotonic()
+            subprocess.run([browser, *words], capture_output=True, check=False, timeout=120)
+            times.append(time.monotonic() - began)
+        took[name] = min(times)
+    tests.told("the chart of a large month opens", took["full"] - took["empty"] > 3 and f"after {took['full'] - took['empty']:.1f} s")
+
+
+def pages(root, desk, check, tests):
     mistakes(desk, tests)
     fault_books(root, desk, check, tests)
-    broken_books(root, desk, check, tests, count)
+    crowded_books(root, desk, tests)
+    broken_books(root, desk, check, tests, BROKEN, 20241)
     odd_books(desk, tests)
     warnings(root, desk, check, tests)
     charts(root, desk, check, tests)
