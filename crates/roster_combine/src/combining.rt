@@ -1,6 +1,6 @@
 //! The roster of least key among all that workers found.
 
-ghost use Rattle.std.specs.Prelude.{◌≡◌, ◌<◌, ◌↔◌, [], ℕ, All, IfOk, IsTrue, length, map, slice_index_or};
+ghost use Rattle.std.specs.Prelude.{◌≡◌, ◌<◌, ◌≤◌, ◌↔◌, [], ℕ, All, IfOk, IsTrue, length, map, slice_index_or};
 ghost use Rattle.std.specs.Arc.{arc_value};
 ghost use Rattle.roster_lines.specs.Person.{IsTableOf};
 ghost use Rattle.roster_branchtree.specs.Shown.{IsEarlierOf};
@@ -43,6 +43,7 @@ pub fn combine(
         Agree (map length table.now) (map (λ list. list.items) lists.items) closed → solved.fallbacks ≡ 0) }
     ensures differ { IfOk result (λ solved.
         ¬ Agree (map length table.now) (map (λ list. list.items) lists.items) closed → solved.fallbacks ≡ 1) }
+    ensures once { IfOk result (λ solved. solved.fallbacks ≤ 1) }
 {
     let widths = widths_of(alloc, problem, table)?;
     if agree(&widths, &lists, &closed) {

@@ -1,6 +1,6 @@
 //! The least roster of all.
 
-ghost use Rattle.std.specs.Prelude.{◌≡◌, ◌<◌, ℕ, IfErr, IfOk, length};
+ghost use Rattle.std.specs.Prelude.{◌≡◌, ◌<◌, ◌≤◌, ℕ, IfErr, IfOk, length};
 ghost use Rattle.std.specs.Arc.{arc_value};
 ghost use Rattle.roster_model.specs.Lines.{IsCrowded};
 ghost use Rattle.roster_combine.specs.Parts.{IsBestKey};
@@ -64,6 +64,9 @@ pub fn solve<R: Threads + Wait + Sync, G: Gate + Sync>(
 ) -> Result<Solved, SolveFault>
     requires { 0 < workers }
     ensures best { IfOk result (λ solved. IsBestKey problem.now (arc_value solved.roster)) }
+    ensures once { IfOk result (λ solved. solved.fallbacks ≤ 1) }
+    ensures nobody { IfOk result (λ solved.
+        length problem.now.persons ≡ 0 → solved.fallbacks ≡ 0) }
     ensures few { IfOk result (λ _. (k : ℕ)
         → k < length problem.now.persons → ¬ IsCrowded problem.now k) }
     ensures fault { IfErr result (IsSolveFaultOf problem.now) }

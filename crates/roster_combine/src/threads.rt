@@ -37,7 +37,10 @@ pub(crate) fn solve_over<R: Threads + Wait + Sync, G: Gate + Sync>(
 ) -> Result<Solved, AllocError>
     requires table { IsTableOf problem.now table.now }
     requires workers { 0 < workers }
-    ensures { IfOk result (λ solved. IsBestKey problem.now (arc_value solved.roster)) }
+    ensures best { IfOk result (λ solved. IsBestKey problem.now (arc_value solved.roster)) }
+    ensures once { IfOk result (λ solved. solved.fallbacks ≤ 1) }
+    ensures nobody { IfOk result (λ solved.
+        length problem.now.persons ≡ 0 → solved.fallbacks ≡ 0) }
 {
     if problem.persons().is_empty() {
         let roster = search_root(alloc, problem, table)?;
@@ -131,7 +134,8 @@ fn solve_from<L: Ledger + Send + Sync, R: Threads + Wait + Sync, G: Gate + Sync>
     requires name { blank.name ≡ L.name }
     requires parts { blank.parts ≡ L.parts }
     requires one_each { blank.parts ≡ workers }
-    ensures { IfOk result (λ solved. IsBestKey problem.now (arc_value solved.roster)) }
+    ensures best { IfOk result (λ solved. IsBestKey problem.now (arc_value solved.roster)) }
+    ensures once { IfOk result (λ solved. solved.fallbacks ≤ 1) }
 {
     let widths = widths_of(alloc, problem, table)?;
     let (state, shares) = match PoolState::<L>::start(alloc, &widths, workers, blank) {

@@ -1,6 +1,7 @@
 //! The least roster of a box.
 
-ghost use Rattle.std.specs.Prelude.{◌≡◌, ◌+◌, ◌<◌, false, true, IfOk, MatchOption, Some, length, not, unwrap_or};
+ghost use Rattle.std.specs.Prelude.{◌≡◌, ◌+◌, ◌<◌, false, true, not};
+ghost use Rattle.std.specs.Prelude.{IfOk, MatchOption, Some, length, unwrap_or};
 ghost use Rattle.roster_lines.specs.Person.{AreListed, IsTableOf};
 ghost use Rattle.roster_model.specs.Rosters.{key_le, key_of};
 ghost use Rattle.roster_model.specs.Settled.{Anywhere, IsHeld, Settles};

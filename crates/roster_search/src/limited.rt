@@ -20,15 +20,15 @@ use std::alloc::{AllocError, Global};
 /// What comes of a search that may be given up.
 #[derive(Debug, Drop)]
 pub enum Searched {
-    /// The least roster, if one costs less than the limit.
+    /// The least roster, if one costs less than the limit, or comes before the known one.
     Settled(Option<Roster>),
     /// The work was done before that was known.
     GivenUp,
 }
 
 /// The least roster in which each person has a line of the table, with its cost, if one costs less than the
-/// limit. It is given up once nodes have had so many lines to look at: work is counted, never time, so each run
-/// comes to the same.
+/// limit. It is given up once nodes have had so many lines to look at: work is counted, never time, so each
+/// run comes to the same.
 ///
 /// Bases aren't searched apart here, since the limit is one of them all; `least_by_bases` has no limit.
 pub fn least_within(
@@ -53,9 +53,9 @@ pub fn least_within(
     }
 }
 
-/// The least roster in which each person has a line of the table, with its cost, if its key is before that of
-/// the known roster. Each base is searched apart. It is given up as `least_within` is, and the work is that
-/// of all bases.
+/// The least roster in which each person has a line of the table, with its cost, if its key is before that
+/// of the known roster. Each base is searched apart. It is given up as `least_within` is, and the work is
+/// that of all bases.
 pub fn least_by_bases(
     alloc: Global,
     problem: &Problem,

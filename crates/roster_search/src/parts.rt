@@ -38,7 +38,8 @@ pub(crate) fn least_of_base<F: Finder>(
     least_in(alloc, problem, table, ranges, base, region, &root, finder)
 }
 
-/// `least_of_base`, for which so many threads look at the lines; those that have nothing to do help to search.
+/// `least_of_base`, for which so many threads look at the lines; those that have nothing to do help to
+/// search.
 pub(crate) fn least_of_base_by_threads<R: Threads + Sync>(
     rt: &R,
     alloc: Global,

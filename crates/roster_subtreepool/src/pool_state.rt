@@ -48,6 +48,7 @@ impl<L: Ledger> PoolState<L> {
         blank: Blank,
     ) -> Result<(PoolState<L>, Vec<Share<L>>), (Blank, AllocError)>
         requires persons { 0 < length widths.now }
+        requires workers { 0 < workers }
         requires name { blank.name ≡ L.name }
         requires parts { blank.parts ≡ L.parts }
         requires one_each { blank.parts ≡ workers }

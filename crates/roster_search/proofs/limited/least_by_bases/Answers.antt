@@ -16,7 +16,8 @@ returns-in-Ok c =
     let new : Key = unwrap_or c.in-Ok.found known in
     let ranges = c.as_slice-ranges.result.now in
     let are = subst (AreWhole table (length table)) (sym c.as_slice-ranges.ensures.value) c.in_ok-ranges.ensures in
-    Settles-wider problem (IsOfTable table) (IsInRanges table ranges) (IsOfTable table) (Some known) new
+    let settles = Settles-wider problem (IsOfTable table) (IsInRanges table ranges) (IsOfTable table) (Some known) new
     (Settles-within problem (IsInRanges table ranges) (IsOfTable table) (IsInRanges table ranges) (Some known) new c.in-Ok.ensures.settled
     (λ places legal is. in_whole_of table ranges places are is))
-    (λ places legal inside. of_whole table ranges places are inside)
+    (λ places legal inside. of_whole table ranges places are inside) in
+    record { settles = settles; before = c.in-Ok.ensures.before }
