@@ -58,10 +58,10 @@ impl Spare {
 pub struct JudgedSet<'a> {
     loads: &'a Loads<'a>,
     set: Set,
-    depth: usize,
+    depth: u32,
+    busy: u32,
     positions: Vec<u16>,
     rooms: Vec<u16>,
-    busy: u32,
 }
 
 impl<'a> Model for JudgedSet<'a> {
@@ -88,9 +88,9 @@ impl<'a> JudgedSet<'a> {
             loads,
             set: Set::empty(),
             depth: 0,
+            busy: busy_days(problem.days_of(k), &fixed),
             positions,
             rooms,
-            busy: busy_days(problem.days_of(k), &fixed),
         })
     }
 
@@ -117,14 +117,15 @@ impl<'a> JudgedSet<'a> {
             return Ok(None);
         }
         let rooms = left(spare.take(), &self.rooms, loads.load(p))?;
-        let set = self.set.with(p)?;
+        let mut set = self.set;
+        set.put(p);
         Ok(Some(JudgedSet {
             loads,
             set,
             depth: self.depth + 1,
+            busy,
             positions,
             rooms,
-            busy,
         }))
     }
 

@@ -1,11 +1,11 @@
 -- One bit of some words: read, set, and the first from one on.
 use Rattle.std.proofs.Common.{◌≡◌, ℕ, zero, suc, ◌+◌, ◌-◌, ◌*◌, ◌/◌, ◌%◌, ◌^◌, ◌<◌, ◌≤◌, true, false, ◌&&◌, ◌||◌, eqb, eq-eqb, List, [], length, get_or, set, refl, sym, ap, ◌∙◌, subst, inl, inr, arith, bit_and, bit_or, w64, lit<}
-use Rattle.std.specs.Prelude.{All, Some, None, min, replicate}
+use Rattle.std.specs.Prelude.{All, Option, Some, None, min, replicate}
 use Rattle.std.specs.Int.{bit_at, trailing_zeros}
 use Rattle.std.proofs.Math.Bool.{or-false, or-true}
 use Rattle.std.proofs.Math.Nat.{div-div-eq-div-mul, div-le_self}
 use Rattle.std.proofs.lemmas.Bool.{cases_eq, cases_lt, ne_eqb, both_ways}
-use Rattle.std.proofs.lemmas.List.{get_or-set_same, get_or-set_other, length-replicate}
+use Rattle.std.proofs.lemmas.List.{get_or-set_same, get_or-set_other, get_or_past, length-replicate}
 use Rattle.std.proofs.lemmas.List.Elements.{All-replicate, All-set}
 use Rattle.std.proofs.lemmas.Nat.{div-add-mod', pow-add, and_le_l, or_lt}
 use Rattle.std.proofs.lemmas.Nat.Bits.{bit_at-lt, bit_at_above, bit_at-zero, bit_at_and, bit_at_set_same, bit_at_set_other, bit_at-trailing_zeros}
@@ -66,27 +66,47 @@ first_bit_from word from fits some =
 
 -- ---- the first bit of some words
 
-pub no_bit_in_word : (words : List ℕ) (start p : ℕ) → IsFirstInWord (get_or words (start / 64) 0) (start % 64) None → start ≤ p → p < (start / 64 + 1) * 64 → has_bit words p ≡ false
-no_bit_in_word words start p none l inside =
-    let word : p / 64 ≡ start / 64 = omega arith in
+pub no_bit_in_word : (words : List ℕ) (i low p : ℕ) → IsFirstInWord (get_or words i 0) low None → i * 64 + low ≤ p → p < (i + 1) * 64 → has_bit words p ≡ false
+no_bit_in_word words i low p none l inside =
+    let word : p / 64 ≡ i = omega arith in
     let bit : bit_at (get_or words (p / 64) 0) (p % 64) ≡ 0 = rw word (none (p % 64) (omega arith)) in
     ap (λ n. eqb n 1) bit
 
-pub first_in_words : (words : List ℕ) (from start bit : ℕ) → from ≤ start → ((p : ℕ) → from ≤ p → p < start → has_bit words p ≡ false) → IsFirstInWord (get_or words (start / 64) 0) (start % 64) (Some bit) → IsFirstBit words from (Some (start / 64 * 64 + bit))
-first_in_words words from start bit onward before found =
+-- no bit past the words is set
+pub no_bit_past : (words : List ℕ) (p : ℕ) → length words * 64 ≤ p → has_bit words p ≡ false
+no_bit_past words p past =
+    ap (λ w. eqb (bit_at w (p % 64)) 1) (get_or_past words (p / 64) 0 (omega arith)) ∙ ap (λ n. eqb n 1) (bit_at-zero (p % 64))
+
+pub first_in_words : (words : List ℕ) (from i low bit : ℕ) → from ≤ i * 64 + low → ((p : ℕ) → from ≤ p → p < i * 64 + low → has_bit words p ≡ false) → IsFirstInWord (get_or words i 0) low (Some bit) → IsFirstBit words from (Some (i * 64 + bit))
+first_in_words words from i low bit onward before found =
     let inside : bit < 64 = found.1 in
-    let low : start % 64 ≤ bit = found.0 in
-    let here : has_bit words (start / 64 * 64 + bit) ≡ true = has_bit_at words (start / 64) bit inside ∙ ap (λ n. eqb n 1) found.2 in (
+    let above : low ≤ bit = found.0 in
+    let here : has_bit words (i * 64 + bit) ≡ true = has_bit_at words i bit inside ∙ ap (λ n. eqb n 1) found.2 in (
       omega arith,
       here,
-      λ q l later. elim (cases_lt q start) [
+      λ q l later. elim (cases_lt q (i * 64 + low)) [
         | inl earlier ↦ before q l earlier
         | inr on ↦
-            let word : q / 64 ≡ start / 64 = omega arith in
+            let word : q / 64 ≡ i = omega arith in
             let none : bit_at (get_or words (q / 64) 0) (q % 64) ≡ 0 = rw word (found.3 (q % 64) (omega arith) (omega arith)) in
             ap (λ n. eqb n 1) none
       ],
     )
+
+-- the first bit from a place on is that from an earlier place on if none is set between them
+pub first_from_before : (words : List ℕ) (from mid : ℕ) (found : Option ℕ) → from ≤ mid → ((p : ℕ) → from ≤ p → p < mid → has_bit words p ≡ false) → IsFirstBit words mid found → IsFirstBit words from found
+first_from_before words from mid None onward before none = λ p l. elim (cases_lt p mid) [
+  | inl earlier ↦ before p l earlier
+  | inr on ↦ none p on
+]
+first_from_before words from mid (Some p) onward before first = (
+  let later = first.0 in omega arith,
+  first.1,
+  λ q l below. elim (cases_lt q mid) [
+    | inl earlier ↦ before q l earlier
+    | inr on ↦ first.2 q on below
+  ],
+)
 
 -- ---- no bits
 

@@ -1,10 +1,10 @@
 //! Sets of pairings.
 
-ghost use Rattle.std.specs.Prelude.{◌≡◌, ◌+◌, ◌^◌, ◌<◌, ◌≤◌, ◌↔◌, ◌&&◌, ◌||◌, ◌==◌, ◌++◌, ◌∷◌, ℕ, true, false, [], IsTrue, IsOkAnd, IfSome, MatchOption, All, length};
+ghost use Rattle.std.specs.Prelude.{◌≡◌, ◌+◌, ◌*◌, ◌^◌, ◌<◌, ◌≤◌, ◌↔◌, ◌&&◌, ◌||◌, ◌==◌, ◌++◌, ◌∷◌, ℕ, true, false, [], IsTrue, IsOkAnd, IfSome, MatchOption, All, length};
 ghost use Rattle.std.specs.List.Sorted.{IsStrictlyIncreasing};
 ghost use Rattle.roster_model.specs.Rules.{is_among};
 ghost use Rattle.roster_model.specs.Places.{set_of};
-ghost use Rattle.roster_problem.specs.Set.{has_bit, places_from, with_place, IsFirstInWord};
+ghost use Rattle.roster_problem.specs.Set.{has_bit, places_from, with_place, IsFirstBit, IsFirstInWord};
 
 use roster_model::limits::MOST_PAIRINGS;
 use std::alloc::AllocError;
@@ -141,14 +141,7 @@ impl Set {
         ensures whole { places_from 0 self.now ≡ self.now }
         ensures ascending { IsStrictlyIncreasing self.now }
     {
-        let mut start = from;
-        while start < MOST_PAIRINGS {
-            if let Some(bit) = first_in_word(self.words[start / 64], start % 64) {
-                return Some(start / 64 * 64 + bit);
-            }
-            start = (start / 64 + 1) * 64;
-        }
-        None
+        first_bit(&self.words, from)
     }
 
     /// The set of the places at which the list has the number.
@@ -191,6 +184,33 @@ fn keep_bits(words: &mut [u64; SET_WORDS], others: &[u64; SET_WORDS])
     for i in 0..SET_WORDS {
         words[i] &= others[i];
     }
+}
+
+/// The first bit at or after bit `from` that is set, if one is.
+fn first_bit(words: &[u64; SET_WORDS], from: usize) -> Option<usize>
+    ensures { IsFirstBit words.now from result }
+{
+    let word = from / 64;
+    if word >= SET_WORDS {
+        return None;
+    }
+    if let Some(bit) = first_in_word(words[word], from % 64) {
+        return Some(word * 64 + bit);
+    }
+    first_in_words(words, word + 1)
+}
+
+/// The first bit of the words from this one on that is set, if one is.
+fn first_in_words(words: &[u64; SET_WORDS], word: usize) -> Option<usize>
+    requires { word ≤ SET_WORDS }
+    ensures { IsFirstBit words.now (word * 64) result }
+{
+    for i in word..SET_WORDS {
+        if let Some(bit) = first_in_word(words[i], 0) {
+            return Some(i * 64 + bit);
+        }
+    }
+    None
 }
 
 /// The first bit of the word at or after bit `from`, if one is set.

@@ -56,7 +56,7 @@ overflow_add-result c =
     omega arith
 
 -- what is known of the longer set,
-longer : (c : goal.In_ok-set) → IsStepped c.args.self.now.loads (c.args.self.now.set ++ c.args.p ∷ []) (c.self.inside.depth + 1) c.in_ok-positions.positions.items c.in_ok-rooms.rooms.items (bit_or c.self.inside.busy c.busy.result)
+longer : (c : goal.After-put) → IsStepped c.args.self.now.loads (c.args.self.now.set ++ c.args.p ∷ []) (c.self.inside.depth + 1) c.in_ok-positions.positions.items c.in_ok-rooms.rooms.items (bit_or c.self.inside.busy c.busy.result)
 longer c =
     let judged = c.args.self.now in
     let problem = judged.loads.problem in
@@ -80,19 +80,19 @@ longer c =
     (c.has_days_off_with.ensures.yes c.if-not-has_days_off_with.false)
 
 -- which has the pairing behind
-set_is : (c : goal.In_ok-set) → c.in_ok-set.set ≡ c.args.self.now.set ++ c.args.p ∷ []
+set_is : (c : goal.After-put) → c.put.new.self ≡ c.args.self.now.set ++ c.args.p ∷ []
 set_is c =
     let set = ap (λ (j : Stepped). j.set) c.self.view_is in
-    c.in_ok-set.ensures.last (subst (All (λ q. q < c.args.p)) (sym set) c.requires.behind) ∙ ap (λ xs. xs ++ c.args.p ∷ []) set
+    c.put.ensures.last (subst (All (λ q. q < c.args.p)) (sym set) c.requires.behind) ∙ ap (λ xs. xs ++ c.args.p ∷ []) set
 
 pub invariant_of-result : goal.invariant_of-result
 invariant_of-result c =
     let same = ap (λ (j : Stepped). j.loads) c.self.view_is in
     let known = subst (λ (set : List ℕ). IsStepped c.args.self.now.loads set (c.self.inside.depth + 1) c.in_ok-positions.positions.items c.in_ok-rooms.rooms.items (bit_or c.self.inside.busy c.busy.result)) (sym (set_is c)) (longer c) in
-    subst (λ (l : Loaded). IsStepped l c.in_ok-set.set (c.self.inside.depth + 1) c.in_ok-positions.positions.items c.in_ok-rooms.rooms.items (bit_or c.self.inside.busy c.busy.result)) (sym same) known
+    subst (λ (l : Loaded). IsStepped l c.put.new.self (c.self.inside.depth + 1) c.in_ok-positions.positions.items c.in_ok-rooms.rooms.items (bit_or c.self.inside.busy c.busy.result)) (sym same) known
 
 pub returns : goal.returns
 returns c =
     let same = ap (λ (j : Stepped). j.loads) c.self.view_is in
     let stepped : Loaded → List ℕ → Stepped = λ loads set. record { loads = loads; set = set } in
-    (ap (λ l. stepped l c.in_ok-set.set) same ∙ ap (stepped c.args.self.now.loads) (set_is c), (longer c).legal)
+    (ap (λ l. stepped l c.put.new.self) same ∙ ap (stepped c.args.self.now.loads) (set_is c), (longer c).legal)
