@@ -165,8 +165,7 @@ fn extend<W: Wanted>(
             if lines.width() == most {
                 return Err(LinesFault::TooMany);
             }
-            let set = stem.set.with(p)?;
-            let below = stem.below(problem, k, pairs, p, set, lines.width());
+            let below = stem.below(problem, k, pairs, p, lines.width());
             lines.push(stem.number, p, below.cost(problem, k))?;
             extend(
                 spare, &longer, problem, k, wanted, most, pairs, &below, lines,

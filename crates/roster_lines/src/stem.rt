@@ -41,14 +41,13 @@ impl Stem {
         }
     }
 
-    /// The line with this set and this number that the stem makes with candidate `p` behind.
+    /// The line with this number that the stem makes with candidate `p` behind.
     pub(crate) fn below(
         &self,
         problem: &Problem,
         k: usize,
         pairs: &Pairs,
         p: usize,
-        set: Set,
         number: usize,
     ) -> Stem
         requires person { k < length problem.now.persons }
@@ -57,8 +56,7 @@ impl Stem {
         requires pairs { ArePairs problem.now k pairs.now }
         requires stem { IsStem problem.now k self.now }
         requires candidate { is_among self.now.candidates p ≡ true }
-        requires set { set ≡ self.now.set ++ p ∷ [] }
-        requires line { IsLine problem.now k set }
+        requires line { IsLine problem.now k (self.now.set ++ p ∷ []) }
         ensures stem { IsStem problem.now k result }
         ensures set { result.set ≡ self.now.set ++ p ∷ [] }
         ensures number { result.number ≡ number }
@@ -66,6 +64,8 @@ impl Stem {
         units_of_set();
         one_pairing_more();
         problem.is_sound();
+        let mut set = self.set;
+        set.put(p);
         Stem {
             set,
             number,

@@ -14,7 +14,7 @@ use Rattle.roster_lines.proofs.Marks.{get_push_new, get_push_old, HasMoreLines-p
 use Rattle.roster_lines.proofs.Stems.{costs_pushed, line_there, no_line_there, longer_set, past_candidate, sets_pushed, up_to_candidate}
 use Rattle.roster_lines.proofs.TreeLemmas.{length-sets_of}
 use Rattle.roster_lines.proofs.extend.+extend.Given as given
-use Rattle.roster_lines.proofs.extend.+extend.Goals.{In-Some, In-Some-2, in-Some-2+else-width-most+in_ok-set+in_ok-push+in_ok-extend, in_default-2}
+use Rattle.roster_lines.proofs.extend.+extend.Goals.{In-Some, In-Some-2, in-Some-2+else-width-most+in_ok-push+in_ok-extend, in_default-2}
 use Rattle.roster_lines.proofs.extend.+extend.Goals as goal
 
 -- what is wanted
@@ -55,13 +55,8 @@ push-requires-clause-ordered g t c =
     let at = (goal.at.push-requires-clause-ordered g t c).In-Some in
     subst (λ mark. All (λ s. places_le mark s ≡ false) (sets_of c.loop-p.lines)) (sym (longer_set c.loop-p.lines _ c.in-Some.p _ (number g t at))) (up g t at).before
 
-pub below-below-requires-clause-set : goal.below-below-requires-clause-set
-below-below-requires-clause-set g t c = c.in_ok-set.ensures.last (c.requires.stem.behind c.in-Some.p c.in-Some.ensures.place.2)
-
 pub below-below-requires-clause-line : goal.below-below-requires-clause-line
-below-below-requires-clause-line g t c =
-    let set = c.in_ok-set.ensures.last (c.requires.stem.behind c.in-Some.p c.in-Some.ensures.place.2) in
-    subst (IsLine c.args.problem.now c.args.k) (sym set) (found g t (goal.at.below-below-requires-clause-line g t c).In-Some-2).1
+below-below-requires-clause-line g t c = (found g t (goal.at.below-below-requires-clause-line g t c).In-Some-2).1
 
 pub extend-requires : goal.extend-requires
 extend-requires g t c κs within =
@@ -100,7 +95,7 @@ loop-p-preserved g t c =
     let at = (goal.at.loop-p-preserved g t c).In-Some in
     let next = c.requires.stem.places p c.in-Some.ensures.place.2 in
     elim c.match-branch-2.branch [
-      | in-Some-2+else-width-most+in_ok-set+in_ok-push+in_ok-extend w ↦
+      | in-Some-2+else-width-most+in_ok-push+in_ok-extend w ↦
           let made = w.below-below.ensures.set in
           let pushed = sets_pushed lines w.push.new.self stem.number p _ stem.set w.below-below.result.set w.in_ok-push.ensures (number g t at) made in
           let same = ap sets_of (sym w.lines-is) in

@@ -1,7 +1,8 @@
-use Rattle.std.proofs.Common.{◌≡◌, ℕ, ◌+◌, ◌<◌, [], ◌∷◌, ◌++◌, length, ◌+ℤ◌, SFits, w64, to_z, of_z, refl, sym, ap, ◌∙◌, arith, rules}
+use Rattle.std.proofs.Common.{◌≡◌, ℕ, ◌+◌, ◌<◌, [], ◌∷◌, ◌++◌, List, length, ◌+ℤ◌, SFits, w64, to_z, of_z, refl, sym, ap, ◌∙◌, subst, arith, rules}
 use Rattle.std.proofs.lemmas.Int.{ints}
 use Rattle.std.proofs.lemmas.Option.{slice_get_read}
 use Rattle.roster_model.specs.Costs.{flight_of, total}
+use Rattle.roster_model.specs.Lines.{IsLine}
 use Rattle.roster_model.specs.Problem.{units_of}
 use Rattle.roster_lines.specs.declared.stem.Stem.{Stem}
 use Rattle.roster_lines.proofs.Listed.{IsStem-below}
@@ -29,13 +30,18 @@ returns-clause-stem c =
     let there = slice_get_read rows (length rows) p c.index.result.now refl inside c.index.ensures in
     let before : SFits w64 stem.units = search rules in
     let brought : SFits w64 units = search rules in
-    let within = c.units_of_set.ensures problem k c.args.set c.is_sound.ensures.sound c.requires.line.ascending c.requires.line.places in
-    let all : stem.units +ℤ units ≡ total (units_of problem k) c.args.set =
-    omega (arith, ints, is.units, c.units.ensures.value, c.one_pairing_more.ensures.units problem k p stem.set, ap (total (units_of problem k)) c.requires.set) in
+    let longer : List ℕ = stem.set ++ p ∷ [] in
+    let made : c.put.new.self ≡ longer = c.put.ensures.last (is.behind p c.requires.candidate) in
+    let within = c.units_of_set.ensures problem k longer c.is_sound.ensures.sound c.requires.line.ascending c.requires.line.places in
+    let all : stem.units +ℤ units ≡ total (units_of problem k) longer =
+    omega (arith, ints, is.units, c.units.ensures.value, c.one_pairing_more.ensures.units problem k p stem.set) in
     let more = c.one_pairing_more.ensures.flight problem k p stem.set in
     let flown = flight_with problem k stem c.args.pairs.now.flights.items p c.index-2.result.now is c.requires.pairs.flights c.requires.candidate more c.index-2.ensures in
-    let below : Stem = record { set = c.args.set; number = c.args.number; candidates = c.and.result; units = to_z w64 (of_z w64 (to_z w64 (of_z w64 stem.units) +ℤ to_z w64 (of_z w64 units))); flight = stem.flight + c.index-2.result.now } in
-    IsStem-below problem k c.requires.parts stem below p c.index.result.now is c.requires.candidate (c.requires.pairs.rows p c.index.result.now there) c.requires.set c.and.ensures
-    (omega (arith, ints, before, brought, all, within.0, within.1))
-    (flown ∙ ap (flight_of problem k) (sym c.requires.set))
-    c.requires.line
+    let below : Stem = record { set = c.put.new.self; number = c.args.number; candidates = c.and.result; units = to_z w64 (of_z w64 (to_z w64 (of_z w64 stem.units) +ℤ to_z w64 (of_z w64 units))); flight = stem.flight + c.index-2.result.now } in
+    IsStem-below problem k c.requires.parts stem below p c.index.result.now is c.requires.candidate (c.requires.pairs.rows p c.index.result.now there) made c.and.ensures
+    (omega (arith, ints, before, brought, all, within.0, within.1) ∙ ap (total (units_of problem k)) (sym made))
+    (flown ∙ ap (flight_of problem k) (sym made))
+    (subst (IsLine problem k) (sym made) c.requires.line)
+
+pub returns-clause-set : goal.returns-clause-set
+returns-clause-set c = c.put.ensures.last (c.requires.stem.behind c.args.p c.requires.candidate)
