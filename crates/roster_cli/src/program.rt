@@ -26,7 +26,7 @@ use std::process::ExitCode;
 use std::sync::Wait;
 use std::thread::Threads;
 
-/// The exit status of a command line that is refused, a call for help included.
+/// The exit status of a command line that is refused, a call for help or the version included.
 const LINE_REFUSED: u8 = 2;
 
 /// Does what the words of the command line ask for, and gives the exit status. `errors` is told why there

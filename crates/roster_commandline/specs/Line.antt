@@ -25,12 +25,12 @@ workers_rule = record (new_rule (codes "workers")) {
 abbrev pub solve_app : App
 solve_app = with_rule (new_app (codes "solve")) workers_rule
 
--- `roster` with its subcommands, of which one has to be given
+-- `roster`, which has a version, with its subcommands, of which one has to be given
 abbrev pub bare_app : App
 bare_app = new_app (codes "roster")
 
 abbrev pub demanding_app : App
-demanding_app = record bare_app { top = record bare_app.top { subcommand_required = true } }
+demanding_app = record bare_app { top = record bare_app.top { has_version = true; subcommand_required = true } }
 
 abbrev pub roster_app : App
 roster_app =

@@ -13,10 +13,13 @@ use std::alloc::{AllocError, Global};
 use std::convert::AsStr;
 use thiserror::Error;
 
+/// The version of the program; the file VERSION has it too.
+const VERSION: &str = "1.0.0";
+
 /// Why a command line gave no command.
 #[derive(Debug, Drop, Error)]
 pub enum LineFault {
-    /// The words are refused, or ask for help, as `clap`'s error tells.
+    /// The words are refused, or ask for help or the version, as `clap`'s error tells.
     #[error("{0}")]
     Refused(clap::Error),
     /// Memory ran out.
@@ -59,6 +62,7 @@ fn solver<'a>(alloc: Global) -> Result<clap::Command<'a>, AllocError>
     let solve = solve(alloc)?;
     clap::Command::new(alloc, "roster")
         .about("Rosters airline crew by those rules of ORO.FTL that it judges")
+        .version(VERSION)
         .subcommand_required(true)
         .subcommand(solve)
 }
