@@ -8,7 +8,7 @@ use Rattle.roster_model.specs.Places.{set_of}
 use Rattle.roster_model.specs.Problem.{Problem}
 use Rattle.roster_model.specs.Rosters.{IsLegalRoster, Key}
 use Rattle.roster_model.specs.Rules.{is_among}
-use Rattle.roster_model.specs.Settled.{Settles}
+use Rattle.roster_model.specs.Settled.{IsNotAfter}
 use Rattle.roster_model.proofs.LineLemmas.{given_line}
 use Rattle.roster_model.proofs.PlacesLemmas.{is_among-set_of_past}
 use Rattle.roster_lines.specs.declared.wanted.Between.{Between}
@@ -16,6 +16,7 @@ use Rattle.roster_lines.specs.Between.{IsBetween}
 use Rattle.roster_lines.specs.Entries.{Entry}
 use Rattle.roster_lines.specs.Person.{lines_at, AreListed, IsOfTable}
 use Rattle.roster_lines.specs.WantedTables.{AreAllWanted}
+use Rattle.roster_search.specs.Limited.{IsEarlier}
 use Rattle.roster_plan.specs.Near.{IsNear}
 
 -- what a person wants who keeps some pairings and may have others
@@ -35,9 +36,12 @@ of_near problem wanted table places listed all covers legal near k inside =
       | inr past ↦ absurd (omega (arith, past.0, person, covers))
     ]
 
--- the earlier one of the known roster and of what is found in the table
-abbrev pub IsFoundFrom : Problem → List (List Entry) → Key → Option Key → Type 0
-IsFoundFrom problem table known found = Settles problem (IsOfTable table) (IsOfTable table) (Some known) (unwrap_or found known)
+-- so no roster of it is before the known one or the one that is found instead
+pub none_nearer : (problem : Problem) (wanted : List Between) (table : List (List Entry)) (known : Key) (found : Option Key)
+    → AreListed problem table → AreAllWanted wants problem wanted table → length wanted ≡ length problem.persons
+    → IsEarlier problem table known found → IsNotAfter problem (IsNear wanted) (unwrap_or found known)
+none_nearer problem wanted table known found listed all covers earlier others legal near =
+    earlier.settles.least others legal (of_near problem wanted table others listed all covers legal near)
 
 -- a set that has each pairing,
 abbrev pub HasAll : ℕ → List ℕ → Type 0

@@ -3,3 +3,4 @@ pub mod Floors
 pub mod Drafts
 pub mod Exact
 pub mod Near
+pub mod Planned

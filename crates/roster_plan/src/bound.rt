@@ -42,7 +42,8 @@ fn floor(judge: &mut Judge<'_>, problem: &Problem, p: usize) -> Result<i64, Allo
     Ok(least)
 }
 
-/// The least so far, or the units of person `k` with the pairing if they are fewer and it is legal alone.
+/// The least so far, or the units of person `k` with the pairing if they are fewer and it is legal
+/// alone.
 fn lower(
     judge: &mut Judge<'_>,
     problem: &Problem,

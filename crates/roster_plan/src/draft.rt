@@ -10,8 +10,8 @@ use roster_problem::{Problem, Set, open_number, put};
 use std::alloc::{AllocError, Global};
 use std::marker::Model;
 
-/// A roster that changes, the one that it goes back to, and the best so far. Each of them is legal, which
-/// the type keeps. Contracts see the problem.
+/// A roster that changes, the one that it goes back to, and the best so far. Each of them is legal,
+/// which the type keeps. Contracts see the problem.
 #[derive(Drop)]
 pub(crate) struct Draft<'a> {
     problem: &'a Problem,
@@ -60,8 +60,8 @@ impl<'a> Draft<'a> {
         &self.places
     }
 
-    /// Gives the set to person `k`, if it is legal: who had any of it loses that, and what `k` had beside it
-    /// is left open. Else, or if there is no such person or pairing, nothing changes.
+    /// Gives the set to person `k`, if it is legal: who had any of it loses that, and what `k` had
+    /// beside it is left open. Else, or if there is no such person or pairing, nothing changes.
     pub(crate) fn assign(&mut self, k: usize, set: &Set) -> Result<bool, AllocError>
         ensures { self.new ≡ self.old }
     {

@@ -1,8 +1,8 @@
 //! The best roster, if the bound is near enough to what it costs.
 //!
-//! A roster that costs at most so much more than the bound has lines of low reduced cost only. If these are
-//! few they are listed, and searched whole: the least of their rosters is then the best of all, or no roster
-//! costs so little.
+//! A roster that costs at most so much more than the bound has lines of low reduced cost only. If these
+//! are few they are listed, and searched whole: the least of their rosters is then the best of all, or
+//! no roster costs so little.
 
 ghost use Rattle.std.specs.Prelude.{◌≡◌, ◌<◌, ◌≤◌, ◌≤ℤ◌, ◌+ℤ◌, pos, IfOk, IfSome};
 ghost use Rattle.roster_plan.specs.Exact.{IsExact};
@@ -36,7 +36,8 @@ pub(crate) enum Found {
     AtLeast(i64),
 }
 
-/// The best roster, or what no roster costs less than: at least the bound. The known roster costs so much.
+/// The best roster, or what no roster costs less than: at least the bound. The known roster costs so
+/// much.
 pub(crate) fn best_or_bound(
     alloc: Global,
     problem: &Problem,
@@ -64,8 +65,8 @@ pub(crate) fn best_or_bound(
     Ok(Found::AtLeast(low))
 }
 
-/// The best roster if it costs at most so many units more than the bound, or that none does; or nothing, if that
-/// takes too many lines or too long.
+/// The best roster if it costs at most so many units more than the bound, or that none does; or nothing,
+/// if that takes too many lines or too long.
 fn within(
     alloc: Global,
     problem: &Problem,
@@ -77,12 +78,12 @@ fn within(
     ensures { IfOk result (λ found. IfSome found (IsExact problem.now)) }
 {
     let limit = limit_of(priced.bound(), gap);
-    let table = match priced.lines_within(alloc, gap, lines_of(effort)) {
+    let table = match priced.lines_within(alloc, gap, most_lines(effort)) {
         Ok(table) => table,
         Err(TableFault::TooMany(_)) => return Ok(None),
         Err(TableFault::Memory) => return Err(AllocError),
     };
-    match least_within(alloc, problem, &table, limit, work_of(effort))? {
+    match least_within(alloc, problem, &table, limit, most_work(effort))? {
         Searched::Settled(Some(roster)) => Ok(Some(Found::Best(roster))),
         Searched::Settled(None) => Ok(Some(Found::AtLeast(limit))),
         Searched::GivenUp => Ok(None),
@@ -107,7 +108,7 @@ fn wider(gap: u32, whole: u32) -> u32 {
 }
 
 /// How many lines a person may have.
-pub(crate) fn lines_of(effort: u32) -> usize
+pub(crate) fn most_lines(effort: u32) -> usize
     ensures { (0 < result) × (result ≤ MOST_LINES) }
 {
     let effort = if effort < MOST_EFFORT {
@@ -119,6 +120,6 @@ pub(crate) fn lines_of(effort: u32) -> usize
 }
 
 /// How many lines nodes may have to look at in one search.
-pub(crate) fn work_of(effort: u32) -> u64 {
+pub(crate) fn most_work(effort: u32) -> u64 {
     FEWEST_WORK << effort.min(MOST_EFFORT)
 }

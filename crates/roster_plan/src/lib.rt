@@ -1,10 +1,10 @@
 //! A legal roster of any month with its cost, and a number that no roster costs less than.
 //!
-//! `plan` answers every problem, also one with far more legal sets than can be listed. If there are few, it
-//! searches them whole. Else it begins with what is legal of a given roster, improves it by a fixed number of
-//! random changes, then by searches of neighbourhoods, and promises neither the best roster nor a near one:
-//! each step keeps the roster legal, and the result is the earliest of what was given, of no pairings at all,
-//! and of what was found. In reading order:
+//! `plan` answers every problem, also one with far more legal sets than can be listed. If there are few,
+//! it searches them whole. Else it begins with what is legal of a given roster, improves it by a fixed
+//! number of random changes, then by searches of neighbourhoods, and promises neither the best roster
+//! nor a near one: each step keeps the roster legal, and the result is the earliest of what was given,
+//! of no pairings at all, and of what was found. In reading order:
 //!
 //! - `kept`: what is legal of a given roster
 //! - `bound`: what no roster costs less than

@@ -8,7 +8,8 @@ use std::alloc::AllocError;
 /// The minutes of a day.
 const DAY: i64 = 24 * 60;
 
-/// So often two persons give each other what hinders what they get; more would be most of what they have.
+/// So often two persons give each other what hinders what they get; more would be most of what they
+/// have.
 const MOST_ROUNDS: usize = 8;
 
 impl<'a> Search<'a> {

@@ -1,8 +1,8 @@
 //! Neighbourhoods of a roster, searched whole.
 //!
-//! In a neighbourhood each person keeps some pairings and may have some others. Its lines are listed, and the
-//! least of its rosters is found, as the best roster of a small month is: that is the neighbourhood in which
-//! nobody keeps anything, and everybody may have all.
+//! In a neighbourhood each person keeps some pairings and may have some others. Its lines are listed,
+//! and the least of its rosters is found, as the best roster of a small month is: that is the
+//! neighbourhood in which nobody keeps anything, and everybody may have all.
 
 ghost use Rattle.std.specs.Prelude.{◌≡◌, ◌<◌, ◌≤◌, ℕ, true, List, IfOk, length, replicate};
 ghost use Rattle.roster_lines.specs.Listing.{AreAllPairs};
@@ -35,12 +35,12 @@ const SEARCHES_AN_EFFORT: u32 = 20;
 pub(crate) struct Nearby {
     /// The roster.
     pub(crate) roster: Roster,
-    /// Whether no roster of the neighbourhood is better.
+    /// Whether it is known that no roster of the neighbourhood is earlier.
     pub(crate) is_settled: bool,
 }
 
-/// The earlier one of the known roster and the least one of the neighbourhood; or the known one, if somebody
-/// has more than `most` lines there, or nodes have more lines to look at than `work`.
+/// The earlier one of the known roster and the least one of the neighbourhood; or the known one, if
+/// somebody has more than `most` lines there, or nodes have more lines to look at than `work`.
 pub(crate) fn search_nearby(
     alloc: Global,
     problem: &Problem,

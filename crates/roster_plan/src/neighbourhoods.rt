@@ -16,17 +16,30 @@ const SEED: u64 = 20_240_302;
 /// The minutes of a day.
 const DAY: i64 = 24 * 60;
 
-/// More days than a month has.
-const MANY_DAYS: u32 = 40;
-
-/// About so many open pairings may be given to persons.
+/// About so many open pairings of a base may be given to its persons.
 const MOST_OPEN: usize = 12;
 
-/// How large the kinds of neighbourhoods are at first, in quarters: of a person, of a day, and of a day.
-const FIRST_SIZES: [u32; 3] = [12, 48, 32];
+/// Sizes are in such parts of a person or of a day.
+const PARTS: u32 = 4;
 
-/// Neighbourhoods of some persons, and of some days. They grow as long as searches of them end, and shrink if
-/// one is given up.
+/// How large the kinds of neighbourhoods are at first: of three persons, of twelve days, and of eight
+/// days.
+const FIRST_SIZES: [u32; 3] = [3 * PARTS, 12 * PARTS, 8 * PARTS];
+
+/// How large a neighbourhood may become: of more days than a month has.
+const GREATEST_SIZE: u32 = 40 * PARTS;
+
+/// How small a neighbourhood may become: of two persons, or of two days.
+const LEAST_SIZE: u32 = 2 * PARTS;
+
+/// How much larger the next one of a kind is if the search of one ends.
+const GROWS_BY: u32 = 1;
+
+/// How much smaller the next one of a kind is if the search of one is given up.
+const SHRINKS_BY: u32 = PARTS;
+
+/// Neighbourhoods of some persons, and of some days. They grow as long as searches of them end, and
+/// shrink if one is given up.
 #[derive(Drop)]
 pub(crate) struct Neighbourhoods {
     random: Random,
@@ -71,16 +84,16 @@ impl Neighbourhoods {
     pub(crate) fn tell(&mut self, is_settled: bool) {
         let size = self.size();
         let next = if is_settled {
-            size.saturating_add(1).min(4 * MANY_DAYS)
+            size.saturating_add(GROWS_BY).min(GREATEST_SIZE)
         } else {
-            size.saturating_sub(4).max(8)
+            size.saturating_sub(SHRINKS_BY).max(LEAST_SIZE)
         };
         if let Some(size) = self.sizes.get_mut(self.kind) {
             *size = next;
         }
     }
 
-    // How large the last neighbourhood is, in quarters.
+    // How large the last neighbourhood is, in parts.
     fn size(&self) -> u32 {
         match self.sizes.get(self.kind) {
             Some(size) => *size,
@@ -100,7 +113,7 @@ impl Neighbourhoods {
             }
         }
         let count = match self.kind {
-            0 => (self.size() / 4) as usize,
+            0 => (self.size() / PARTS) as usize,
             1 => left.len().saturating_add(1) / 2,
             _ => left.len(),
         };
@@ -122,10 +135,7 @@ impl Neighbourhoods {
         };
         let (first, last) = self.days();
         let nobody = usize::from(open_number(problem));
-        let open = places
-            .iter()
-            .filter(|place| usize::from(**place) == nobody)
-            .count();
+        let open = open_of(problem, places, base);
         for (p, place) in places.iter().enumerate() {
             let begin = amount_at(&self.begins, p);
             let number = usize::from(*place);
@@ -148,7 +158,8 @@ impl Neighbourhoods {
         }
         let p = self.random.below(self.begins.len());
         let middle = amount_at(&self.begins, p);
-        let minutes = i64::from(self.size()).wrapping_mul(DAY / 8);
+        // Half of so many parts of a day lie on each side of the middle.
+        let minutes = i64::from(self.size()).wrapping_mul(DAY / i64::from(2 * PARTS));
         (middle.wrapping_sub(minutes), middle.wrapping_add(minutes))
     }
 }
@@ -166,6 +177,18 @@ fn is_of_base(problem: &Problem, p: usize, base: usize) -> bool {
         Some(pairing) => pairing.base == base,
         None => false,
     }
+}
+
+// How many pairings of the base are open.
+fn open_of(problem: &Problem, places: &[u16], base: usize) -> usize {
+    let nobody = open_number(problem);
+    let mut open: usize = 0;
+    for (p, place) in places.iter().enumerate() {
+        if *place == nobody && is_of_base(problem, p, base) {
+            open = open.wrapping_add(1);
+        }
+    }
+    open
 }
 
 // What everybody keeps and may have beside: these persons lose and may have what is free.

@@ -3,12 +3,13 @@
 ghost use Rattle.std.specs.Prelude.{◌≡◌, ◌≤◌, ◌⊎◌, All, IfOk, length, true};
 ghost use Rattle.roster_model.specs.Plans.{IsPlan};
 ghost use Rattle.roster_model.specs.Rosters.{IsLegalRoster, key_le, key_of};
-ghost use Rattle.roster_model.specs.Settled.{Anywhere, IsBest, IsHeld, IsLowerBound, IsNotAfter};
+ghost use Rattle.roster_model.specs.Settled.{IsBest, IsHeld};
+ghost use Rattle.roster_plan.specs.Planned.{IsPlannedFrom};
 
 use crate::bound::lower_bound;
 use crate::changes::Change;
 use crate::draft::Draft;
-use crate::exact::{Found, best_or_bound, lines_of, work_of};
+use crate::exact::{Found, best_or_bound, most_lines, most_work};
 use crate::kept::kept;
 use crate::nearby::{improved_nearby, search_all};
 use crate::search::Search;
@@ -27,8 +28,8 @@ pub(crate) const MOST_EFFORT: u32 = 9;
 /// How many changes are looked at to learn what changes cost.
 const SAMPLES: u32 = 500;
 
-/// How many steps prices are worth at effort 0, about; each takes about a nanosecond. Each effort more doubles
-/// them.
+/// How many steps prices are worth at effort 0, about; each takes about a nanosecond. Each effort more
+/// doubles them.
 const FEWEST_STEPS: u64 = 1 << 28;
 
 /// How many states of flight a person has, about.
@@ -37,19 +38,21 @@ const USUAL_STATES: u64 = 1000;
 /// How often prices are looked at, at most, at effort 0.
 const FEWEST_LOOKS: u32 = 4;
 
-/// A legal roster with its cost, and what no roster costs less than, in cost units.
+/// A plan. `plan` promises what stands beside each field.
 #[derive(Debug, Drop)]
 pub struct Planned {
-    /// The roster.
+    /// A legal roster with its cost, which isn't after what is kept of the given places, nor after no
+    /// pairings at all.
     pub roster: Roster,
-    /// No legal roster costs less.
+    /// No legal roster costs less, in cost units.
     pub bound: i64,
-    /// Whether the roster is known to be the best one, which isn't after any legal roster.
+    /// Whether the roster is known to be the best one. If it is, no legal roster is before it; if not,
+    /// it may be the best one still.
     pub is_best: bool,
 }
 
-/// A plan that isn't after what is kept of the given places, nor after no pairings at all. Effort, from 0 to
-/// 9, is how much is tried: each one more doubles it. It is the same in each run.
+/// A plan that isn't after what is kept of the given places, nor after no pairings at all. Effort, from
+/// 0 to 9, is how much is tried: each one more doubles it. It is the same in each run.
 pub fn plan(
     alloc: Global,
     problem: &Problem,
@@ -71,8 +74,8 @@ pub fn plan(
     Ok(planned)
 }
 
-/// A legal roster, the known one or a better one, and what no legal roster costs less than: the best roster
-/// if all lines are few.
+/// A legal roster, the known one or a better one, and what no legal roster costs less than: the best
+/// roster if all lines are few.
 fn planned_from(
     alloc: Global,
     problem: &Problem,
@@ -80,15 +83,11 @@ fn planned_from(
     effort: u32,
 ) -> Result<Planned, AllocError>
     requires { IsHeld problem.now known }
-    ensures held { IfOk result (λ planned. IsHeld problem.now planned.roster) }
-    ensures kept { IfOk result (λ planned. key_le planned.roster known ≡ true) }
-    ensures bounded { IfOk result (λ planned. IsLowerBound problem.now planned.bound) }
-    ensures best { IfOk result
-        (λ planned. planned.is_best ≡ true → IsNotAfter problem.now Anywhere planned.roster) }
+    ensures { IfOk result (IsPlannedFrom problem.now known) }
 {
     keys_are_in_order();
     let pairs = all_pairs(alloc, problem)?;
-    let (lines, work) = (lines_of(effort), work_of(effort));
+    let (lines, work) = (most_lines(effort), most_work(effort));
     let all = search_all(alloc, problem, &pairs, known, lines, work)?;
     let start = all.roster;
     if all.is_settled {
@@ -106,8 +105,9 @@ fn planned_from(
     Ok(planned)
 }
 
-/// A legal roster, the known one or a better one, and what no legal roster costs less than, in cost units: what
-/// each pairing costs at least, or what prices say if that is more, or what the best roster costs.
+/// A legal roster, the known one or a better one, and what no legal roster costs less than, in cost
+/// units: what each pairing costs at least, or what prices say if that is more, or what the best roster
+/// costs.
 fn bounded(
     alloc: Global,
     problem: &Problem,
@@ -115,11 +115,7 @@ fn bounded(
     effort: u32,
 ) -> Result<Planned, AllocError>
     requires { IsHeld problem.now known }
-    ensures held { IfOk result (λ planned. IsHeld problem.now planned.roster) }
-    ensures kept { IfOk result (λ planned. key_le planned.roster known ≡ true) }
-    ensures bounded { IfOk result (λ planned. IsLowerBound problem.now planned.bound) }
-    ensures best { IfOk result
-        (λ planned. planned.is_best ≡ true → IsNotAfter problem.now Anywhere planned.roster) }
+    ensures { IfOk result (IsPlannedFrom problem.now known) }
 {
     keys_are_in_order();
     let floor = lower_bound(alloc, problem)?;
@@ -157,7 +153,8 @@ fn greater(first: i64, second: i64) -> i64
     if first < second { second } else { first }
 }
 
-/// How often an effort looks at prices: more often the greater it is, if there is time for so many steps.
+/// How often an effort looks at prices: more often the greater it is, if there is time for so many
+/// steps.
 fn looks_of(problem: &Problem, effort: u32) -> u32 {
     let effort = if effort < MOST_EFFORT {
         effort
@@ -169,8 +166,8 @@ fn looks_of(problem: &Problem, effort: u32) -> u32 {
     in_time.min(u64::from(looks)) as u32
 }
 
-/// How many steps a look takes, about: for each person one for each two pairings of the same base, and each
-/// state of flight.
+/// How many steps a look takes, about: for each person one for each two pairings of the same base, and
+/// each state of flight.
 fn steps_of(problem: &Problem) -> u64 {
     let mut steps: u64 = 0;
     for person in problem.persons() {

@@ -34,8 +34,8 @@ impl Random {
         (number % count as u64) as usize
     }
 
-    /// A number of which large ones are rare: half of all are at least 1, a quarter at least 2, and so on, in
-    /// parts of 2^16.
+    /// A number of which large ones are rare: half of all are at least 1, a quarter at least 2, and so
+    /// on, in parts of 2^16.
     pub(crate) fn waiting(&mut self) -> i64 {
         let number = self.next();
         let whole = i64::from(number.leading_zeros());

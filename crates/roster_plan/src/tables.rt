@@ -1,4 +1,5 @@
-//! What a search looks up. Nothing rests on it: what it says wrong costs time, and no roster its legality.
+//! What a search looks up. Nothing rests on it: what it says wrong costs time, and no roster its
+//! legality.
 
 ghost use Rattle.std.specs.Prelude.{◌≡◌, ◌<◌, length};
 

@@ -1,0 +1,14 @@
+-- What a plan is that goes on from a known roster.
+use Rattle.std.specs.Prelude.{◌≡◌, true}
+use Rattle.roster_model.specs.Problem.{Problem}
+use Rattle.roster_model.specs.Rosters.{Key, key_le}
+use Rattle.roster_model.specs.Settled.{Anywhere, IsHeld, IsLowerBound, IsNotAfter}
+use Rattle.roster_plan.specs.declared.planning.Planned.{Planned}
+
+-- The roster is legal, and not after the known one. No legal roster costs less than the bound. If the roster
+-- is said to be the best one, it isn't after any legal roster.
+pub record IsPlannedFrom (problem : Problem) (known : Key) (planned : Planned) : Type 0 where
+  pub held : IsHeld problem planned.roster
+  pub kept : key_le planned.roster known ≡ true
+  pub bounded : IsLowerBound problem planned.bound
+  pub best : planned.is_best ≡ true → IsNotAfter problem Anywhere planned.roster
