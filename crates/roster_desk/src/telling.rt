@@ -8,11 +8,11 @@ use crate::line::{Question, TellLine};
 use roster_book::{Book, BookFault, Command, read_book};
 use roster_desk_chart::chart_text;
 use roster_desk_run::Status;
-use roster_desk_text::{Unknown, find, limits_text, why_text};
+use roster_desk_text::{Unknown, find, limits_text, read_zones, why_text};
 use roster_problem::{Places, Problem};
 use roster_report::{TextFault, write_fault};
 use roster_reports::{ReportFault, assigns_text, read_report, read_roster};
-use roster_tables::{differences_text, persons_table, read_zones, roster_table};
+use roster_tables::{differences_text, persons_table, roster_table};
 use roster_watched::Watched;
 use std::alloc::{AllocError, Global};
 use std::io::Write;
@@ -162,7 +162,8 @@ fn told<'a>(
     match question {
         Question::Why { pairing, person } => {
             let found = find(problem, pairing, person)?;
-            Ok(why_text(alloc, problem, places, found)?)
+            let zones = read_zones(alloc, inputs.book.as_slice())?;
+            Ok(why_text(alloc, problem, places, &zones, found)?)
         }
         Question::Limits { person } => {
             let found = find(problem, None, person)?;
@@ -173,7 +174,10 @@ fn told<'a>(
             Ok(roster_table(alloc, problem, places, &zones)?)
         }
         Question::Persons => Ok(persons_table(alloc, problem, places)?),
-        Question::Chart => Ok(chart_text(alloc, problem, places)?),
+        Question::Chart => {
+            let zones = read_zones(alloc, inputs.book.as_slice())?;
+            Ok(chart_text(alloc, problem, places, &zones)?)
+        }
         Question::Differences { other } => {
             let after = given(alloc, problem, other, inputs.other.as_slice())?;
             Ok(differences_text(alloc, problem, places, after.as_slice())?)

@@ -5,7 +5,7 @@ ghost use Rattle.std.specs.Prelude.{◌≡◌, ◌<◌, length};
 use crate::axis::Axis;
 use crate::bars::push_duty;
 use crate::html::push_text;
-use roster_desk_text::{Asked, push_all, why_text};
+use roster_desk_text::{Asked, Zones, push_all, why_text};
 use roster_problem::{Problem, open_number};
 use std::alloc::{AllocError, Global};
 
@@ -100,6 +100,7 @@ struct Items {
 fn items_of(
     alloc: Global,
     problem: &Problem,
+    zones: &Zones,
     places: &[u16],
     p: usize,
     base: usize,
@@ -127,7 +128,7 @@ fn items_of(
             pairing: Some(p),
             person: Some(k),
         };
-        let line = why_text(alloc, problem, places, asked)?;
+        let line = why_text(alloc, problem, places, zones, asked)?;
         if is_possible(line.as_slice()) {
             items.able = items.able.saturating_add(1);
             push_item(&mut items.possible, line.as_slice())?;
@@ -143,6 +144,7 @@ pub(crate) fn push_reasons(
     alloc: Global,
     out: &mut Vec<u8>,
     problem: &Problem,
+    zones: &Zones,
     places: &[u16],
     p: usize,
 ) -> Result<(), AllocError>
@@ -152,7 +154,7 @@ pub(crate) fn push_reasons(
     let open = open_count(problem, places).max(1);
     let most = (MOST_LINES / open).max(FEWEST_LINES);
     let pairing = problem.pairing(p);
-    let items = items_of(alloc, problem, places, p, pairing.base, most)?;
+    let items = items_of(alloc, problem, zones, places, p, pairing.base, most)?;
     let (able, asked, persons) = (items.able, items.asked, items.persons);
     let name = pairing.id.as_bytes();
     push_all(out, &[b"<details><summary>", name])?;

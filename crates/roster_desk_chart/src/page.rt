@@ -8,7 +8,7 @@ use crate::open::{is_open, open_count, push_reasons, push_row};
 use crate::persons::push_person;
 use crate::style::{SCRIPT, STYLE};
 use roster_cost::roster_cost;
-use roster_desk_text::push_all;
+use roster_desk_text::{Zones, push_all};
 use roster_model::limits::MOST_BASES;
 use roster_problem::Problem;
 use std::alloc::{AllocError, Global};
@@ -119,6 +119,7 @@ fn push_rows(
     out: &mut Vec<u8>,
     axis: &Axis,
     problem: &Problem,
+    zones: &Zones,
     places: &[u16],
     base: usize,
 ) -> Result<(), AllocError>
@@ -126,7 +127,7 @@ fn push_rows(
 {
     for k in 0..problem.persons().len() {
         if problem.person(k).base == base {
-            push_person(alloc, out, axis, problem, places, k)?;
+            push_person(alloc, out, axis, problem, zones, places, k)?;
         }
     }
     for p in 0..problem.pairings().len() {
@@ -142,6 +143,7 @@ fn push_why(
     alloc: Global,
     out: &mut Vec<u8>,
     problem: &Problem,
+    zones: &Zones,
     places: &[u16],
     base: usize,
 ) -> Result<(), AllocError>
@@ -149,7 +151,7 @@ fn push_why(
 {
     for p in 0..problem.pairings().len() {
         if problem.pairing(p).base == base && is_open(problem, places, p) {
-            push_reasons(alloc, out, problem, places, p)?;
+            push_reasons(alloc, out, problem, zones, places, p)?;
         }
     }
     Ok(())
@@ -172,6 +174,7 @@ fn push_base(
     alloc: Global,
     out: &mut Vec<u8>,
     problem: &Problem,
+    zones: &Zones,
     places: &[u16],
     base: usize,
 ) -> Result<(), AllocError>
@@ -182,9 +185,9 @@ fn push_base(
     };
     let axis = Axis::of_base(problem, base, problem.days_of(k));
     push_table_head(alloc, out, &axis, base, problem.home(k).id.as_bytes())?;
-    push_rows(alloc, out, &axis, problem, places, base)?;
+    push_rows(alloc, out, &axis, problem, zones, places, base)?;
     out.extend_from_slice(b"</tbody></table></div>\n")?;
-    push_why(alloc, out, problem, places, base)
+    push_why(alloc, out, problem, zones, places, base)
 }
 
 /// Appends the open pairings at whose base nobody is at home.
@@ -207,15 +210,21 @@ fn push_homeless(out: &mut Vec<u8>, problem: &Problem, places: &[u16]) -> Result
 }
 
 /// The page of a book's roster: for each base the days across, a row for each person, and below them the open
-/// pairings and why they are open. The places are the roster, which needn't be legal.
-pub fn chart_text(alloc: Global, problem: &Problem, places: &[u16]) -> Result<Vec<u8>, AllocError>
+/// pairings and why they are open. The places are the roster, which needn't be legal, and the zones those of
+/// the book's bases.
+pub fn chart_text(
+    alloc: Global,
+    problem: &Problem,
+    places: &[u16],
+    zones: &Zones,
+) -> Result<Vec<u8>, AllocError>
     requires { length places.now ≡ length problem.now.pairings }
 {
     let mut out = Vec::new(alloc);
     push_head(alloc, &mut out, problem)?;
     push_summary(alloc, &mut out, problem, places)?;
     for base in 0..MOST_BASES {
-        push_base(alloc, &mut out, problem, places, base)?;
+        push_base(alloc, &mut out, problem, zones, places, base)?;
     }
     push_homeless(&mut out, problem, places)?;
     push_all(

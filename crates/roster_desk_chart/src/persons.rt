@@ -6,7 +6,7 @@ use crate::axis::Axis;
 use crate::bars::{push_days_off, push_duties, push_leaves, push_rests};
 use crate::html::push_text;
 use crate::meters::push_meters;
-use roster_desk_text::{broken_with, duties_with, push_all, push_reason};
+use roster_desk_text::{Zones, broken_with, duties_with, push_all, push_reason};
 use roster_problem::{DutyList, Problem};
 use roster_reasons::Reason;
 use std::alloc::{AllocError, Global};
@@ -16,6 +16,7 @@ fn push_name(
     alloc: Global,
     out: &mut Vec<u8>,
     problem: &Problem,
+    zones: &Zones,
     k: usize,
     list: &DutyList,
     told: Option<Reason>,
@@ -29,7 +30,7 @@ fn push_name(
         return push_all(out, &[name, b"</th>"]);
     };
     let mut sentence = Vec::new(alloc);
-    push_reason(alloc, &mut sentence, problem, k, list, told)?;
+    push_reason(alloc, &mut sentence, problem, zones, k, list, told)?;
     push_all(
         out,
         &[b"<th scope=\"row\" tabindex=\"0\" title=\"", name, b" "],
@@ -48,6 +49,7 @@ pub(crate) fn push_person(
     out: &mut Vec<u8>,
     axis: &Axis,
     problem: &Problem,
+    zones: &Zones,
     places: &[u16],
     k: usize,
 ) -> Result<(), AllocError>
@@ -57,7 +59,7 @@ pub(crate) fn push_person(
     let list = duties_with(alloc, problem, places, k)?;
     let told = broken_with(alloc, problem, places, k)?;
     out.extend_from_slice(b"<tr>")?;
-    push_name(alloc, out, problem, k, &list, told)?;
+    push_name(alloc, out, problem, zones, k, &list, told)?;
     out.extend_from_slice(b"<td class=\"m\">")?;
     push_meters(alloc, out, problem, k, &list)?;
     out.extend_from_slice(b"</td><td><div class=\"t\">")?;

@@ -5,6 +5,8 @@
 //! and minutes, and days are local days of the home base. In reading order:
 //!
 //! - `words`: times, days and names
+//! - `zones`: what the clocks of a base show, on `jiff`
+//! - `times`: from when to when what is told of lies
 //! - `sentences`: a reason in words
 //! - `persons`: what a roster gives to a person, and the rule that is broken with it
 //! - `asked`: which pairings and persons are asked for
@@ -16,8 +18,10 @@ mod asked;
 mod limits;
 mod persons;
 mod sentences;
+mod times;
 mod why;
 mod words;
+mod zones;
 
 pub use asked::{Asked, Unknown, find};
 pub use limits::{limits_text, push_limit};
@@ -25,3 +29,4 @@ pub use persons::{broken_with, duties_with, set_with};
 pub use sentences::push_reason;
 pub use why::why_text;
 pub use words::{instant, pairing_name, push_all, time};
+pub use zones::{Zones, read_zones, utc};

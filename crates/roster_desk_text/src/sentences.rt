@@ -2,7 +2,9 @@
 
 ghost use Rattle.std.specs.Prelude.{◌<◌, length};
 
+use crate::times::{push_times, times_in_leave, times_of_block, times_of_rest, times_shared};
 use crate::words::{day, duty_name, pairing_name, push_all, time};
+use crate::zones::Zones;
 use roster_instants::BaseDays;
 use roster_model::profile::BETWEEN_RECURRENT_RESTS;
 use roster_problem::{DutyList, Limit, Problem};
@@ -21,10 +23,12 @@ fn push_base(out: &mut Vec<u8>, problem: &Problem, k: usize, p: usize) -> Result
     push_all(out, &[pairing, b" is of another base than ", home])
 }
 
-/// Appends which duties overlap.
+/// Appends which duties overlap, and when by the clocks of the base at this place.
 fn push_overlap(
     alloc: Global,
     out: &mut Vec<u8>,
+    zones: &Zones,
+    base: usize,
     list: &DutyList,
     shared: SharedDuties,
 ) -> Result<(), AllocError> {
@@ -34,28 +38,32 @@ fn push_overlap(
     push_all(
         out,
         &[first, b" and ", second, b" share ", minutes.as_bytes()],
-    )
+    )?;
+    push_times(alloc, out, zones, base, times_shared(list, shared))
 }
 
-/// Appends which duty lies in a leave.
+/// Appends which duty lies in a leave, and when by the clocks of the base at this place.
 fn push_leave(
     alloc: Global,
     out: &mut Vec<u8>,
+    problem: &Problem,
+    zones: &Zones,
+    base: usize,
     list: &DutyList,
     told: DutyInLeave,
 ) -> Result<(), AllocError> {
     let minutes = time(alloc, told.minutes)?;
     let duty = duty_name(list, told.duty);
-    push_all(
-        out,
-        &[duty, b" shares ", minutes.as_bytes(), b" with a leave"],
-    )
+    push_all(out, &[duty, b" and a leave share ", minutes.as_bytes()])?;
+    push_times(alloc, out, zones, base, times_in_leave(problem, list, told))
 }
 
-/// Appends which rest is too short.
+/// Appends which rest is too short, and when it is by the clocks of the base at this place.
 fn push_rest(
     alloc: Global,
     out: &mut Vec<u8>,
+    zones: &Zones,
+    base: usize,
     list: &DutyList,
     short: ShortRest,
 ) -> Result<(), AllocError> {
@@ -72,6 +80,12 @@ fn push_rest(
             before,
             b" and ",
             after,
+        ],
+    )?;
+    push_times(alloc, out, zones, base, times_of_rest(list, short))?;
+    push_all(
+        out,
+        &[
             b", ",
             needed.as_bytes(),
             b" needed, ",
@@ -81,10 +95,13 @@ fn push_rest(
     )
 }
 
-/// Appends which duties take too long without a recurrent rest.
+/// Appends which duties take too long without a recurrent rest, and when they are by the clocks of the base
+/// at this place.
 fn push_recovery(
     alloc: Global,
     out: &mut Vec<u8>,
+    zones: &Zones,
+    base: usize,
     list: &DutyList,
     block: LongBlock,
 ) -> Result<(), AllocError> {
@@ -102,7 +119,14 @@ fn push_recovery(
             first,
             b" to ",
             last,
-            b" without a recurrent rest, ",
+            b" without a recurrent rest",
+        ],
+    )?;
+    push_times(alloc, out, zones, base, times_of_block(list, block))?;
+    push_all(
+        out,
+        &[
+            b", ",
             allowed.as_bytes(),
             b" allowed, ",
             over.as_bytes(),
@@ -214,24 +238,27 @@ fn push_limit(
     }
 }
 
-/// Appends what the reason tells of person `k` with the duties of the list.
+/// Appends what the reason tells of person `k` with the duties of the list. The zones are those of the
+/// book's bases.
 pub fn push_reason(
     alloc: Global,
     out: &mut Vec<u8>,
     problem: &Problem,
+    zones: &Zones,
     k: usize,
     list: &DutyList,
     reason: Reason,
 ) -> Result<(), AllocError>
     requires { k < length problem.now.persons }
 {
+    let base = problem.person(k).base;
     let days = problem.days_of(k);
     match reason {
         Reason::Base(p) => push_base(out, problem, k, p),
-        Reason::Overlap(shared) => push_overlap(alloc, out, list, shared),
-        Reason::Leave(told) => push_leave(alloc, out, list, told),
-        Reason::Rest(short) => push_rest(alloc, out, list, short),
-        Reason::Recovery(block) => push_recovery(alloc, out, list, block),
+        Reason::Overlap(shared) => push_overlap(alloc, out, zones, base, list, shared),
+        Reason::Leave(told) => push_leave(alloc, out, problem, zones, base, list, told),
+        Reason::Rest(short) => push_rest(alloc, out, zones, base, list, short),
+        Reason::Recovery(block) => push_recovery(alloc, out, zones, base, list, block),
         Reason::Limit(limit, amount) => push_limit(alloc, out, problem, days, limit, amount),
         Reason::DaysOff(few) => push_days_off(alloc, out, problem, days, few),
     }

@@ -6,6 +6,7 @@ use crate::asked::Asked;
 use crate::persons::{broken_with, duties_with};
 use crate::sentences::push_reason;
 use crate::words::push_all;
+use crate::zones::Zones;
 use roster_cost::roster_cost;
 use roster_problem::{DutyList, Problem, open_number};
 use roster_reasons::Reason;
@@ -19,6 +20,7 @@ fn push_told(
     alloc: Global,
     out: &mut Vec<u8>,
     problem: &Problem,
+    zones: &Zones,
     k: usize,
     list: &DutyList,
     told: Reason,
@@ -27,7 +29,7 @@ fn push_told(
 {
     out.extend_from_slice(told.rule().word().as_bytes())?;
     out.extend_from_slice(b": ")?;
-    push_reason(alloc, out, problem, k, list, told)
+    push_reason(alloc, out, problem, zones, k, list, told)
 }
 
 /// Appends the line of a person who breaks a rule with the roster, or is locked.
@@ -35,6 +37,7 @@ fn push_broken(
     alloc: Global,
     out: &mut Vec<u8>,
     problem: &Problem,
+    zones: &Zones,
     places: &[u16],
     k: usize,
 ) -> Result<(), AllocError>
@@ -47,7 +50,7 @@ fn push_broken(
     let list = duties_with(alloc, problem, places, k)?;
     let person = problem.person(k).id.as_bytes();
     push_all(out, &[NO_PAIRING, b" ", person, b" "])?;
-    push_told(alloc, out, problem, k, &list, told)?;
+    push_told(alloc, out, problem, zones, k, &list, told)?;
     out.extend_from_slice(b"\n")
 }
 
@@ -75,6 +78,7 @@ fn push_line(
     alloc: Global,
     out: &mut Vec<u8>,
     problem: &Problem,
+    zones: &Zones,
     places: &[u16],
     p: usize,
     k: usize,
@@ -90,7 +94,7 @@ fn push_line(
     match broken_with(alloc, problem, moved.as_slice(), k)? {
         Some(told) => {
             let list = duties_with(alloc, problem, moved.as_slice(), k)?;
-            push_told(alloc, out, problem, k, &list, told)?;
+            push_told(alloc, out, problem, zones, k, &list, told)?;
         }
         None => {
             let cost = roster_cost(problem, moved.as_slice());
@@ -106,6 +110,7 @@ fn push_all_broken(
     alloc: Global,
     out: &mut Vec<u8>,
     problem: &Problem,
+    zones: &Zones,
     places: &[u16],
     person: Option<usize>,
 ) -> Result<(), AllocError>
@@ -113,7 +118,7 @@ fn push_all_broken(
 {
     for k in 0..problem.persons().len() {
         if person.is_none_or(|asked| asked == k) {
-            push_broken(alloc, out, problem, places, k)?;
+            push_broken(alloc, out, problem, zones, places, k)?;
         }
     }
     Ok(())
@@ -124,6 +129,7 @@ fn push_pairing(
     alloc: Global,
     out: &mut Vec<u8>,
     problem: &Problem,
+    zones: &Zones,
     places: &[u16],
     p: usize,
     person: Option<usize>,
@@ -133,7 +139,7 @@ fn push_pairing(
 {
     for k in 0..problem.persons().len() {
         if person.is_none_or(|asked| asked == k) {
-            push_line(alloc, out, problem, places, p, k)?;
+            push_line(alloc, out, problem, zones, places, p, k)?;
         }
     }
     Ok(())
@@ -152,22 +158,23 @@ fn is_asked(problem: &Problem, places: &[u16], p: usize, named: Option<usize>) -
 /// For each pairing and person that is asked for a line: what the roster would cost if the person had the
 /// pairing too, or why that isn't legal. If no pairing is named, lines of what persons have stand before
 /// them: which rule they break with it, and by which they are locked. The places are the roster, which
-/// needn't be legal.
+/// needn't be legal, and the zones those of the book's bases.
 pub fn why_text(
     alloc: Global,
     problem: &Problem,
     places: &[u16],
+    zones: &Zones,
     asked: Asked,
 ) -> Result<Vec<u8>, AllocError>
     requires { length places.now ≡ length problem.now.pairings }
 {
     let mut out = Vec::new(alloc);
     if asked.pairing.is_none() {
-        push_all_broken(alloc, &mut out, problem, places, asked.person)?;
+        push_all_broken(alloc, &mut out, problem, zones, places, asked.person)?;
     }
     for p in 0..places.len() {
         if is_asked(problem, places, p, asked.pairing) {
-            push_pairing(alloc, &mut out, problem, places, p, asked.person)?;
+            push_pairing(alloc, &mut out, problem, zones, places, p, asked.person)?;
         }
     }
     Ok(out)

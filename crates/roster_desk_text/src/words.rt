@@ -3,7 +3,7 @@
 use jiff_core::civil::Date;
 use roster_instants::{Minute, Period};
 use roster_model::limits::DAYS_BEFORE;
-use roster_problem::{DutyList, Problem};
+use roster_problem::{Duty, DutyList, Problem};
 use std::alloc::{AllocError, Global};
 
 /// Appends the parts one behind another.
@@ -57,12 +57,20 @@ pub fn instant(alloc: Global, minute: Minute) -> Result<String, AllocError> {
     format!(in alloc; "{year}-{month:02}-{day:02}T{hour:02}:{rest:02}Z")
 }
 
+/// The duty at a place of the list, if it has one there.
+pub(crate) fn duty_at<'a>(list: &'a DutyList<'a>, i: usize) -> Option<&'a Duty> {
+    if i >= list.len() {
+        return None;
+    }
+    Some(list.duty(i))
+}
+
 /// The name of the duty at a place of the list; `-` if it has none there.
 pub(crate) fn duty_name<'a>(list: &'a DutyList<'a>, i: usize) -> &'a [u8] {
-    if i >= list.len() {
-        return b"-";
+    match duty_at(list, i) {
+        Some(duty) => duty.id.as_bytes(),
+        None => b"-",
     }
-    list.duty(i).id.as_bytes()
 }
 
 /// The name of the pairing at a place of the book; `-` if it has none there.

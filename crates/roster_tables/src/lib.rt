@@ -4,7 +4,6 @@
 //! are only tested. In reading order:
 //!
 //! - `records`: the records of a table, on `csv`
-//! - `zones`: what the clocks of a base show, on `jiff`
 //! - `sums`: what a person's pairings cost, and the minutes of a report
 //! - `rows`: a row for each duty, leave and pairing of a person
 //! - `persons`: a row for each person
@@ -18,8 +17,6 @@ mod records;
 mod rows;
 mod sums;
 mod table;
-mod zones;
 
 pub use differences::differences_text;
 pub use table::{persons_table, roster_table};
-pub use zones::{Zones, read_zones};

@@ -3,8 +3,7 @@
 ghost use Rattle.std.specs.Prelude.{◌≡◌, ◌<◌, length};
 
 use crate::records::Records;
-use crate::zones::{Zones, utc};
-use roster_desk_text::{duties_with, pairing_name};
+use roster_desk_text::{Zones, duties_with, pairing_name, utc};
 use roster_instants::Minute;
 use roster_problem::{Duty, Holder, Problem, Sector};
 use std::alloc::{AllocError, Global};

@@ -5,8 +5,8 @@ ghost use Rattle.std.specs.Prelude.{◌≡◌, ◌<◌, length};
 use crate::persons::push_person;
 use crate::records::Records;
 use crate::rows::push_rows;
-use crate::zones::Zones;
 use crate::{persons, rows};
+use roster_desk_text::Zones;
 use roster_problem::Problem;
 use std::alloc::{AllocError, Global};
 

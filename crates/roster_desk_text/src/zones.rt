@@ -7,7 +7,7 @@ use roster_instants::Minute;
 use std::alloc::{AllocError, Global};
 use std::str;
 
-/// How a table gives an instant: spreadsheets read such a text as a time.
+/// How an instant is told: spreadsheets read such a text as a time.
 const FORMAT: &str = "%Y-%m-%d %H:%M";
 
 /// The zones of a book's bases, in book order.
@@ -63,18 +63,13 @@ fn shown(alloc: Global, zone: &TimeZone<'static>, at: Minute) -> Result<String, 
 }
 
 /// An instant in UTC, as in `2024-03-09 06:30`.
-pub(crate) fn utc(alloc: Global, at: Minute) -> Result<String, AllocError> {
+pub fn utc(alloc: Global, at: Minute) -> Result<String, AllocError> {
     shown(alloc, &TimeZone::UTC, at)
 }
 
 impl Zones {
     /// An instant as the clocks of the base at this place show it, as in `2024-03-09 07:30`.
-    pub(crate) fn local(
-        &self,
-        alloc: Global,
-        base: usize,
-        at: Minute,
-    ) -> Result<String, AllocError> {
+    pub fn local(&self, alloc: Global, base: usize, at: Minute) -> Result<String, AllocError> {
         match self.zones.get(base) {
             Some(zone) => shown(alloc, zone, at),
             None => utc(alloc, at),
