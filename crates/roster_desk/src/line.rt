@@ -30,6 +30,10 @@ pub(crate) struct PlanLine<'a> {
     pub(crate) effort: u32,
     /// The path of the report that gives the roster to begin with, or `-`; none if the book gives it.
     pub(crate) start: Option<&'a str>,
+    /// Whether standard error is told what is known on the way, though it is no terminal.
+    pub(crate) progress: bool,
+    /// The path of the file that keeps the plan on the way, if one does.
+    pub(crate) keep: Option<&'a str>,
 }
 
 /// What is told of a roster of a book.
@@ -126,7 +130,7 @@ fn person<'a>(alloc: Global) -> Arg<'a> {
         .help("Only this person")
 }
 
-/// `plan`, with its book, its effort and its start.
+/// `plan`, with its book, its effort, its start, and what is told and kept on the way.
 fn plan<'a>(alloc: Global) -> Result<Command<'a>, AllocError> {
     let effort = Arg::new(alloc, "effort")
         .long("effort")
@@ -138,11 +142,20 @@ fn plan<'a>(alloc: Global) -> Result<Command<'a>, AllocError> {
         .long("start")
         .value_name("REPORT")
         .help("A report or plan to begin with, or -; what isn't legal of it is left out");
+    let progress = Arg::new(alloc, "progress")
+        .long("progress")
+        .action(ArgAction::SetTrue)
+        .help("Standard error is told what is known so far, as a terminal always is");
+    let keep = Arg::new(alloc, "keep").long("keep").value_name("FILE").help(
+        "A file that has the best plan so far, also if Ctrl-C breaks the run off",
+    );
     Command::new(alloc, "plan")
         .about("Writes a legal roster of the book, however large it is, and a bound of its cost")
         .arg(book(alloc))?
         .arg(effort)?
-        .arg(start)
+        .arg(start)?
+        .arg(progress)?
+        .arg(keep)
 }
 
 /// `why`, with its book and report, and what it may be asked of.
@@ -280,16 +293,20 @@ fn asked<'a>(matches: &ArgMatches<'a>) -> Option<Line<'a>> {
     Some(Line::Tell(line))
 }
 
-/// The book, the effort and the start in the matches.
+/// The plan in the matches.
 fn planned<'a>(matches: &ArgMatches<'a>) -> Option<PlanLine<'a>> {
     let found = matches.subcommand_matches("plan")?;
     let book = found.get_str("book")?;
     let effort = found.get_one::<u32>("effort").unwrap_or(USUAL_EFFORT);
     let start = found.get_str("start");
+    let progress = found.get_flag("progress");
+    let keep = found.get_str("keep");
     Some(PlanLine {
         book,
         effort,
         start,
+        progress,
+        keep,
     })
 }
 

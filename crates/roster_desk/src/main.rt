@@ -4,6 +4,7 @@
 //! - `inputs`: what its paths hold
 //! - `telling`: what is told of a roster, and the records of a report
 //! - `pages`: what is told of the records of a book
+//! - `watching`: what is told and kept of a plan while it is made
 //!
 //! `main` opens the book and hands it to `run` of `roster_desk_run`, with the report that a plan begins with,
 //! or reads it and the reports whole and hands them to `tell` or `show`.
@@ -13,6 +14,7 @@ mod inputs;
 mod line;
 mod pages;
 mod telling;
+mod watching;
 
 ghost use Rattle.std.specs.Prelude.{◌≡◌, false};
 ghost use Rattle.roster_watched.specs.Watch.{has_failed};
@@ -24,10 +26,11 @@ use roster_desk_run::{Status, run};
 use roster_desk_text::Unknown;
 use roster_watched::Watched;
 use std::fs::File;
-use std::io::Read;
+use std::io::{IsTerminal, Read};
 use std::process::ExitCode;
 use std::{env, io};
 use telling::{Untold, tell, tell_assigns};
+use watching::Companion;
 
 /// The exit status of a command line that is refused.
 const LINE_REFUSED: u8 = 2;
@@ -70,6 +73,10 @@ fn answer(rt: &HostRuntime, line: &Line<'_>) -> ExitCode {
 
 /// Plans the book, from the roster of a report if the line names one.
 fn answer_plan(rt: &HostRuntime, line: &PlanLine<'_>) -> ExitCode {
+    if line.keep == Some(STANDARD_INPUT) || line.keep == Some(line.book) {
+        let _ = eprintln!(rt; "error: a plan can't be kept in its book or in -");
+        return ExitCode::from(LINE_REFUSED);
+    }
     let Some(path) = line.start else {
         return plan_from(rt, line, None);
     };
@@ -105,9 +112,22 @@ fn plan<R: Read>(
     requires { has_failed reader.old ≡ false }
 {
     let mut writer = Watched::new(io::writer(rt));
-    let status = run(rt.alloc(), line.effort, report, reader, &mut writer);
+    let is_told = line.progress || rt.stderr().is_terminal();
+    let mut companion = Companion::new(rt, is_told, line.keep);
+    let effort = line.effort;
+    let status = run(
+        rt.alloc(),
+        effort,
+        report,
+        reader,
+        &mut writer,
+        &mut companion,
+    );
     if let (Some(path), Status::StartRefused { line, wrong }) = (line.start, status) {
         let _ = eprintln!(rt; "error: {path}, line {line}: {wrong}");
+    }
+    if status == Status::Answered && companion.has_failed() {
+        return Status::WriteFailed.exit_code();
     }
     ended(rt, status)
 }

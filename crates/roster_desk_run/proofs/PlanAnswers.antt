@@ -1,5 +1,6 @@
 -- What is answered to a book, where it was answered to its problem.
-use Rattle.std.proofs.Common.{◌≡◌, ℕ, List, Option, Some, None, sym, ◌∙◌, subst, inl, inr, ℤ}
+use Rattle.std.proofs.Common.{◌≡◌, ℕ, true, false, List, Option, Some, None, sym, ◌∙◌, subst, inl, inr}
+use Rattle.std.proofs.lemmas.Bool.{cases_Bool, false≢true}
 use Rattle.roster_book.specs.Reading.{IsBookOf, OfTold}
 use Rattle.roster_book.specs.declared.book.Book.{Book}
 use Rattle.roster_model.specs.Answer.{IsFirstFault, IsRefusal, records_of}
@@ -8,10 +9,10 @@ use Rattle.roster_model.specs.Plans.{IsPlan, IsPlanReport}
 use Rattle.roster_model.specs.Problem.{Problem}
 use Rattle.roster_model.specs.Record.{Check, Record}
 use Rattle.roster_model.specs.records.Assign.{assigned_in}
-use Rattle.roster_model.specs.Rosters.{Key}
 use Rattle.roster_model.specs.Settled.{IsBest}
 use Rattle.roster_model.specs.Texts.{IsPlanOf, IsReportOf}
-use Rattle.roster_desk_run.specs.Run.{IsAnswerTo, IsFaultless, IsPlanFrom, IsPlanOfBook, IsRosterOf}
+use Rattle.roster_plan.specs.declared.known.Planned.{Planned}
+use Rattle.roster_desk_run.specs.Run.{IsAnswerTo, IsFaultless, IsPlanFrom, IsPlanOfBook, IsRosterOf, IsTextOf}
 
 pub text-weaker : (P Q Out : List ℕ → Type 0) → ((text : List ℕ) → P text → Q text) → (text : List ℕ) × P text × Out text → (text : List ℕ) × Q text × Out text
 text-weaker P Q Out more w = (w.0, more w.0 w.1, w.2)
@@ -53,13 +54,20 @@ answer_of_refusal (Some report) records text refusal = inl refusal
 pub from_report : (report : List ℕ) (problem : Problem) (assigned start : List ℕ) → IsRosterOf problem report start → (text : List ℕ) → IsPlanReport problem start text → IsPlanFrom (Some report) problem assigned text
 from_report report problem assigned start is text p = (start, is, p)
 
--- the text of a plan, of a roster and a bound that are one
-pub report_of_plan : (problem : Problem) (given : List ℕ) (key : Key) (bound : ℤ) → IsPlan problem given key bound → (text : List ℕ) → IsPlanOf problem bound key.places text → IsPlanReport problem given text
-report_of_plan problem given key bound plan text written = inl (record { key = key; bound = bound; plan = plan; written = written })
+-- the text of a plan, of a roster and a bound that are one, or that of the best roster
+pub report_of_plan : (problem : Problem) (given : List ℕ) (planned : Planned) → IsPlan problem given planned.roster planned.bound
+    → (planned.is_best ≡ true → IsBest problem planned.roster.places) → (text : List ℕ) → IsTextOf problem planned text → IsPlanReport problem given text
+report_of_plan problem given planned plan best text is = elim (cases_Bool planned.is_best) [
+  | inl said ↦ inr (record { places = planned.roster.places; best = best said; written = is.of_best said })
+  | inr unsaid ↦ inl (record { key = planned.roster; bound = planned.bound; plan = plan; written = is.of_other unsaid })
+]
 
--- that of the best roster
-pub report_of_best : (problem : Problem) (given places : List ℕ) → IsBest problem places → (text : List ℕ) → IsReportOf problem places text → IsPlanReport problem given text
-report_of_best problem given places best text written = inr (record { places = places; best = best; written = written })
+-- what is written of a plan that is said to be the best, and of one that isn't
+pub text_of_best : (problem : Problem) (planned : Planned) → planned.is_best ≡ true → (text : List ℕ) → IsReportOf problem planned.roster.places text → IsTextOf problem planned text
+text_of_best problem planned said text is = record { of_best = λ _. is; of_other = λ unsaid. absurd (false≢true (sym unsaid ∙ said)) }
+
+pub text_of_other : (problem : Problem) (planned : Planned) → planned.is_best ≡ false → (text : List ℕ) → IsPlanOf problem planned.bound planned.roster.places text → IsTextOf problem planned text
+text_of_other problem planned unsaid text is = record { of_best = λ said. absurd (false≢true (sym unsaid ∙ said)); of_other = λ _. is }
 
 -- a book that is read has no fault
 pub faultless_of_book : (book : Book) (told : Option (List ℕ)) → OfTold (λ records. IsBookOf Check records book) told → OfTold IsFaultless told

@@ -1,15 +1,23 @@
 -- What a plan is that may begin with a roster of a report, and how a run ends that answers a book with one.
-use Rattle.std.specs.Prelude.{◌≡◌, ◌<◌, ◌≤◌, ◌⊎◌, ℕ, Option, Some, None, List, All, length, slice_get}
+use Rattle.std.specs.Prelude.{◌≡◌, ◌<◌, ◌≤◌, ◌⊎◌, ℕ, true, false, Option, Some, None, List, All, length, slice_get}
 use Rattle.roster_model.specs.Answer.{IsFirstFault, IsRefusal}
 use Rattle.roster_model.specs.Faults.{Fault}
 use Rattle.roster_model.specs.Plans.{IsPlanAnswer, IsPlanned, IsPlanReport}
 use Rattle.roster_model.specs.Problem.{Problem, problem_of}
 use Rattle.roster_model.specs.Record.{Check, Record}
-use Rattle.roster_model.specs.Texts.{fault_text}
+use Rattle.roster_model.specs.Texts.{fault_text, IsPlanOf, IsReportOf}
+use Rattle.roster_plan.specs.declared.known.Planned.{Planned}
 use Rattle.roster_reports.specs.Given.{HasAll, IsGiven}
 use Rattle.roster_reports.specs.Text.{given_by_text}
 use Rattle.roster_desk_run.specs.declared.status.Status.{Status}
 use Rattle.roster_desk_run.specs.declared.status.Status.TheVariants as statuses
+
+-- ---- what is written of a plan
+
+-- the report of its roster if that is said to be the best one, and else its lines with the bound
+pub record IsTextOf (problem : Problem) (planned : Planned) (text : List ℕ) : Type 0 where
+  pub of_best : planned.is_best ≡ true → IsReportOf problem planned.roster.places text
+  pub of_other : planned.is_best ≡ false → IsPlanOf problem planned.bound planned.roster.places text
 
 -- ---- where a plan begins
 

@@ -8,5 +8,5 @@
 mod running;
 mod status;
 
-pub use running::run;
+pub use running::{run, write_planned};
 pub use status::Status;

@@ -3,18 +3,18 @@
 ghost use Rattle.std.specs.Prelude.{◌≡◌, ◌≢◌, ◌↔◌, ◌≤◌, All, IsErrOf, OnOk, length, true, false};
 ghost use Rattle.std.specs.Prelude.{None, option_map};
 ghost use Rattle.roster_model.specs.Answer.{IsRefusal};
-ghost use Rattle.roster_model.specs.Plans.{IsPlan, IsPlanReport};
+ghost use Rattle.roster_model.specs.Plans.{IsPlanReport};
 ghost use Rattle.roster_model.specs.Record.{Check};
-ghost use Rattle.roster_model.specs.Settled.{IsBest};
+ghost use Rattle.roster_model.specs.Settled.{IsHeld};
 ghost use Rattle.roster_book.specs.Reading.{OfTold};
 ghost use Rattle.roster_watched.specs.Watch.{inner_of, has_failed, is_flushed};
 ghost use Rattle.roster_report.specs.Writing.{Writes, WritesPart};
 ghost use Rattle.roster_desk_run.specs.Run.{IsAnswerTo, IsFaultLine, IsFaultless};
-ghost use Rattle.roster_desk_run.specs.Run.{IsPlanFrom, IsPlanOfBook, IsStartRefused};
+ghost use Rattle.roster_desk_run.specs.Run.{IsPlanFrom, IsPlanOfBook, IsStartRefused, IsTextOf};
 
 use crate::status::Status;
 use roster_book::{Book, BookFault, Command, Watched, read_book};
-use roster_plan::{Planned, plan};
+use roster_plan::{Planned, Watcher, plan};
 use roster_problem::Problem;
 use roster_report::{TextFault, write_fault, write_plan, write_report};
 use roster_reports::{ReportFault, read_roster};
@@ -23,13 +23,15 @@ use std::io::{Read, Write};
 
 /// Reads a book to its end or to its first fault, plans it with so much effort, from 0 to 9, and writes
 /// the one answer. The plan begins with the roster that the report gives, if there is one, and else with the
-/// book's assignments. The status tells if that could not be done.
-pub fn run<R: Read, W: Write>(
+/// book's assignments. The watcher is told what is known on the way; whatever it does, the answer is one of
+/// these. The status tells if that could not be done.
+pub fn run<R: Read, W: Write, P: Watcher>(
     alloc: Global,
     effort: u32,
     report: Option<&[u8]>,
     reader: &mut Watched<R>,
     writer: &mut Watched<W>,
+    watcher: &mut P,
 ) -> Status
     requires reader_open { has_failed reader.old ≡ false }
     requires writer_open { has_failed writer.old ≡ false }
@@ -69,7 +71,7 @@ pub fn run<R: Read, W: Write>(
         → OfTold IsFaultless (R.remaining (inner_of reader.old)) }
 {
     match read_book(alloc, reader, Command::Check) {
-        Ok(book) => answer(alloc, effort, report, &book, writer),
+        Ok(book) => answer(alloc, effort, report, &book, writer, watcher),
         Err(BookFault::At { row, code }) => refuse(alloc, row, code, writer),
         Err(BookFault::Device) => Status::ReadFailed,
         Err(BookFault::Memory) => Status::Memory,
@@ -97,12 +99,13 @@ fn refuse<W: Write>(alloc: Global, row: usize, code: u8, writer: &mut Watched<W>
 }
 
 /// Plans a book in which no record has a fault, and writes what was found.
-fn answer<W: Write>(
+fn answer<W: Write, P: Watcher>(
     alloc: Global,
     effort: u32,
     report: Option<&[u8]>,
     book: &Book,
     writer: &mut Watched<W>,
+    watcher: &mut P,
 ) -> Status
     requires open { has_failed writer.old ≡ false }
     requires covers { length book.now.assigned ≡ length book.now.problem.pairings }
@@ -122,22 +125,24 @@ fn answer<W: Write>(
 {
     let problem = &book.problem;
     let Some(report) = report else {
-        return answer_from(alloc, effort, problem, book.assigned.as_slice(), writer);
+        let start = book.assigned.as_slice();
+        return answer_from(alloc, effort, problem, start, writer, watcher);
     };
     match read_roster(alloc, problem, report) {
-        Ok(start) => answer_from(alloc, effort, problem, start.as_slice(), writer),
+        Ok(start) => answer_from(alloc, effort, problem, start.as_slice(), writer, watcher),
         Err(ReportFault::At { line, wrong }) => Status::StartRefused { line, wrong },
         Err(ReportFault::Memory) => Status::Memory,
     }
 }
 
 /// Writes a plan that begins with these places.
-fn answer_from<W: Write>(
+fn answer_from<W: Write, P: Watcher>(
     alloc: Global,
     effort: u32,
     problem: &Problem,
     start: &[u16],
     writer: &mut Watched<W>,
+    watcher: &mut P,
 ) -> Status
     requires open { has_failed writer.old ≡ false }
     requires covers { length start.now ≡ length problem.now.pairings }
@@ -152,35 +157,33 @@ fn answer_from<W: Write>(
     ensures start_refused { ¬ IsStartRefused result }
     ensures others { (result ≢ Status.Refused) × (result ≢ Status.ReadFailed) }
 {
-    let Ok(planned) = plan(alloc, problem, start, effort) else {
+    let Ok(planned) = plan(alloc, problem, start, effort, watcher) else {
         return Status::Memory;
     };
-    match write_planned(alloc, problem, start, &planned, writer) {
+    match write_planned(alloc, problem, &planned, writer) {
         Ok(()) => Status::Answered,
         Err(TextFault::Memory) => Status::Memory,
         Err(TextFault::Device) => Status::WriteFailed,
     }
 }
 
-/// Writes a plan that begins with these places, or the report of its roster if that is known to be the best
-/// one.
-fn write_planned<W: Write>(
+/// Writes a plan: the report of its roster if that is the best one, and else its lines with the bound. That
+/// the one is the best and the other a bound is the word of whoever gives them.
+pub fn write_planned<W: Write>(
     alloc: Global,
     problem: &Problem,
-    start: &[u16],
     planned: &Planned,
     writer: &mut Watched<W>,
 ) -> Result<(), TextFault>
     requires open { has_failed writer.old ≡ false }
-    requires plan { IsPlan problem.now start.now planned.now.roster planned.now.bound }
-    requires best { planned.now.is_best ≡ true → IsBest problem.now planned.now.roster.places }
-    ensures written { OnOk result (Writes (IsPlanReport problem.now start.now)
+    requires held { IsHeld problem.now planned.now.roster }
+    ensures written { OnOk result (Writes (IsTextOf problem.now planned.now)
         (W.contents (inner_of writer.old)) (W.contents (inner_of writer.new))) }
     ensures holds { OnOk result (has_failed writer.new ≡ false) }
     ensures flushed { OnOk result (is_flushed writer.new ≡ true) }
     ensures memory { IsErrOf result TextFault.Memory → writer.new ≡ writer.old }
     ensures device { IsErrOf result TextFault.Device → has_failed writer.new ≡ true }
-    ensures prefix { IsErrOf result TextFault.Device → WritesPart (IsPlanReport problem.now start.now)
+    ensures prefix { IsErrOf result TextFault.Device → WritesPart (IsTextOf problem.now planned.now)
         (W.contents (inner_of writer.old)) (W.contents (inner_of writer.new)) }
 {
     if planned.is_best {

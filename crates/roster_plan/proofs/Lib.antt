@@ -4,3 +4,4 @@ mod FloorLemmas
 mod PlanLemmas
 mod ExactLemmas
 mod NearLemmas
+mod PlannedLemmas

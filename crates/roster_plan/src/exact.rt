@@ -6,8 +6,12 @@
 
 ghost use Rattle.std.specs.Prelude.{◌≡◌, ◌<◌, ◌≤◌, ◌≤ℤ◌, ◌+ℤ◌, pos, IfOk, IfSome};
 ghost use Rattle.roster_plan.specs.Exact.{IsExact};
+ghost use Rattle.roster_plan.specs.Planned.{IsKnown, IsPlannedFrom};
 
+use crate::known::{Planned, best_plan, raised};
 use crate::planning::MOST_EFFORT;
+use crate::watching::{Step, Watcher};
+use roster_cost::keys_are_in_order;
 use roster_lines::TableFault;
 use roster_model::limits::MOST_LINES;
 use roster_pricing::PricedBound;
@@ -36,25 +40,34 @@ pub(crate) enum Found {
     AtLeast(i64),
 }
 
-/// The best roster, or what no roster costs less than: at least the bound. The known roster costs so
-/// much.
-pub(crate) fn best_or_bound(
+/// The plan with the best roster, if that is found, or else with the greatest bound that is found on the
+/// way.
+pub(crate) fn close<W: Watcher>(
     alloc: Global,
     problem: &Problem,
     priced: &PricedBound<'_>,
-    known: i64,
+    start: Planned,
     effort: u32,
-) -> Result<Found, AllocError>
-    requires { priced.now.problem ≡ problem.now }
-    ensures { IfOk result (IsExact problem.now) }
+    watcher: &mut W,
+) -> Result<Planned, AllocError>
+    requires problem { priced.now.problem ≡ problem.now }
+    requires known { IsKnown problem.now start }
+    ensures { IfOk result (IsPlannedFrom problem.now start.roster) }
 {
-    let whole = gap_of(priced.bound(), known);
+    keys_are_in_order();
+    let whole = gap_of(priced.bound(), start.roster.cost);
     let mut gap = whole / FIRST_PART;
-    let mut low = priced.bound();
+    let mut planned = raised(problem, start, priced.bound(), Step::Prices, watcher);
     for _ in 0..MOST_GAPS {
         match within(alloc, problem, priced, gap, effort)? {
-            Some(Found::Best(roster)) => return Ok(Found::Best(roster)),
-            Some(Found::AtLeast(limit)) => low = limit,
+            Some(Found::Best(roster)) => {
+                let best = best_plan(problem, roster);
+                watcher.tell(problem, Step::Gap, &best);
+                return Ok(best);
+            }
+            Some(Found::AtLeast(bound)) => {
+                planned = raised(problem, planned, bound, Step::Gap, watcher);
+            }
             None => break,
         }
         if gap == whole {
@@ -62,7 +75,7 @@ pub(crate) fn best_or_bound(
         }
         gap = wider(gap, whole);
     }
-    Ok(Found::AtLeast(low))
+    Ok(planned)
 }
 
 /// The best roster if it costs at most so many units more than the bound, or that none does; or nothing,

@@ -18,6 +18,8 @@
 //! - `moves`: which change is tried next
 //! - `nearby`: neighbourhoods of a roster, searched whole
 //! - `neighbourhoods`: which neighbourhood is searched next
+//! - `known`: what is known of a plan
+//! - `watching`: who is told that while the plan is made
 //! - `planning`: the plan
 #![tactic(auto)]
 
@@ -26,6 +28,7 @@ mod changes;
 mod draft;
 mod exact;
 mod kept;
+mod known;
 mod moves;
 mod nearby;
 mod neighbourhoods;
@@ -34,5 +37,8 @@ mod random;
 mod search;
 mod sets;
 mod tables;
+mod watching;
 
-pub use planning::{Planned, plan};
+pub use known::Planned;
+pub use planning::plan;
+pub use watching::{Step, Unwatched, Watcher};

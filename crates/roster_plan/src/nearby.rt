@@ -9,10 +9,13 @@ ghost use Rattle.roster_lines.specs.Listing.{AreAllPairs};
 ghost use Rattle.roster_model.specs.Rosters.{IsLegalRoster, key_le};
 ghost use Rattle.roster_model.specs.Settled.{Anywhere, IsHeld, IsNotAfter};
 ghost use Rattle.roster_plan.specs.Near.{IsNear};
+ghost use Rattle.roster_plan.specs.Planned.{IsKnown, IsPlannedFrom};
 
+use crate::known::{Planned, places_of, so_far};
 use crate::neighbourhoods::Neighbourhoods;
 use crate::planning::MOST_EFFORT;
 use crate::sets::all_of;
+use crate::watching::{Step, Watcher};
 use roster_cost::keys_are_in_order;
 use roster_lines::{Between, Pairs, TableFault, wanted_table};
 use roster_model::limits::MOST_LINES;
@@ -35,6 +38,8 @@ const SEARCHES_AN_EFFORT: u32 = 20;
 pub(crate) struct Nearby {
     /// The roster.
     pub(crate) roster: Roster,
+    /// Whether it is another one.
+    pub(crate) is_new: bool,
     /// Whether it is known that no roster of the neighbourhood is earlier.
     pub(crate) is_settled: bool,
 }
@@ -65,6 +70,7 @@ pub(crate) fn search_nearby(
         Err(TableFault::TooMany(_)) => {
             return Ok(Nearby {
                 roster: known,
+                is_new: false,
                 is_settled: false,
             });
         }
@@ -73,14 +79,17 @@ pub(crate) fn search_nearby(
     match least_by_bases(alloc, problem, &table, &known, work)? {
         Searched::Settled(Some(roster)) => Ok(Nearby {
             roster,
+            is_new: true,
             is_settled: true,
         }),
         Searched::Settled(None) => Ok(Nearby {
             roster: known,
+            is_new: false,
             is_settled: true,
         }),
         Searched::GivenUp => Ok(Nearby {
             roster: known,
+            is_new: false,
             is_settled: false,
         }),
     }
@@ -135,37 +144,41 @@ fn repeated(alloc: Global, between: &Between, count: usize) -> Result<Vec<Betwee
     Ok(list)
 }
 
-/// A roster that isn't after the known one: the earliest that searches of some neighbourhoods come to.
-pub(crate) fn improved_nearby(
+/// The plan with the earliest roster that searches of some neighbourhoods come to.
+pub(crate) fn improved_nearby<W: Watcher>(
     alloc: Global,
     problem: &Problem,
     pairs: &[Pairs],
-    known: Roster,
+    start: Planned,
     effort: u32,
-) -> Result<Roster, AllocError>
+    watcher: &mut W,
+) -> Result<Planned, AllocError>
     requires pairs { AreAllPairs problem.now pairs.now }
-    requires known { IsHeld problem.now known }
-    ensures held { IfOk result (IsHeld problem.now) }
-    ensures kept { IfOk result (λ roster. key_le roster known ≡ true) }
+    requires known { IsKnown problem.now start }
+    ensures { IfOk result (IsPlannedFrom problem.now start.roster) }
 {
     keys_are_in_order();
     let mut neighbourhoods = Neighbourhoods::new(alloc, problem)?;
-    let mut roster = known;
+    let bound = start.bound;
+    let mut planned = start;
     for _ in 0..searches_of(effort) {
-        let wanted = neighbourhoods.next(alloc, problem, roster.places.as_slice())?;
+        let wanted = neighbourhoods.next(alloc, problem, places_of(&planned.roster))?;
         let nearby = search_nearby(
             alloc,
             problem,
             pairs,
-            roster,
+            planned.roster,
             &wanted,
             LINES_NEARBY,
             WORK_NEARBY,
         )?;
         neighbourhoods.tell(nearby.is_settled);
-        roster = nearby.roster;
+        planned = so_far(problem, nearby.roster, bound);
+        if nearby.is_new {
+            watcher.tell(problem, Step::Neighbourhoods, &planned);
+        }
     }
-    Ok(roster)
+    Ok(planned)
 }
 
 /// How many neighbourhoods an effort searches.

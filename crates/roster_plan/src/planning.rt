@@ -4,15 +4,17 @@ ghost use Rattle.std.specs.Prelude.{◌≡◌, ◌≤◌, ◌⊎◌, All, IfOk, 
 ghost use Rattle.roster_model.specs.Plans.{IsPlan};
 ghost use Rattle.roster_model.specs.Rosters.{IsLegalRoster, key_le, key_of};
 ghost use Rattle.roster_model.specs.Settled.{IsBest, IsHeld};
-ghost use Rattle.roster_plan.specs.Planned.{IsPlannedFrom};
+ghost use Rattle.roster_plan.specs.Planned.{IsKnown, IsPlannedFrom};
 
 use crate::bound::lower_bound;
 use crate::changes::Change;
 use crate::draft::Draft;
-use crate::exact::{Found, best_or_bound, most_lines, most_work};
+use crate::exact::{close, most_lines, most_work};
 use crate::kept::kept;
+use crate::known::{Planned, best_plan, places_of, raised, so_far};
 use crate::nearby::{improved_nearby, search_all};
 use crate::search::Search;
+use crate::watching::{Step, Watcher};
 use roster_cost::{comes_before, keys_are_in_order, roster_cost};
 use roster_lines::all_pairs;
 use roster_pricing::PricedBound;
@@ -38,26 +40,15 @@ const USUAL_STATES: u64 = 1000;
 /// How often prices are looked at, at most, at effort 0.
 const FEWEST_LOOKS: u32 = 4;
 
-/// A plan. `plan` promises what stands beside each field.
-#[derive(Debug, Drop)]
-pub struct Planned {
-    /// A legal roster with its cost, which isn't after what is kept of the given places, nor after no
-    /// pairings at all.
-    pub roster: Roster,
-    /// No legal roster costs less, in cost units.
-    pub bound: i64,
-    /// Whether the roster is known to be the best one. If it is, no legal roster is before it; if not,
-    /// it may be the best one still.
-    pub is_best: bool,
-}
-
-/// A plan that isn't after what is kept of the given places, nor after no pairings at all. Effort, from
-/// 0 to 9, is how much is tried: each one more doubles it. It is the same in each run.
-pub fn plan(
+/// A plan whose roster isn't after what is kept of the given places, nor after no pairings at all. Effort,
+/// from 0 to 9, is how much is tried: each one more doubles it. The plan is the same in each run, whatever
+/// the watcher does.
+pub fn plan<W: Watcher>(
     alloc: Global,
     problem: &Problem,
     given: &[u16],
     effort: u32,
+    watcher: &mut W,
 ) -> Result<Planned, AllocError>
     requires covers { length given.now ≡ length problem.now.pairings }
     requires numbers { All (λ x. x ≤ length problem.now.persons) given.now }
@@ -70,87 +61,65 @@ pub fn plan(
     let open = vec![in alloc; open_number(problem); problem.pairings().len()]?;
     let start = kept(alloc, problem, given)?;
     let known = earlier(costed(problem, start), costed(problem, open));
-    let planned = planned_from(alloc, problem, known, effort)?;
+    let planned = planned_from(alloc, problem, known, effort, watcher)?;
     Ok(planned)
 }
 
-/// A legal roster, the known one or a better one, and what no legal roster costs less than: the best
-/// roster if all lines are few.
-fn planned_from(
+/// The plan that comes of a known roster: the best one if all lines are few.
+fn planned_from<W: Watcher>(
     alloc: Global,
     problem: &Problem,
     known: Roster,
     effort: u32,
-) -> Result<Planned, AllocError>
-    requires { IsHeld problem.now known }
-    ensures { IfOk result (IsPlannedFrom problem.now known) }
-{
-    keys_are_in_order();
-    let pairs = all_pairs(alloc, problem)?;
-    let (lines, work) = (most_lines(effort), most_work(effort));
-    let all = search_all(alloc, problem, &pairs, known, lines, work)?;
-    let start = all.roster;
-    if all.is_settled {
-        let bound = start.cost;
-        return Ok(Planned {
-            roster: start,
-            bound,
-            is_best: true,
-        });
-    }
-    let found = improved(alloc, problem, start.places.as_slice(), effort)?;
-    let roster = earlier(costed(problem, found), start);
-    let roster = improved_nearby(alloc, problem, &pairs, roster, effort)?;
-    let planned = bounded(alloc, problem, roster, effort)?;
-    Ok(planned)
-}
-
-/// A legal roster, the known one or a better one, and what no legal roster costs less than, in cost
-/// units: what each pairing costs at least, or what prices say if that is more, or what the best roster
-/// costs.
-fn bounded(
-    alloc: Global,
-    problem: &Problem,
-    known: Roster,
-    effort: u32,
+    watcher: &mut W,
 ) -> Result<Planned, AllocError>
     requires { IsHeld problem.now known }
     ensures { IfOk result (IsPlannedFrom problem.now known) }
 {
     keys_are_in_order();
     let floor = lower_bound(alloc, problem)?;
-    let looks = looks_of(problem, effort);
-    if looks == 0 {
-        return Ok(Planned {
-            roster: known,
-            bound: floor,
-            is_best: false,
-        });
+    let start = so_far(problem, known, floor);
+    watcher.tell(problem, Step::Start, &start);
+    let pairs = all_pairs(alloc, problem)?;
+    let (lines, work) = (most_lines(effort), most_work(effort));
+    let all = search_all(alloc, problem, &pairs, start.roster, lines, work)?;
+    if all.is_settled {
+        let best = best_plan(problem, all.roster);
+        watcher.tell(problem, Step::Sets, &best);
+        return Ok(best);
     }
-    let mut priced = PricedBound::new(alloc, problem)?;
-    priced.raise(alloc, known.cost, looks - 1)?;
-    match best_or_bound(alloc, problem, &priced, known.cost, effort)? {
-        Found::Best(roster) => {
-            let bound = roster.cost;
-            Ok(Planned {
-                roster,
-                bound,
-                is_best: true,
-            })
-        }
-        Found::AtLeast(bound) => Ok(Planned {
-            roster: known,
-            bound: greater(floor, bound),
-            is_best: false,
-        }),
-    }
+    let found = improved(alloc, problem, places_of(&all.roster), effort)?;
+    let changed = so_far(problem, earlier(costed(problem, found), all.roster), floor);
+    watcher.tell(problem, Step::Changes, &changed);
+    let near = improved_nearby(alloc, problem, &pairs, changed, effort, watcher)?;
+    let planned = bounded(alloc, problem, near, effort, watcher)?;
+    Ok(planned)
 }
 
-/// The greater of two bounds.
-fn greater(first: i64, second: i64) -> i64
-    ensures { (result ≡ first) ⊎ (result ≡ second) }
+/// The plan with a greater bound, if prices give one, and with the best roster, if that is found.
+fn bounded<W: Watcher>(
+    alloc: Global,
+    problem: &Problem,
+    start: Planned,
+    effort: u32,
+    watcher: &mut W,
+) -> Result<Planned, AllocError>
+    requires { IsKnown problem.now start }
+    ensures { IfOk result (IsPlannedFrom problem.now start.roster) }
 {
-    if first < second { second } else { first }
+    keys_are_in_order();
+    let looks = looks_of(problem, effort);
+    if looks == 0 {
+        return Ok(start);
+    }
+    let mut priced = PricedBound::new(alloc, problem)?;
+    let mut planned = start;
+    for _ in 1..looks {
+        priced.raise(alloc, planned.roster.cost, 1)?;
+        planned = raised(problem, planned, priced.bound(), Step::Prices, watcher);
+    }
+    let closed = close(alloc, problem, &priced, planned, effort, watcher)?;
+    Ok(closed)
 }
 
 /// How often an effort looks at prices: more often the greater it is, if there is time for so many

@@ -1,0 +1,88 @@
+//! What is told and kept of a plan while it is made.
+
+ghost use Rattle.roster_model.specs.Settled.{IsHeld};
+
+use roster_desk_run::write_planned;
+use roster_plan::{Planned, Step, Watcher};
+use roster_problem::Problem;
+use roster_watched::Watched;
+use std::fs;
+use std::fs::File;
+
+/// Tells standard error what is known of a plan, and keeps it in a file, as far as that is wanted.
+#[derive(Drop)]
+pub(crate) struct Companion<'a> {
+    rt: &'a HostRuntime,
+    is_told: bool,
+    // The cost and the bound of the last line.
+    last: Option<(i64, i64)>,
+    // The path of the file, as long as it can be written.
+    keep: Option<&'a str>,
+    has_failed: bool,
+}
+
+impl<'a> Companion<'a> {
+    /// Of a plan of which nothing is known so far.
+    pub(crate) fn new(rt: &'a HostRuntime, is_told: bool, keep: Option<&'a str>) -> Companion<'a> {
+        Companion {
+            rt,
+            is_told,
+            last: None,
+            keep,
+            has_failed: false,
+        }
+    }
+
+    /// Whether the file couldn't be written.
+    pub(crate) fn has_failed(&self) -> bool {
+        self.has_failed
+    }
+
+    // A line, if its numbers are new.
+    fn line(&mut self, step: Step, cost: i64, bound: i64) {
+        if self.last == Some((cost, bound)) {
+            return;
+        }
+        self.last = Some((cost, bound));
+        let rt = self.rt;
+        let gap = cost.saturating_sub(bound);
+        let _ = eprintln!(rt; "{step}: cost {cost}, bound {bound}, gap {gap}");
+    }
+}
+
+impl<'a> Watcher for Companion<'a> {
+    fn tell(&mut self, problem: &Problem, step: Step, planned: &Planned) {
+        if self.is_told {
+            self.line(step, planned.roster.cost, planned.bound);
+        }
+        let Some(path) = self.keep else {
+            return;
+        };
+        let rt = self.rt;
+        if !keep(rt, path, problem, planned) {
+            let _ = eprintln!(rt; "error: {path} can't be written");
+            self.keep = None;
+            self.has_failed = true;
+        }
+    }
+}
+
+/// Writes the plan to a new file beside the one at the path, and puts it in its place. Whether that could be
+/// done; if not, the file at the path is as it was.
+fn keep(rt: &HostRuntime, path: &str, problem: &Problem, planned: &Planned) -> bool
+    requires { IsHeld problem.now planned.now.roster }
+{
+    let Ok(part) = format!(in rt.alloc(); "{path}.part") else {
+        return false;
+    };
+    let Ok(file) = File::create(rt, part.as_str()) else {
+        return false;
+    };
+    let mut writer = Watched::new(file);
+    let is_written = write_planned(rt.alloc(), problem, planned, &mut writer).is_ok();
+    if is_written && fs::rename(rt, part.as_str(), path).is_ok() {
+        return true;
+    }
+    let _ = fs::remove_file(rt, part.as_str());
+    false
+}

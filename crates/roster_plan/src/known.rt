@@ -1,0 +1,77 @@
+//! What is known of a plan while it is made, and in the end.
+
+ghost use Rattle.std.specs.Prelude.{◌≡◌};
+ghost use Rattle.roster_model.specs.Settled.{Anywhere, IsHeld, IsLowerBound, IsNotAfter};
+ghost use Rattle.roster_plan.specs.Planned.{IsKnown};
+
+use crate::watching::{Step, Watcher};
+use roster_problem::{Problem, Roster};
+
+/// A plan. Whoever is given one is promised what stands beside each field.
+#[derive(Debug, Drop)]
+pub struct Planned {
+    /// A legal roster with its cost.
+    pub roster: Roster,
+    /// No legal roster costs less, in cost units.
+    pub bound: i64,
+    /// Whether the roster is known to be the best one. If it is, no legal roster is before it; if not, it
+    /// may be the best one still.
+    pub is_best: bool,
+}
+
+/// The places of a roster.
+pub(crate) fn places_of(roster: &Roster) -> &[u16]
+    ensures { result.now ≡ roster.now.places }
+{
+    roster.places.as_slice()
+}
+
+/// The plan of a roster of which nobody knows whether it is the best one.
+pub(crate) fn so_far(problem: &Problem, roster: Roster, bound: i64) -> Planned
+    requires held { IsHeld problem.now roster }
+    requires bound { IsLowerBound problem.now bound }
+    ensures known { IsKnown problem.now result }
+    ensures roster { result.roster ≡ roster }
+{
+    Planned {
+        roster,
+        bound,
+        is_best: false,
+    }
+}
+
+/// The plan of the best roster: none costs less.
+pub(crate) fn best_plan(problem: &Problem, roster: Roster) -> Planned
+    requires held { IsHeld problem.now roster }
+    requires best { IsNotAfter problem.now Anywhere roster }
+    ensures known { IsKnown problem.now result }
+    ensures roster { result.roster ≡ roster }
+{
+    let bound = roster.cost;
+    Planned {
+        roster,
+        bound,
+        is_best: true,
+    }
+}
+
+/// The plan with another bound, if that is greater. Then the watcher is told so.
+pub(crate) fn raised<W: Watcher>(
+    problem: &Problem,
+    planned: Planned,
+    bound: i64,
+    step: Step,
+    watcher: &mut W,
+) -> Planned
+    requires known { IsKnown problem.now planned }
+    requires bound { IsLowerBound problem.now bound }
+    ensures known { IsKnown problem.now result }
+    ensures roster { result.roster ≡ planned.roster }
+{
+    if bound <= planned.bound {
+        return planned;
+    }
+    let raised = so_far(problem, planned.roster, bound);
+    watcher.tell(problem, step, &raised);
+    raised
+}

@@ -1,0 +1,54 @@
+//! Who is told what is known of a plan while it is made.
+
+ghost use Rattle.roster_plan.specs.Planned.{IsKnown};
+
+use crate::known::Planned;
+use roster_problem::Problem;
+use std::fmt;
+use std::fmt::{Display, Formatter};
+
+/// A step of a plan.
+#[derive(Clone, Copy, Debug, PartialEq, Eq)]
+pub enum Step {
+    /// What is legal of the given roster was kept.
+    Start,
+    /// All legal sets were searched.
+    Sets,
+    /// Changes were tried.
+    Changes,
+    /// Neighbourhoods were searched.
+    Neighbourhoods,
+    /// Prices were looked at.
+    Prices,
+    /// The sets of rosters that cost little more than the bound were searched.
+    Gap,
+}
+
+impl Display for Step {
+    fn fmt<W: fmt::Write>(&self, f: &mut Formatter<W>) -> fmt::Result {
+        f.write_str(match self {
+            Step::Start => "start",
+            Step::Sets => "sets",
+            Step::Changes => "changes",
+            Step::Neighbourhoods => "neighbourhoods",
+            Step::Prices => "prices",
+            Step::Gap => "gap",
+        })
+    }
+}
+
+/// Who is told what is known of a plan while it is made. Nothing rests on what that does.
+pub trait Watcher {
+    /// Tells what is known, by which step: the plan would be this one if it ended here. It is told each
+    /// time that it is another one, and so the last one too.
+    fn tell(&mut self, problem: &Problem, step: Step, planned: &Planned)
+        requires { IsKnown problem.now planned.now };
+}
+
+/// Nobody, for a plan of which only the end is wanted.
+#[derive(Clone, Copy, Debug)]
+pub struct Unwatched;
+
+impl Watcher for Unwatched {
+    fn tell(&mut self, _problem: &Problem, _step: Step, _planned: &Planned) {}
+}
