@@ -1,10 +1,10 @@
 -- What the limits judge, as sums: what they are of a list, and that the limits say no more.
-use Rattle.std.proofs.Common.{◌≡◌, ℕ, ◌+◌, ◌-◌, ◌≤◌, false, min, List, [], ◌∷◌, ◌++◌, get_or, map, sym, ap, ◌∙◌, arith}
+use Rattle.std.proofs.Common.{◌≡◌, ℕ, zero, suc, ◌+◌, ◌-◌, ◌%◌, ◌<◌, ◌≤◌, false, min, List, [], ◌∷◌, ◌++◌, get_or, length, map, refl, replicate, sym, ap, ◌∙◌, arith}
 use Rattle.std.specs.Prelude.{All, filter, slice_index}
 use Rattle.std.specs.List.{range_with_len, sum_by}
 use Rattle.std.proofs.Math.Path.{fun_ext}
-use Rattle.std.proofs.lemmas.List.{map-append}
-use Rattle.std.proofs.lemmas.List.Elements.{All-append, All-cons, All-head, All-map, All-nil, All-tail}
+use Rattle.std.proofs.lemmas.List.{length-map, map-append}
+use Rattle.std.proofs.lemmas.List.Elements.{All-append, All-cons, All-head, All-map, All-nil, All-replicate, All-tail}
 use Rattle.std.proofs.lemmas.Simd.{map-map}
 use Rattle.roster_model.specs.Calendar.{Days}
 use Rattle.roster_model.specs.Problem.{Problem}
@@ -17,8 +17,9 @@ use Rattle.roster_model.specs.Rules.Limits.{KeepsDuty7, KeepsDuty14, KeepsDuty28
 use Rattle.roster_model.specs.Sums.{duty_between, duty_on, flight_between, flight_on, in_run, judged_days, month_flight}
 use Rattle.roster_problem.specs.Duties.{is_of_pairing}
 use Rattle.roster_cumulative.specs.declared.judged.CappedSum.{CappedSum}
+use Rattle.roster_cumulative.specs.declared.judged.TheConstants.{IN_A_TURN}
 use Rattle.roster_cumulative.specs.declared.table.Measure.TheVariants as measures
-use Rattle.roster_cumulative.specs.Judged.{Sum, Duty7, Duty14, Duty28, Flight28, MonthFlight, AreWithin, capped_of, judged_sums, load_of, most_load, most_of, room_of, sum_of}
+use Rattle.roster_cumulative.specs.Judged.{Sum, Duty7, Duty14, Duty28, Flight28, MonthFlight, AreWithin, capped_of, judged_runs, judged_sums, load_of, most_load, most_of, room_of, sum_of}
 use Rattle.roster_cumulative.specs.Table.{AreMinutesByDay}
 use Rattle.roster_cumulative.proofs.ListedFlight.{listed-one_more}
 use Rattle.roster_cumulative.proofs.MonthFlight.{sum_of_sums}
@@ -29,25 +30,32 @@ abbrev pub capped_runs : (ℕ → ℕ) → Days → ℕ → ℕ → List CappedS
 capped_runs minutes days n most =
     map (λ last. record { total = in_run minutes n last; most = most }) (judged_days days)
 
-all-sums : (days : Days) (list : List Duty) (year eleven : ℕ) (last : CappedSum) → last ≡ capped_of days list year eleven MonthFlight
-    → capped_runs (duty_on days list) days SHORT_RUN MOST_DUTY_IN_7_DAYS ++ capped_runs (duty_on days list) days MIDDLE_RUN MOST_DUTY_IN_14_DAYS
-    ++ capped_runs (duty_on days list) days LONG_RUN MOST_DUTY_IN_28_DAYS
-    ++ capped_runs (flight_on days list) days LONG_RUN MOST_FLIGHT_IN_28_DAYS
-    ++ last ∷ []
-    ≡ map (capped_of days list year eleven) (judged_sums days)
-all-sums days list year eleven last is =
-    rw is (sym (simp (map-append, map-map)))
-
-pub sums-of_tables : (days : Days) (list : List Duty) (year eleven : ℕ) (duty flight : List ℕ) (last : CappedSum) → AreMinutesByDay measures.Duty days list duty → AreMinutesByDay measures.Flight days list flight → last ≡ capped_of days list year eleven MonthFlight
+-- of judged runs
+pub runs-of_tables : (days : Days) (list : List Duty) (year eleven : ℕ) (duty flight : List ℕ) → AreMinutesByDay measures.Duty days list duty → AreMinutesByDay measures.Flight days list flight
     → capped_runs (slice_index duty) days SHORT_RUN MOST_DUTY_IN_7_DAYS ++ capped_runs (slice_index duty) days MIDDLE_RUN MOST_DUTY_IN_14_DAYS
     ++ capped_runs (slice_index duty) days LONG_RUN MOST_DUTY_IN_28_DAYS
     ++ capped_runs (slice_index flight) days LONG_RUN MOST_FLIGHT_IN_28_DAYS
-    ++ last ∷ []
-    ≡ map (capped_of days list year eleven) (judged_sums days)
-sums-of_tables days list year eleven duty flight last duties flights is =
-    ap (λ m. capped_runs m days SHORT_RUN MOST_DUTY_IN_7_DAYS ++ capped_runs m days MIDDLE_RUN MOST_DUTY_IN_14_DAYS ++ capped_runs m days LONG_RUN MOST_DUTY_IN_28_DAYS ++ capped_runs (slice_index flight) days LONG_RUN MOST_FLIGHT_IN_28_DAYS ++ last ∷ []) (fun_ext {f = slice_index duty} {g = duty_on days list} duties.value)
-    ∙ ap (λ m. capped_runs (duty_on days list) days SHORT_RUN MOST_DUTY_IN_7_DAYS ++ capped_runs (duty_on days list) days MIDDLE_RUN MOST_DUTY_IN_14_DAYS ++ capped_runs (duty_on days list) days LONG_RUN MOST_DUTY_IN_28_DAYS ++ capped_runs m days LONG_RUN MOST_FLIGHT_IN_28_DAYS ++ last ∷ []) (fun_ext {f = slice_index flight} {g = flight_on days list} flights.value)
-    ∙ all-sums days list year eleven last is
+    ≡ map (capped_of days list year eleven) (judged_runs days)
+runs-of_tables days list year eleven duty flight duties flights =
+    ap (λ m. capped_runs m days SHORT_RUN MOST_DUTY_IN_7_DAYS ++ capped_runs m days MIDDLE_RUN MOST_DUTY_IN_14_DAYS ++ capped_runs m days LONG_RUN MOST_DUTY_IN_28_DAYS ++ capped_runs (slice_index flight) days LONG_RUN MOST_FLIGHT_IN_28_DAYS) (fun_ext {f = slice_index duty} {g = duty_on days list} duties.value)
+    ∙ ap (λ m. capped_runs (duty_on days list) days SHORT_RUN MOST_DUTY_IN_7_DAYS ++ capped_runs (duty_on days list) days MIDDLE_RUN MOST_DUTY_IN_14_DAYS ++ capped_runs (duty_on days list) days LONG_RUN MOST_DUTY_IN_28_DAYS ++ capped_runs m days LONG_RUN MOST_FLIGHT_IN_28_DAYS) (fun_ext {f = slice_index flight} {g = flight_on days list} flights.value)
+    ∙ sym (simp (map-append, map-map))
+
+map-replicate : {X Y : Type 0} (f : X → Y) (n : ℕ) (x : X) → map f (replicate n x) ≡ replicate n (f x)
+map-replicate f zero x = refl
+map-replicate f (suc n) x = ap (λ xs. f x ∷ xs) (map-replicate f n x)
+
+-- and with the month's flight behind them
+pub sums-of_runs : (days : Days) (list : List Duty) (year eleven : ℕ) {runs : List CappedSum} (last : CappedSum) → runs ≡ map (capped_of days list year eleven) (judged_runs days) → last ≡ capped_of days list year eleven MonthFlight
+    → runs ++ replicate (IN_A_TURN - length runs % IN_A_TURN) last ≡ map (capped_of days list year eleven) (judged_sums days)
+sums-of_runs days list year eleven {runs} last are is =
+    let capped = capped_of days list year eleven in
+    let more = IN_A_TURN - length (judged_runs days) % IN_A_TURN in
+    ap (λ xs. xs ++ replicate (IN_A_TURN - length xs % IN_A_TURN) last) are
+    ∙ ap (λ n. map capped (judged_runs days) ++ replicate (IN_A_TURN - n % IN_A_TURN) last) (length-map (judged_runs days) capped)
+    ∙ ap (λ l. map capped (judged_runs days) ++ replicate more l) is
+    ∙ ap (λ xs. map capped (judged_runs days) ++ xs) (sym (map-replicate capped more MonthFlight))
+    ∙ sym (map-append capped (judged_runs days) (replicate more MonthFlight))
 
 -- ---- rooms and loads
 
@@ -81,6 +89,14 @@ all_parts P (x ∷ xs) ys all =
 all_mapped : {X Y : Type 0} (P : X → Type 0) (f : Y → X) (ys : List Y) → All P (map f ys) → All (λ y. P (f y)) ys
 all_mapped P f [] all = All-nil (λ y. P (f y))
 all_mapped P f (y ∷ ys) all = All-cons (λ y. P (f y)) y ys (All-head P (f y) (map f ys) all) (all_mapped P f ys (All-tail P (f y) (map f ys) all))
+
+one_of_many : {X : Type 0} (P : X → Type 0) (n : ℕ) (x : X) → 0 < n → All P (replicate n x) → P x
+one_of_many P zero x some all = absurd (omega arith)
+one_of_many P (suc n) x some all = All-head P x (replicate n x) all
+
+-- the month's flight is there
+some_month : (days : Days) → 0 < IN_A_TURN - length (judged_runs days) % IN_A_TURN
+some_month days = omega arith
 
 -- what a duty has of a sum
 abbrev pub part_of : Days → Sum → Duty → ℕ
@@ -122,8 +138,9 @@ pub limits-by_sums : (days : Days) (list : List Duty) (year eleven : ℕ) → ye
 limits-by_sums days list year eleven few fewer all limit =
     let Within : Sum → Type 0 = λ sum. sum_of days list sum ≤ most_of year eleven sum in
     let J : List ℕ = judged_days days in
-    let five = all_parts Within (map Duty7 J ++ map Duty14 J ++ map Duty28 J ++ map Flight28 J) (MonthFlight ∷ []) all in
-    let month : month_flight days list ≤ min (MOST_FLIGHT_IN_A_YEAR - year) (MOST_FLIGHT_IN_12_MONTHS - eleven) = All-head Within MonthFlight [] five.1 in
+    let more = IN_A_TURN - length (judged_runs days) % IN_A_TURN in
+    let five = all_parts Within (judged_runs days) (replicate more MonthFlight) all in
+    let month : month_flight days list ≤ min (MOST_FLIGHT_IN_A_YEAR - year) (MOST_FLIGHT_IN_12_MONTHS - eleven) = one_of_many Within more MonthFlight (some_month days) five.1 in
     let four = all_parts Within (map Duty7 J ++ map Duty14 J ++ map Duty28 J) (map Flight28 J) five.0 in
     let three = all_parts Within (map Duty7 J ++ map Duty14 J) (map Duty28 J) four.0 in
     let two = all_parts Within (map Duty7 J) (map Duty14 J) three.0 in
@@ -136,10 +153,11 @@ sums-by_limits days list year eleven holds =
     let in_year : year + month_flight days list ≤ MOST_FLIGHT_IN_A_YEAR = holds rules.FlightYear in
     let in_twelve : eleven + month_flight days list ≤ MOST_FLIGHT_IN_12_MONTHS = holds rules.Flight12 in
     let month : month_flight days list ≤ min (MOST_FLIGHT_IN_A_YEAR - year) (MOST_FLIGHT_IN_12_MONTHS - eleven) = omega arith in
-    All-append Within (map Duty7 J ++ map Duty14 J ++ map Duty28 J ++ map Flight28 J) (MonthFlight ∷ [])
+    let more = IN_A_TURN - length (judged_runs days) % IN_A_TURN in
+    All-append Within (judged_runs days) (replicate more MonthFlight)
     (All-append Within (map Duty7 J ++ map Duty14 J ++ map Duty28 J) (map Flight28 J)
     (All-append Within (map Duty7 J ++ map Duty14 J) (map Duty28 J)
     (All-append Within (map Duty7 J) (map Duty14 J) (All-map Within Duty7 J (holds rules.Duty7)) (All-map Within Duty14 J (holds rules.Duty14)))
     (All-map Within Duty28 J (holds rules.Duty28)))
     (All-map Within Flight28 J (holds rules.Flight28)))
-    (All-cons Within MonthFlight [] month (All-nil Within))
+    (All-replicate Within more MonthFlight month)

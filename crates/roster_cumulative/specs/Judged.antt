@@ -1,10 +1,11 @@
 -- All that the limits judge of a duty list, as sums over its duties.
-use Rattle.std.specs.Prelude.{ℕ, ◌-◌, ◌≤◌, min, List, [], ◌∷◌, ◌++◌, map, slice_index, All}
+use Rattle.std.specs.Prelude.{ℕ, ◌-◌, ◌%◌, ◌≤◌, min, List, ◌++◌, length, map, replicate, slice_index, All}
 use Rattle.roster_model.specs.declared.profile.TheConstants.{SHORT_RUN, MIDDLE_RUN, LONG_RUN, MOST_DUTY_IN_7_DAYS, MOST_DUTY_IN_14_DAYS, MOST_DUTY_IN_28_DAYS, MOST_FLIGHT_IN_28_DAYS, MOST_FLIGHT_IN_A_YEAR, MOST_FLIGHT_IN_12_MONTHS}
 use Rattle.roster_model.specs.Calendar.{Days}
 use Rattle.roster_model.specs.records.Duty.{Duty}
 use Rattle.roster_model.specs.Sums.{duty_on, flight_on, in_run, judged_days, month_flight}
 use Rattle.roster_cumulative.specs.declared.judged.CappedSum.{CappedSum}
+use Rattle.roster_cumulative.specs.declared.judged.TheConstants.{IN_A_TURN}
 
 -- duty or flight of the run of days of which the one given is the last, or the month's flight
 pub data Sum : Type 0 where
@@ -14,12 +15,16 @@ pub data Sum : Type 0 where
   Flight28 : ℕ → Sum
   MonthFlight : Sum
 
--- those that are judged
-abbrev pub judged_sums : Days → List Sum
-judged_sums days =
+-- those of judged runs
+abbrev pub judged_runs : Days → List Sum
+judged_runs days =
     map Duty7 (judged_days days) ++ map Duty14 (judged_days days) ++ map Duty28 (judged_days days)
     ++ map Flight28 (judged_days days)
-    ++ MonthFlight ∷ []
+
+-- Those that are judged. The month's flight is there as often as makes whole turns of a loop over them.
+abbrev pub judged_sums : Days → List Sum
+judged_sums days =
+    judged_runs days ++ replicate (IN_A_TURN - length (judged_runs days) % IN_A_TURN) MonthFlight
 
 -- what a list has of it
 abbrev pub sum_of : Days → List Duty → Sum → ℕ

@@ -1,6 +1,6 @@
 //! All that the limits judge, as sums over duties: what a list takes of each, and what it leaves.
 
-ghost use Rattle.std.specs.Prelude.{◌≡◌, ◌++◌, ◌-◌, ◌≤◌, ◌↔◌, ℕ, IfOk, IsTrue, OnOk, length, map, min, slice_index};
+ghost use Rattle.std.specs.Prelude.{◌≡◌, ◌++◌, ◌-◌, ◌%◌, ◌≤◌, ◌↔◌, ℕ, IfOk, IsTrue, OnOk, length, map, min, replicate, slice_index};
 ghost use Rattle.roster_model.specs.Sums.{in_run, judged_days};
 ghost use Rattle.roster_cumulative.specs.Judged.{HaveRoom, MonthFlight, capped_of, judged_sums, load_of, most_load, room_of};
 ghost use Rattle.roster_cumulative.specs.Table.{IsLight};
@@ -19,6 +19,9 @@ use std::alloc::{AllocError, Global};
 
 /// The most minutes of a load that are counted: more than any sum may have.
 const MOST_LOAD: u64 = u16::MAX as u64;
+
+/// So many sums a loop looks at in one turn, by vector instructions.
+const IN_A_TURN: usize = 16;
 
 /// A sum, and the most that there may be of it, in minutes.
 #[derive(Clone, Copy, Debug)]
@@ -61,6 +64,15 @@ fn month_sum(days: &BaseDays, list: &DutyList, year: u32, eleven: u32) -> Capped
     }
 }
 
+/// Appends the sum as often as makes whole turns, once at least.
+fn push_turn(sums: &mut Vec<CappedSum>, sum: CappedSum) -> Result<(), AllocError>
+    ensures { OnOk result (sums.new.items
+        ≡ sums.old.items ++ replicate (IN_A_TURN - length sums.old.items % IN_A_TURN) sum) }
+{
+    let more = IN_A_TURN - sums.len() % IN_A_TURN;
+    sums.resize(sums.len() + more, sum)
+}
+
 /// All sums of the list, and the most that there may be of each, with so much flown before the month.
 fn capped_sums(
     alloc: Global,
@@ -80,7 +92,7 @@ fn capped_sums(
     let flight = minutes_by_day(days, list, Measure::Flight);
     push_runs(&mut sums, days, &flight, LONG_RUN, MOST_FLIGHT_IN_28_DAYS)?;
     let month = month_sum(days, list, year, eleven);
-    sums.push(month)?;
+    push_turn(&mut sums, month)?;
     Ok(sums)
 }
 
