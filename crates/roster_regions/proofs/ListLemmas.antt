@@ -1,5 +1,5 @@
 -- What a list contains, through a filter and a map, and how long a filter is.
-use Rattle.std.proofs.Common.{◌≡◌, ℕ, zero, suc, ◌<◌, ◌≤◌, Bool, true, false, not, cond, List, [], ◌∷◌, length, get_or, map, refl, sym, ap, ◌∙◌, subst, ◌⊎◌, inl, inr, arith}
+use Rattle.std.proofs.Common.{◌≡◌, ℕ, zero, suc, ◌<◌, ◌≤◌, Bool, true, false, not, cond, ◌&&◌, ◌||◌, List, [], ◌∷◌, length, get_or, map, refl, sym, ap, ◌∙◌, subst, ◌⊎◌, inl, inr, arith}
 use Rattle.std.specs.Prelude.{Contains, filter}
 use Rattle.std.specs.List.{list_any, list_all}
 use Rattle.std.proofs.lemmas.Bool.{both_ways}
@@ -106,3 +106,20 @@ false_from_not false h = refl
 pub not_if : (b : Bool) → (b ≡ true → ⊥) → not b ≡ true
 not_if true h = absurd (h refl)
 not_if false h = refl
+
+-- A test that all pass keeps all, and so does one that lets pass what another one that none passes doesn't.
+pub filter-all : {X : Type 0} (test : X → Bool) (xs : List X) → list_all test xs ≡ true → filter test xs ≡ xs
+filter-all test [] all = refl
+filter-all {X} test (x ∷ xs) all = go (filter-all test xs) (test x) all
+  where
+    go : (list_all test xs ≡ true → filter test xs ≡ xs) → (b : Bool) → (b && list_all test xs) ≡ true → cond b (x ∷ filter test xs) (filter test xs) ≡ x ∷ xs
+    go later true all = ap (λ ys. x ∷ ys) (later all)
+    go later false all = absurd (both_ways false refl all)
+
+pub filter-none : {X : Type 0} (test : X → Bool) (xs : List X) → list_any test xs ≡ false → filter (λ x. not (test x)) xs ≡ xs
+filter-none test [] none = refl
+filter-none {X} test (x ∷ xs) none = go (filter-none test xs) (test x) none
+  where
+    go : (list_any test xs ≡ false → filter (λ x. not (test x)) xs ≡ xs) → (b : Bool) → (b || list_any test xs) ≡ false → cond (not b) (x ∷ filter (λ x. not (test x)) xs) (filter (λ x. not (test x)) xs) ≡ x ∷ xs
+    go later true none = absurd (both_ways true none refl)
+    go later false none = ap (λ ys. x ∷ ys) (later none)

@@ -4,7 +4,7 @@ use Rattle.std.specs.Prelude.{All, Contains, filter, slice_get}
 use Rattle.std.specs.List.{list_all}
 use Rattle.std.specs.Option.{option_map_or}
 use Rattle.std.proofs.lemmas.Bool.{both_ways, cases_eq, cases_lt, eqb-true}
-use Rattle.std.proofs.lemmas.List.{get_or-set_same, get_or-set_other, length-set}
+use Rattle.std.proofs.lemmas.List.{get_or-set_same, get_or-set_other, length-set, set-get_or}
 use Rattle.std.proofs.lemmas.List.Elements.{All-filter}
 use Rattle.std.proofs.lemmas.List.Sums.{sum_by-set}
 use Rattle.std.proofs.lemmas.Option.{get_or_from_slice_get, slice_get-get_or, slice_get_past, slice_get_within}
@@ -50,6 +50,11 @@ with_lines_same region k lines new at =
     let inside = slice_get_within (set region.choices k new) k lines at in
     sym (get_or-set_same region.choices k new [] (omega (arith, inside, length-set region.choices k new)))
     ∙ get_or_from_slice_get (set region.choices k new) k lines [] at
+
+-- a filter of them that takes none away changes nothing
+pub with_lines_kept : (region : Region) (k : ℕ) (test : AllowedLine → Bool) → filter test (lines_of region k) ≡ lines_of region k → region ≡ with_lines region k (filter test (lines_of region k))
+with_lines_kept region k test all =
+    ap (λ choices. record region { choices = choices }) (sym (ap (set region.choices k) all ∙ set-get_or region.choices k []))
 
 slice_get-set_other : {X : Type 0} (xs : List X) (i j : ℕ) (x : X) → (j ≡ i → ⊥) → slice_get (set xs i x) j ≡ slice_get xs j
 slice_get-set_other xs i j x other =

@@ -177,6 +177,9 @@ impl Region {
         ensures { OnOk result (self.new ≡ with_lines self.old k
             (filter (λ line. agrees wanted (is_among line.set p)) (lines_of self.old k))) }
     {
+        if self.persons[k].tree().keeps_all(p, wanted) {
+            return Ok(());
+        }
         let tree = self.persons[k].tree().having(alloc, p, wanted)?;
         self.replace(alloc, k, tree)
     }

@@ -82,7 +82,7 @@ impl Region {
         ensures { OnOk result (IsNarrowed problem.now (CostsAtMost problem.now most)
             self.old self.new) }
     {
-        if self.greatest(k, prices) > cut {
+        if self.width(k) > 1 && self.greatest(k, prices) > cut {
             self.keep_within(alloc, k, prices, cut)?;
         }
         Ok(())

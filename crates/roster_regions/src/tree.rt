@@ -196,6 +196,18 @@ impl Tree {
         self.certain
     }
 
+    /// Whether it is known that `having` would take no line away.
+    pub(crate) fn keeps_all(&self, p: usize, wanted: bool) -> bool
+        ensures { result ≡ true
+            → filter (λ line. agrees wanted (is_among line.set p)) self.now ≡ self.now }
+    {
+        if wanted {
+            self.certain.has(p)
+        } else {
+            !self.possible.has(p)
+        }
+    }
+
     /// The lines that have the pairing at place `p`, or those that haven't.
     pub(crate) fn having(&self, alloc: Global, p: usize, wanted: bool) -> Result<Tree, AllocError>
         ensures { IfOk result
