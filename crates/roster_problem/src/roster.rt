@@ -1,7 +1,8 @@
 //! Who flies what.
 
-ghost use Rattle.std.specs.Prelude.{◌≡◌, length};
+ghost use Rattle.std.specs.Prelude.{◌≡◌, IfOk, length};
 
+use std::alloc::{AllocError, Global};
 use std::marker::Model;
 
 /// For each pairing in book order the place of the person who flies it, or the number of persons
@@ -67,4 +68,17 @@ impl Model for Roster {
     ghost Value = { Key };
 
     ghost view = { λ r. record { cost = r.cost; places = r.places } };
+}
+
+impl Roster {
+    /// The same roster again.
+    pub fn copy(&self, alloc: Global) -> Result<Roster, AllocError>
+        ensures { IfOk result (λ copy. copy ≡ self.now) }
+    {
+        let places = self.places.as_slice().to_vec(alloc)?;
+        Ok(Roster {
+            places: Places::new(places),
+            cost: self.cost,
+        })
+    }
 }

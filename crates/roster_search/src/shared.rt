@@ -10,7 +10,7 @@ use crate::finder::Finder;
 use crate::parts::{least_of_base, least_of_base_by_threads};
 use roster_lines::Table;
 use roster_model::limits::MOST_BASES;
-use roster_problem::{Places, Problem, Roster};
+use roster_problem::{Problem, Roster};
 use std::alloc::{AllocError, Global};
 use std::sync::atomic::{AtomicUsize, Ordering};
 use std::thread::{Threads, map_indices};
@@ -178,18 +178,7 @@ fn copy_if(alloc: Global, roster: &Option<Roster>) -> Result<Option<Roster>, All
     ensures { IfOk result (λ copy. copy ≡ roster.now) }
 {
     match roster {
-        Some(roster) => Ok(Some(copy_of(alloc, roster)?)),
+        Some(roster) => Ok(Some(roster.copy(alloc)?)),
         None => Ok(None),
     }
-}
-
-/// The same roster again.
-fn copy_of(alloc: Global, roster: &Roster) -> Result<Roster, AllocError>
-    ensures { IfOk result (λ copy. copy ≡ roster.now) }
-{
-    let places = roster.places.as_slice().to_vec(alloc)?;
-    Ok(Roster {
-        places: Places::new(places),
-        cost: roster.cost,
-    })
 }
