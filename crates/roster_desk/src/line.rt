@@ -151,6 +151,11 @@ fn plan<'a>(alloc: Global) -> Result<Command<'a>, AllocError> {
     );
     Command::new(alloc, "plan")
         .about("Writes a legal roster of the book, however large it is, and a bound of its cost")
+        .after_help(
+            "Examples:
+  roster-desk plan book.csv > plan.txt
+  roster-desk plan --effort 9 --start plan.txt --keep better.txt book.csv",
+        )
         .arg(book(alloc))?
         .arg(effort)?
         .arg(start)?
@@ -166,6 +171,11 @@ fn why<'a>(alloc: Global) -> Result<Command<'a>, AllocError> {
         .help("Only this pairing, open or not");
     Command::new(alloc, "why")
         .about("Tells of each open pairing who could have it at what cost, and why others mustn't")
+        .after_help(
+            "Examples:
+  roster-desk why book.csv plan.txt
+  roster-desk why --pairing OUT-BACK --person ANNA book.csv plan.txt",
+        )
         .arg(book(alloc))?
         .arg(report(alloc))?
         .arg(pairing)?
@@ -176,6 +186,11 @@ fn why<'a>(alloc: Global) -> Result<Command<'a>, AllocError> {
 fn limits<'a>(alloc: Global) -> Result<Command<'a>, AllocError> {
     Command::new(alloc, "limits")
         .about("Tells how much of each limit each person uses, and what is left")
+        .after_help(
+            "Examples:
+  roster-desk limits book.csv plan.txt
+  roster-desk limits --person ANNA book.csv plan.txt",
+        )
         .arg(book(alloc))?
         .arg(report(alloc))?
         .arg(person(alloc))
@@ -189,6 +204,11 @@ fn table<'a>(alloc: Global) -> Result<Command<'a>, AllocError> {
         .help("A row for each person, with sums");
     Command::new(alloc, "table")
         .about("Writes CSV for a spreadsheet: who has which pairings, duties and leaves, and when")
+        .after_help(
+            "Examples:
+  roster-desk table book.csv plan.txt > table.csv
+  roster-desk table --persons book.csv plan.txt > persons.csv",
+        )
         .arg(book(alloc))?
         .arg(report(alloc))?
         .arg(persons)
@@ -198,6 +218,10 @@ fn table<'a>(alloc: Global) -> Result<Command<'a>, AllocError> {
 fn chart<'a>(alloc: Global) -> Result<Command<'a>, AllocError> {
     Command::new(alloc, "chart")
         .about("Draws the roster as a page for a browser")
+        .after_help(
+            "Examples:
+  roster-desk chart book.csv plan.txt > chart.html",
+        )
         .arg(book(alloc))?
         .arg(report(alloc))
 }
@@ -206,6 +230,10 @@ fn chart<'a>(alloc: Global) -> Result<Command<'a>, AllocError> {
 fn diff<'a>(alloc: Global) -> Result<Command<'a>, AllocError> {
     Command::new(alloc, "diff")
         .about("Tells which pairings move from one roster to another, and what that changes")
+        .after_help(
+            "Examples:
+  roster-desk diff book.csv plan.txt better.txt",
+        )
         .arg(book(alloc))?
         .arg(needed(alloc, "report"))?
         .arg(needed(alloc, "other"))
@@ -215,6 +243,10 @@ fn diff<'a>(alloc: Global) -> Result<Command<'a>, AllocError> {
 fn assigns<'a>(alloc: Global) -> Result<Command<'a>, AllocError> {
     Command::new(alloc, "assigns")
         .about("Writes the assign records that give a book the roster of a report or plan")
+        .after_help(
+            "Examples:
+  roster-desk assigns plan.txt > assigns.csv",
+        )
         .arg(needed(alloc, "report"))
 }
 
@@ -224,6 +256,10 @@ fn fault<'a>(alloc: Global) -> Result<Command<'a>, AllocError> {
         .about(
             "Tells which records of a refused book have faults, and what is wanted in their fields",
         )
+        .after_help(
+            "Examples:
+  roster-desk fault book.csv",
+        )
         .arg(book(alloc))
 }
 
@@ -231,6 +267,10 @@ fn fault<'a>(alloc: Global) -> Result<Command<'a>, AllocError> {
 fn warn<'a>(alloc: Global) -> Result<Command<'a>, AllocError> {
     Command::new(alloc, "warn")
         .about("Tells what is likely a mistake in a book without a fault")
+        .after_help(
+            "Examples:
+  roster-desk warn book.csv",
+        )
         .arg(book(alloc))
 }
 
