@@ -39,7 +39,7 @@ abbrev pub IsFaultless : List Record → Type 0
 IsFaultless book = (fault : Fault) → ¬ IsFirstFault Check book fault
 
 -- the book has no fault, and the text is a plan of it that begins with the roster of the report
-pub record IsPlannedFrom (report : List ℕ) (book : List Record) (text : List ℕ) : Type 0 where
+pub record IsPlannedWith (report : List ℕ) (book : List Record) (text : List ℕ) : Type 0 where
   pub faultless : IsFaultless book
   pub start : List ℕ
   pub is_start : IsRosterOf (problem_of book) report start
@@ -48,12 +48,12 @@ pub record IsPlannedFrom (report : List ℕ) (book : List Record) (text : List �
 -- the text is a plan of the book, which begins with the roster of the report if there is one
 abbrev pub IsPlanOfBook : Option (List ℕ) → List Record → List ℕ → Type 0
 IsPlanOfBook None book text = IsPlanned book text
-IsPlanOfBook (Some report) book text = IsPlannedFrom report book text
+IsPlanOfBook (Some report) book text = IsPlannedWith report book text
 
 -- the text answers the book that is to be planned so
 abbrev pub IsAnswerTo : Option (List ℕ) → List Record → List ℕ → Type 0
 IsAnswerTo None book text = IsPlanAnswer book text
-IsAnswerTo (Some report) book text = IsRefusal Check book text ⊎ IsPlannedFrom report book text
+IsAnswerTo (Some report) book text = IsRefusal Check book text ⊎ IsPlannedWith report book text
 
 -- ---- how a run ends
 
