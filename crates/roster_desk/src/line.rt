@@ -3,6 +3,7 @@
 use crate::pages::Page;
 use clap::error::ErrorKind;
 use clap::{Arg, ArgAction, ArgMatches, Command, builder};
+use roster_model::limits::MOST_WORKERS;
 use std::alloc::{AllocError, Global};
 
 /// How much is tried if nothing is said of it.
@@ -28,6 +29,8 @@ pub(crate) struct PlanLine<'a> {
     pub(crate) book: &'a str,
     /// How much is to be tried, from 0 to 9.
     pub(crate) effort: u32,
+    /// How many threads may share searches.
+    pub(crate) workers: usize,
     /// The path of the report that gives the roster to begin with, or `-`; none if the book gives it.
     pub(crate) start: Option<&'a str>,
     /// Whether standard error is told what is known on the way, though it is no terminal.
@@ -130,7 +133,7 @@ fn person<'a>(alloc: Global) -> Arg<'a> {
         .help("Only this person")
 }
 
-/// `plan`, with its book, its effort, its start, and what is told and kept on the way.
+/// `plan`, with its book, its effort, its workers, its start, and what is told and kept on the way.
 fn plan<'a>(alloc: Global) -> Result<Command<'a>, AllocError> {
     let effort = Arg::new(alloc, "effort")
         .long("effort")
@@ -138,6 +141,12 @@ fn plan<'a>(alloc: Global) -> Result<Command<'a>, AllocError> {
         .value_parser(builder::ValueParser::unsigned(0, 9))
         .default_value("5")
         .help("How much is tried, from 0 to 9: each one more takes about twice as long");
+    let workers = Arg::new(alloc, "workers")
+        .long("workers")
+        .value_name("N")
+        .value_parser(builder::ValueParser::unsigned(1, MOST_WORKERS.into()))
+        .default_value("1")
+        .help("How many threads may share searches: the plan is the same for any number");
     let start = Arg::new(alloc, "start")
         .long("start")
         .value_name("REPORT")
@@ -158,6 +167,7 @@ fn plan<'a>(alloc: Global) -> Result<Command<'a>, AllocError> {
         )
         .arg(book(alloc))?
         .arg(effort)?
+        .arg(workers)?
         .arg(start)?
         .arg(progress)?
         .arg(keep)
@@ -338,12 +348,14 @@ fn planned<'a>(matches: &ArgMatches<'a>) -> Option<PlanLine<'a>> {
     let found = matches.subcommand_matches("plan")?;
     let book = found.get_str("book")?;
     let effort = found.get_one::<u32>("effort").unwrap_or(USUAL_EFFORT);
+    let workers = found.get_one::<usize>("workers").unwrap_or(1);
     let start = found.get_str("start");
     let progress = found.get_flag("progress");
     let keep = found.get_str("keep");
     Some(PlanLine {
         book,
         effort,
+        workers,
         start,
         progress,
         keep,

@@ -28,6 +28,7 @@ use roster_watched::Watched;
 use std::fs::File;
 use std::io::{IsTerminal, Read};
 use std::process::ExitCode;
+use std::thread::Threads;
 use std::{env, io};
 use telling::{Untold, tell, tell_assigns};
 use watching::Companion;
@@ -41,7 +42,7 @@ fn main(rt: HostRuntime) -> ExitCode {
         Err(error) => return unread(&rt, &error),
     };
     match read_line(rt.alloc(), words.as_slice()) {
-        Ok(line) => answer(&rt, &line),
+        Ok(line) => answer(&rt, &rt, &line),
         Err(LineFault::Refused(error)) => told(&rt, &error),
         Err(LineFault::Memory) => ended(&rt, Status::Memory),
     }
@@ -62,9 +63,9 @@ fn unread(rt: &HostRuntime, error: &io::Error) -> ExitCode {
 }
 
 /// Answers the line.
-fn answer(rt: &HostRuntime, line: &Line<'_>) -> ExitCode {
+fn answer<T: Threads + Sync>(rt: &HostRuntime, threads: &T, line: &Line<'_>) -> ExitCode {
     match line {
-        Line::Plan(plan) => answer_plan(rt, plan),
+        Line::Plan(plan) => answer_plan(rt, threads, plan),
         Line::Tell(tell) => answer_tell(rt, tell),
         Line::Assigns(path) => answer_assigns(rt, path),
         Line::Page(page) => answer_page(rt, page),
@@ -72,39 +73,45 @@ fn answer(rt: &HostRuntime, line: &Line<'_>) -> ExitCode {
 }
 
 /// Plans the book, from the roster of a report if the line names one.
-fn answer_plan(rt: &HostRuntime, line: &PlanLine<'_>) -> ExitCode {
+fn answer_plan<T: Threads + Sync>(rt: &HostRuntime, threads: &T, line: &PlanLine<'_>) -> ExitCode {
     if line.keep == Some(STANDARD_INPUT) || line.keep == Some(line.book) {
         let _ = eprintln!(rt; "error: a plan can't be kept in its book or in -");
         return ExitCode::from(LINE_REFUSED);
     }
     let Some(path) = line.start else {
-        return plan_from(rt, line, None);
+        return plan_from(rt, threads, line, None);
     };
     if line.book == STANDARD_INPUT && path == STANDARD_INPUT {
         return inputs_shared(rt);
     }
     match read_report_at(rt, path) {
-        Ok(report) => plan_from(rt, line, Some(report.as_slice())),
+        Ok(report) => plan_from(rt, threads, line, Some(report.as_slice())),
         Err(fault) => unread_input(rt, fault),
     }
 }
 
 /// Plans the book, from the roster of the report if there is one.
-fn plan_from(rt: &HostRuntime, line: &PlanLine<'_>, report: Option<&[u8]>) -> ExitCode {
+fn plan_from<T: Threads + Sync>(
+    rt: &HostRuntime,
+    threads: &T,
+    line: &PlanLine<'_>,
+    report: Option<&[u8]>,
+) -> ExitCode {
     let book = line.book;
     if book == STANDARD_INPUT {
-        return plan(rt, line, report, &mut Watched::new(rt.reader()));
+        return plan(rt, threads, line, report, &mut Watched::new(rt.reader()));
     }
     match File::open(rt, book) {
-        Ok(file) => plan(rt, line, report, &mut Watched::new(file)),
+        Ok(file) => plan(rt, threads, line, report, &mut Watched::new(file)),
         Err(error) if error.kind() == io::ErrorKind::OutOfMemory => ended(rt, Status::Memory),
         Err(_) => unopened(rt, book),
     }
 }
 
 /// Plans the book that is read.
-fn plan<R: Read>(
+fn plan<T: Threads + Sync, R: Read>(
     rt: &HostRuntime,
+    threads: &T,
     line: &PlanLine<'_>,
     report: Option<&[u8]>,
     reader: &mut Watched<R>,
@@ -114,10 +121,11 @@ fn plan<R: Read>(
     let mut writer = Watched::new(io::writer(rt));
     let is_told = line.progress || rt.stderr().is_terminal();
     let mut companion = Companion::new(rt, is_told, line.keep);
-    let effort = line.effort;
     let status = run(
+        threads,
         rt.alloc(),
-        effort,
+        line.effort,
+        line.workers.max(1),
         report,
         reader,
         &mut writer,

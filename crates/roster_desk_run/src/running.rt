@@ -1,6 +1,6 @@
 //! A run: a book is read, and its one answer written.
 
-ghost use Rattle.std.specs.Prelude.{◌≡◌, ◌≢◌, ◌↔◌, ◌≤◌, All, IsErrOf, OnOk, length, true, false};
+ghost use Rattle.std.specs.Prelude.{◌≡◌, ◌≢◌, ◌↔◌, ◌<◌, ◌≤◌, All, IsErrOf, OnOk, length, true, false};
 ghost use Rattle.std.specs.Prelude.{None, option_map};
 ghost use Rattle.roster_model.specs.Answer.{IsRefusal};
 ghost use Rattle.roster_model.specs.Plans.{IsPlanReport};
@@ -20,19 +20,23 @@ use roster_report::{TextFault, write_fault, write_plan, write_report};
 use roster_reports::{ReportFault, read_roster};
 use std::alloc::Global;
 use std::io::{Read, Write};
+use std::thread::Threads;
 
-/// Reads a book to its end or to its first fault, plans it with so much effort, from 0 to 9, and writes
-/// the one answer. The plan begins with the roster that the report gives, if there is one, and else with the
+/// Reads a book to its end or to its first fault, plans it with so much effort, from 0 to 9, by so many
+/// workers, and writes the one answer. The plan begins with the roster that the report gives, if there is one, and else with the
 /// book's assignments. The watcher is told what is known on the way; whatever it does, the answer is one of
 /// these. The status tells if that could not be done.
-pub fn run<R: Read, W: Write, P: Watcher>(
+pub fn run<T: Threads + Sync, R: Read, W: Write, P: Watcher>(
+    rt: &T,
     alloc: Global,
     effort: u32,
+    workers: usize,
     report: Option<&[u8]>,
     reader: &mut Watched<R>,
     writer: &mut Watched<W>,
     watcher: &mut P,
 ) -> Status
+    requires workers { 0 < workers }
     requires reader_open { has_failed reader.old ≡ false }
     requires writer_open { has_failed writer.old ≡ false }
 
@@ -71,7 +75,7 @@ pub fn run<R: Read, W: Write, P: Watcher>(
         → OfTold IsFaultless (R.remaining (inner_of reader.old)) }
 {
     match read_book(alloc, reader, Command::Check) {
-        Ok(book) => answer(alloc, effort, report, &book, writer, watcher),
+        Ok(book) => answer(rt, alloc, effort, workers, report, &book, writer, watcher),
         Err(BookFault::At { row, code }) => refuse(alloc, row, code, writer),
         Err(BookFault::Device) => Status::ReadFailed,
         Err(BookFault::Memory) => Status::Memory,
@@ -99,14 +103,17 @@ fn refuse<W: Write>(alloc: Global, row: usize, code: u8, writer: &mut Watched<W>
 }
 
 /// Plans a book in which no record has a fault, and writes what was found.
-fn answer<W: Write, P: Watcher>(
+fn answer<T: Threads + Sync, W: Write, P: Watcher>(
+    rt: &T,
     alloc: Global,
     effort: u32,
+    workers: usize,
     report: Option<&[u8]>,
     book: &Book,
     writer: &mut Watched<W>,
     watcher: &mut P,
 ) -> Status
+    requires workers { 0 < workers }
     requires open { has_failed writer.old ≡ false }
     requires covers { length book.now.assigned ≡ length book.now.problem.pairings }
     requires numbers { All (λ x. x ≤ length book.now.problem.persons) book.now.assigned }
@@ -126,24 +133,36 @@ fn answer<W: Write, P: Watcher>(
     let problem = &book.problem;
     let Some(report) = report else {
         let start = book.assigned.as_slice();
-        return answer_from(alloc, effort, problem, start, writer, watcher);
+        return answer_from(rt, alloc, effort, workers, problem, start, writer, watcher);
     };
     match read_roster(alloc, problem, report) {
-        Ok(start) => answer_from(alloc, effort, problem, start.as_slice(), writer, watcher),
+        Ok(start) => answer_from(
+            rt,
+            alloc,
+            effort,
+            workers,
+            problem,
+            start.as_slice(),
+            writer,
+            watcher,
+        ),
         Err(ReportFault::At { line, wrong }) => Status::StartRefused { line, wrong },
         Err(ReportFault::Memory) => Status::Memory,
     }
 }
 
 /// Writes a plan that begins with these places.
-fn answer_from<W: Write, P: Watcher>(
+fn answer_from<T: Threads + Sync, W: Write, P: Watcher>(
+    rt: &T,
     alloc: Global,
     effort: u32,
+    workers: usize,
     problem: &Problem,
     start: &[u16],
     writer: &mut Watched<W>,
     watcher: &mut P,
 ) -> Status
+    requires workers { 0 < workers }
     requires open { has_failed writer.old ≡ false }
     requires covers { length start.now ≡ length problem.now.pairings }
     requires numbers { All (λ x. x ≤ length problem.now.persons) start.now }
@@ -157,7 +176,7 @@ fn answer_from<W: Write, P: Watcher>(
     ensures start_refused { ¬ IsStartRefused result }
     ensures others { (result ≢ Status.Refused) × (result ≢ Status.ReadFailed) }
 {
-    let Ok(planned) = plan(alloc, problem, start, effort, watcher) else {
+    let Ok(planned) = plan(rt, alloc, problem, start, effort, workers, watcher) else {
         return Status::Memory;
     };
     match write_planned(alloc, problem, &planned, writer) {

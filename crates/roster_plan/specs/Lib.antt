@@ -4,3 +4,4 @@ pub mod Drafts
 pub mod Exact
 pub mod Near
 pub mod Planned
+pub mod Attempts

@@ -1,11 +1,13 @@
 //! What is known of a plan while it is made, and in the end.
 
-ghost use Rattle.std.specs.Prelude.{◌≡◌};
+ghost use Rattle.std.specs.Prelude.{◌≡◌, ◌⊎◌, length, true};
+ghost use Rattle.roster_model.specs.Rosters.{key_le, key_of};
 ghost use Rattle.roster_model.specs.Settled.{Anywhere, IsHeld, IsLowerBound, IsNotAfter};
 ghost use Rattle.roster_plan.specs.Planned.{IsKnown};
 
 use crate::watching::{Step, Watcher};
-use roster_problem::{Problem, Roster};
+use roster_cost::{comes_before, keys_are_in_order, roster_cost};
+use roster_problem::{Places, Problem, Roster};
 
 /// A plan. Whoever is given one is promised what stands beside each field.
 #[derive(Debug, Drop)]
@@ -24,6 +26,32 @@ pub(crate) fn places_of(roster: &Roster) -> &[u16]
     ensures { result.now ≡ roster.now.places }
 {
     roster.places.as_slice()
+}
+
+/// The roster with its cost.
+pub(crate) fn costed(problem: &Problem, places: Vec<u16>) -> Roster
+    requires { length places.items ≡ length problem.now.pairings }
+    ensures { result ≡ key_of problem.now places.items }
+{
+    let cost = roster_cost(problem, &places);
+    Roster {
+        places: Places::new(places),
+        cost,
+    }
+}
+
+/// The earlier of two rosters by their keys: the second if they are equal.
+pub(crate) fn earlier(first: Roster, second: Roster) -> Roster
+    ensures from { (result ≡ first) ⊎ (result ≡ second) }
+    ensures first { key_le result first ≡ true }
+    ensures second { key_le result second ≡ true }
+{
+    keys_are_in_order();
+    if comes_before(&first, &second) {
+        first
+    } else {
+        second
+    }
 }
 
 /// The plan of a roster of which nobody knows whether it is the best one.

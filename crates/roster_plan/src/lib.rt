@@ -18,6 +18,7 @@
 //! - `moves`: which change is tried next
 //! - `nearby`: neighbourhoods of a roster, searched whole
 //! - `neighbourhoods`: which neighbourhood is searched next
+//! - `together`: neighbourhoods that several threads search at once
 //! - `known`: what is known of a plan
 //! - `watching`: who is told that while the plan is made
 //! - `planning`: the plan
@@ -37,6 +38,7 @@ mod random;
 mod search;
 mod sets;
 mod tables;
+mod together;
 mod watching;
 
 pub use known::Planned;

@@ -9,29 +9,14 @@ ghost use Rattle.roster_lines.specs.Listing.{AreAllPairs};
 ghost use Rattle.roster_model.specs.Rosters.{IsLegalRoster, key_le};
 ghost use Rattle.roster_model.specs.Settled.{Anywhere, IsHeld, IsNotAfter};
 ghost use Rattle.roster_plan.specs.Near.{IsNear};
-ghost use Rattle.roster_plan.specs.Planned.{IsKnown, IsPlannedFrom};
 
-use crate::known::{Planned, places_of, so_far};
-use crate::neighbourhoods::Neighbourhoods;
-use crate::planning::MOST_EFFORT;
 use crate::sets::all_of;
-use crate::watching::{Step, Watcher};
 use roster_cost::keys_are_in_order;
 use roster_lines::{Between, Pairs, TableFault, wanted_table};
 use roster_model::limits::MOST_LINES;
 use roster_problem::{Problem, Roster, Set};
 use roster_search::{Searched, least_by_bases};
 use std::alloc::{AllocError, Global};
-
-/// How many lines a person may have in a neighbourhood.
-const LINES_NEARBY: usize = 4096;
-
-/// How many lines nodes may have to look at in the search of a neighbourhood.
-const WORK_NEARBY: u64 = 1 << 19;
-
-/// How many neighbourhoods are searched at effort 0, and as many more with each effort more: the longer
-/// changes were tried before, the less searches find.
-const SEARCHES_AN_EFFORT: u32 = 20;
 
 /// A roster that is at least as good as a known one.
 #[derive(Debug, Drop)]
@@ -142,46 +127,4 @@ fn repeated(alloc: Global, between: &Between, count: usize) -> Result<Vec<Betwee
         list.push(*between)?;
     }
     Ok(list)
-}
-
-/// The plan with the earliest roster that searches of some neighbourhoods come to.
-pub(crate) fn improved_nearby<W: Watcher>(
-    alloc: Global,
-    problem: &Problem,
-    pairs: &[Pairs],
-    start: Planned,
-    effort: u32,
-    watcher: &mut W,
-) -> Result<Planned, AllocError>
-    requires pairs { AreAllPairs problem.now pairs.now }
-    requires known { IsKnown problem.now start }
-    ensures { IfOk result (IsPlannedFrom problem.now start.roster) }
-{
-    keys_are_in_order();
-    let mut neighbourhoods = Neighbourhoods::new(alloc, problem)?;
-    let bound = start.bound;
-    let mut planned = start;
-    for _ in 0..searches_of(effort) {
-        let wanted = neighbourhoods.next(alloc, problem, places_of(&planned.roster))?;
-        let nearby = search_nearby(
-            alloc,
-            problem,
-            pairs,
-            planned.roster,
-            &wanted,
-            LINES_NEARBY,
-            WORK_NEARBY,
-        )?;
-        neighbourhoods.tell(nearby.is_settled);
-        planned = so_far(problem, nearby.roster, bound);
-        if nearby.is_new {
-            watcher.tell(problem, Step::Neighbourhoods, &planned);
-        }
-    }
-    Ok(planned)
-}
-
-/// How many neighbourhoods an effort searches.
-fn searches_of(effort: u32) -> u32 {
-    SEARCHES_AN_EFFORT.saturating_mul(effort.min(MOST_EFFORT).saturating_add(1))
 }

@@ -50,6 +50,14 @@ pub(crate) struct Neighbourhoods {
     kind: usize,
 }
 
+/// A neighbourhood of a roster.
+#[derive(Debug, Drop)]
+pub(crate) struct Neighbourhood {
+    /// What each person must keep and may have beside.
+    pub(crate) wanted: Vec<Between>,
+    kind: usize,
+}
+
 impl Neighbourhoods {
     /// Those of a problem.
     pub(crate) fn new(alloc: Global, problem: &Problem) -> Result<Neighbourhoods, AllocError> {
@@ -65,31 +73,33 @@ impl Neighbourhoods {
         })
     }
 
-    /// The next neighbourhood of a roster: what each person must keep and may have beside.
+    /// The next neighbourhood of a roster.
     pub(crate) fn next(
         &mut self,
         alloc: Global,
         problem: &Problem,
         places: &[u16],
-    ) -> Result<Vec<Between>, AllocError>
-        ensures { IfOk result (λ wanted. length wanted.items ≡ length problem.now.persons) }
+    ) -> Result<Neighbourhood, AllocError>
+        ensures { IfOk result (λ next. length next.wanted.items ≡ length problem.now.persons) }
     {
         self.kind = self.random.below(self.sizes.len());
         let persons = self.persons(alloc, problem)?;
         let free = self.free(problem, places, &persons);
-        wanted_of(alloc, problem, places, &persons, &free)
+        let wanted = wanted_of(alloc, problem, places, &persons, &free)?;
+        Ok(Neighbourhood {
+            wanted,
+            kind: self.kind,
+        })
     }
 
-    /// Whether the search of the last neighbourhood has ended.
-    pub(crate) fn tell(&mut self, is_settled: bool) {
-        let size = self.size();
-        let next = if is_settled {
-            size.saturating_add(GROWS_BY).min(GREATEST_SIZE)
-        } else {
-            size.saturating_sub(SHRINKS_BY).max(LEAST_SIZE)
-        };
-        if let Some(size) = self.sizes.get_mut(self.kind) {
-            *size = next;
+    /// Whether the search of a neighbourhood has ended.
+    pub(crate) fn tell(&mut self, neighbourhood: &Neighbourhood, is_settled: bool) {
+        if let Some(size) = self.sizes.get_mut(neighbourhood.kind) {
+            *size = if is_settled {
+                size.saturating_add(GROWS_BY).min(GREATEST_SIZE)
+            } else {
+                size.saturating_sub(SHRINKS_BY).max(LEAST_SIZE)
+            };
         }
     }
 

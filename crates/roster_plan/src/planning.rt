@@ -1,8 +1,8 @@
 //! The plan.
 
-ghost use Rattle.std.specs.Prelude.{◌≡◌, ◌≤◌, ◌⊎◌, All, IfOk, length, true};
+ghost use Rattle.std.specs.Prelude.{◌≡◌, ◌<◌, ◌≤◌, All, IfOk, length, true};
 ghost use Rattle.roster_model.specs.Plans.{IsPlan};
-ghost use Rattle.roster_model.specs.Rosters.{IsLegalRoster, key_le, key_of};
+ghost use Rattle.roster_model.specs.Rosters.{IsLegalRoster};
 ghost use Rattle.roster_model.specs.Settled.{IsBest, IsHeld};
 ghost use Rattle.roster_plan.specs.Planned.{IsKnown, IsPlannedFrom};
 
@@ -11,15 +11,17 @@ use crate::changes::Change;
 use crate::draft::Draft;
 use crate::exact::{close, most_lines, most_work};
 use crate::kept::kept;
-use crate::known::{Planned, best_plan, places_of, raised, so_far};
-use crate::nearby::{improved_nearby, search_all};
+use crate::known::{Planned, best_plan, costed, earlier, places_of, raised, so_far};
+use crate::nearby::search_all;
 use crate::search::Search;
+use crate::together::improved_nearby;
 use crate::watching::{Step, Watcher};
-use roster_cost::{comes_before, keys_are_in_order, roster_cost};
+use roster_cost::keys_are_in_order;
 use roster_lines::all_pairs;
 use roster_pricing::PricedBound;
-use roster_problem::{Places, Problem, Roster, open_number};
+use roster_problem::{Problem, Roster, open_number};
 use std::alloc::{AllocError, Global};
+use std::thread::Threads;
 
 /// How many changes are tried at effort 0. Each effort more doubles them.
 const FEWEST_TRIES: u32 = 20_000;
@@ -42,14 +44,17 @@ const FEWEST_LOOKS: u32 = 4;
 
 /// A plan whose roster isn't after what is kept of the given places, nor after no pairings at all. Effort,
 /// from 0 to 9, is how much is tried: each one more doubles it. The plan is the same in each run, whatever
-/// the watcher does.
-pub fn plan<W: Watcher>(
+/// the watcher does, and however many workers there are: so many threads at most, which share searches.
+pub fn plan<R: Threads + Sync, W: Watcher>(
+    rt: &R,
     alloc: Global,
     problem: &Problem,
     given: &[u16],
     effort: u32,
+    workers: usize,
     watcher: &mut W,
 ) -> Result<Planned, AllocError>
+    requires workers { 0 < workers }
     requires covers { length given.now ≡ length problem.now.pairings }
     requires numbers { All (λ x. x ≤ length problem.now.persons) given.now }
     ensures plan { IfOk result
@@ -61,19 +66,22 @@ pub fn plan<W: Watcher>(
     let open = vec![in alloc; open_number(problem); problem.pairings().len()]?;
     let start = kept(alloc, problem, given)?;
     let known = earlier(costed(problem, start), costed(problem, open));
-    let planned = planned_from(alloc, problem, known, effort, watcher)?;
+    let planned = planned_from(rt, alloc, problem, known, effort, workers, watcher)?;
     Ok(planned)
 }
 
 /// The plan that comes of a known roster: the best one if all lines are few.
-fn planned_from<W: Watcher>(
+fn planned_from<R: Threads + Sync, W: Watcher>(
+    rt: &R,
     alloc: Global,
     problem: &Problem,
     known: Roster,
     effort: u32,
+    workers: usize,
     watcher: &mut W,
 ) -> Result<Planned, AllocError>
-    requires { IsHeld problem.now known }
+    requires held { IsHeld problem.now known }
+    requires workers { 0 < workers }
     ensures { IfOk result (IsPlannedFrom problem.now known) }
 {
     keys_are_in_order();
@@ -91,7 +99,9 @@ fn planned_from<W: Watcher>(
     let found = improved(alloc, problem, places_of(&all.roster), effort)?;
     let changed = so_far(problem, earlier(costed(problem, found), all.roster), floor);
     watcher.tell(problem, Step::Changes, &changed);
-    let near = improved_nearby(alloc, problem, &pairs, changed, effort, watcher)?;
+    let near = improved_nearby(
+        rt, alloc, problem, &pairs, changed, effort, workers, watcher,
+    )?;
     let planned = bounded(alloc, problem, near, effort, watcher)?;
     Ok(planned)
 }
@@ -149,32 +159,6 @@ fn steps_of(problem: &Problem) -> u64 {
         steps = steps.wrapping_add(pairings.wrapping_mul(pairings) / 2);
     }
     steps.wrapping_mul(USUAL_STATES)
-}
-
-/// The roster with its cost.
-fn costed(problem: &Problem, places: Vec<u16>) -> Roster
-    requires { length places.items ≡ length problem.now.pairings }
-    ensures { result ≡ key_of problem.now places.items }
-{
-    let cost = roster_cost(problem, &places);
-    Roster {
-        places: Places::new(places),
-        cost,
-    }
-}
-
-/// The earlier of two rosters by their keys: the second if they are equal.
-fn earlier(first: Roster, second: Roster) -> Roster
-    ensures from { (result ≡ first) ⊎ (result ≡ second) }
-    ensures first { key_le result first ≡ true }
-    ensures second { key_le result second ≡ true }
-{
-    keys_are_in_order();
-    if comes_before(&first, &second) {
-        first
-    } else {
-        second
-    }
 }
 
 /// A legal roster, found by changes to the one given.

@@ -4,8 +4,8 @@ use Rattle.roster_plan.proofs.ExactLemmas.{is_best}
 use Rattle.roster_plan.proofs.PlanLemmas.{chosen_held, planned}
 use Rattle.roster_plan.proofs.planning.plan.Goals as goal
 
-pub planned_from-requires : goal.planned_from-requires
-planned_from-requires g c =
+pub planned_from-requires-clause-held : goal.planned_from-requires-clause-held
+planned_from-requires-clause-held g c = λ lifetimes outlive.
     let problem = c.args.problem.now in
     let items : c.in_ok-open.open.items ≡ replicate (length problem.pairings) (length problem.persons) = search rules in
     chosen_held problem c.in_ok-start.start.items c.costed.result c.costed-2.result c.earlier-known.result c.in_ok-start.ensures.legal

@@ -1,5 +1,5 @@
 use Rattle.roster_plan.specs.Planned.{IsPlannedFrom}
-use Rattle.roster_plan.proofs.nearby.improved_nearby.Given as goal
+use Rattle.roster_plan.proofs.together.improved_nearby.Given as goal
 
 -- the plan goes on from the one at the start
 abbrev pub invariant-loop : goal.invariant-loop

@@ -1,0 +1,251 @@
+//! Neighbourhoods of one roster, which several threads search at once.
+
+ghost use Rattle.std.specs.Prelude.{◌≡◌, ◌<◌, ◌≤◌, true, All, IfOk, length};
+ghost use Rattle.std.specs.Thread.{IsSync};
+ghost use Rattle.roster_lines.specs.Listing.{AreAllPairs};
+ghost use Rattle.roster_model.specs.Rosters.{IsLegalRoster, key_le};
+ghost use Rattle.roster_model.specs.Settled.{IsHeld};
+ghost use Rattle.roster_plan.specs.Attempts.{AreMade, IsMade};
+ghost use Rattle.roster_plan.specs.Planned.{IsKnown, IsPlannedFrom};
+
+use crate::kept::kept;
+use crate::known::{Planned, costed, earlier, places_of, so_far};
+use crate::nearby::{Nearby, search_nearby};
+use crate::neighbourhoods::{Neighbourhood, Neighbourhoods};
+use crate::planning::MOST_EFFORT;
+use crate::watching::{Step, Watcher};
+use roster_cost::keys_are_in_order;
+use roster_lines::Pairs;
+use roster_problem::{Problem, Roster, open_number};
+use std::alloc::{AllocError, Global};
+use std::thread::{Threads, for_each_mut};
+
+/// So many neighbourhoods of a roster are searched at once. What a plan comes to hangs on this number, and not
+/// on how many threads share the searches.
+const SEARCHES_AT_ONCE: usize = 4;
+
+/// How often so many are searched at effort 0, and as often more with each effort more: the longer changes were
+/// tried before, the less searches find.
+const ROUNDS_AN_EFFORT: u32 = 20;
+
+/// How many lines a person may have in a neighbourhood.
+const LINES_NEARBY: usize = 4096;
+
+/// How many lines nodes may have to look at in the search of a neighbourhood.
+const WORK_NEARBY: u64 = 1 << 19;
+
+/// A neighbourhood of a roster, and what its search came to.
+#[derive(Drop)]
+struct Attempt {
+    of: Neighbourhood,
+    found: Result<Nearby, AllocError>,
+}
+
+/// The plan with the earliest roster that searches of some neighbourhoods come to. So many threads at most share
+/// the searches.
+pub(crate) fn improved_nearby<R: Threads + Sync, W: Watcher>(
+    rt: &R,
+    alloc: Global,
+    problem: &Problem,
+    pairs: &[Pairs],
+    start: Planned,
+    effort: u32,
+    workers: usize,
+    watcher: &mut W,
+) -> Result<Planned, AllocError>
+    requires pairs { AreAllPairs problem.now pairs.now }
+    requires known { IsKnown problem.now start }
+    requires workers { 0 < workers }
+    ensures { IfOk result (IsPlannedFrom problem.now start.roster) }
+{
+    keys_are_in_order();
+    let mut neighbourhoods = Neighbourhoods::new(alloc, problem)?;
+    let mut planned = start;
+    for _ in 0..rounds_of(effort) {
+        let before = planned.roster.copy(alloc)?;
+        let mut attempts = attempts_at(alloc, problem, &before, &mut neighbourhoods)?;
+        try_all(rt, alloc, problem, pairs, &before, workers, &mut attempts);
+        planned = taken(
+            alloc,
+            problem,
+            &before,
+            planned,
+            attempts,
+            &mut neighbourhoods,
+            watcher,
+        )?;
+    }
+    Ok(planned)
+}
+
+/// How often an effort searches so many neighbourhoods at once.
+fn rounds_of(effort: u32) -> u32 {
+    ROUNDS_AN_EFFORT.saturating_mul(effort.min(MOST_EFFORT).saturating_add(1))
+}
+
+/// The next neighbourhoods of a roster, not yet searched.
+fn attempts_at(
+    alloc: Global,
+    problem: &Problem,
+    before: &Roster,
+    neighbourhoods: &mut Neighbourhoods,
+) -> Result<Vec<Attempt>, AllocError>
+    ensures { IfOk result (λ attempts. AreMade problem.now attempts.items) }
+{
+    let mut attempts = Vec::new(alloc);
+    for _ in 0..SEARCHES_AT_ONCE {
+        let of = neighbourhoods.next(alloc, problem, places_of(before))?;
+        attempts.push(Attempt {
+            of,
+            found: Err(AllocError),
+        })?;
+    }
+    Ok(attempts)
+}
+
+/// Searches the neighbourhoods of the roster, by so many threads at most.
+fn try_all<R: Threads + Sync>(
+    rt: &R,
+    alloc: Global,
+    problem: &Problem,
+    pairs: &[Pairs],
+    before: &Roster,
+    workers: usize,
+    attempts: &mut [Attempt],
+)
+    requires pairs { AreAllPairs problem.now pairs.now }
+    requires held { IsHeld problem.now before.now }
+    requires workers { 0 < workers }
+    requires attempts { AreMade problem.now attempts.old }
+{
+    let search = |_: usize, attempt: &mut Attempt|
+        requires { AreAllPairs problem.now pairs.now × IsHeld problem.now before.now
+            × IsMade problem.now attempt.old }
+    {
+        attempt.found = found_in(alloc, problem, pairs, before, &attempt.of);
+    };
+    for_each_mut(rt, attempts, workers, &search);
+}
+
+/// What the search of one of them comes to.
+fn found_in(
+    alloc: Global,
+    problem: &Problem,
+    pairs: &[Pairs],
+    before: &Roster,
+    of: &Neighbourhood,
+) -> Result<Nearby, AllocError>
+    requires pairs { AreAllPairs problem.now pairs.now }
+    requires held { IsHeld problem.now before.now }
+    requires covers { length of.now.wanted.items ≡ length problem.now.persons }
+{
+    let known = before.copy(alloc)?;
+    search_nearby(
+        alloc,
+        problem,
+        pairs,
+        known,
+        &of.wanted,
+        LINES_NEARBY,
+        WORK_NEARBY,
+    )
+}
+
+/// The plan with what is new of each roster that was found, one after another.
+fn taken<W: Watcher>(
+    alloc: Global,
+    problem: &Problem,
+    before: &Roster,
+    start: Planned,
+    attempts: Vec<Attempt>,
+    neighbourhoods: &mut Neighbourhoods,
+    watcher: &mut W,
+) -> Result<Planned, AllocError>
+    requires { IsKnown problem.now start }
+    ensures { IfOk result (IsPlannedFrom problem.now start.roster) }
+{
+    keys_are_in_order();
+    let mut planned = start;
+    for attempt in attempts {
+        let Attempt { of, found } = attempt;
+        let nearby = found?;
+        neighbourhoods.tell(&of, nearby.is_settled);
+        planned = with_new(alloc, problem, before, &nearby, planned, watcher)?;
+    }
+    Ok(planned)
+}
+
+/// The plan with what is new of a roster that was found.
+fn with_new<W: Watcher>(
+    alloc: Global,
+    problem: &Problem,
+    before: &Roster,
+    nearby: &Nearby,
+    start: Planned,
+    watcher: &mut W,
+) -> Result<Planned, AllocError>
+    requires { IsKnown problem.now start }
+    ensures { IfOk result (IsPlannedFrom problem.now start.roster) }
+{
+    keys_are_in_order();
+    if !nearby.is_new {
+        return Ok(start);
+    }
+    let bound = start.bound;
+    let roster = joined(alloc, problem, before, &nearby.roster, start.roster)?;
+    let planned = so_far(problem, roster, bound);
+    watcher.tell(problem, Step::Neighbourhoods, &planned);
+    Ok(planned)
+}
+
+/// The known roster with what is new in another one, as far as that is legal; or the known one, if that is
+/// earlier. What is new is what differs from the one before.
+fn joined(
+    alloc: Global,
+    problem: &Problem,
+    before: &Roster,
+    new: &Roster,
+    known: Roster,
+) -> Result<Roster, AllocError>
+    requires { IsHeld problem.now known }
+    ensures held { IfOk result (IsHeld problem.now) }
+    ensures kept { IfOk result (λ joined. key_le joined known ≡ true) }
+{
+    let places = changed(
+        alloc,
+        problem,
+        places_of(before),
+        places_of(new),
+        places_of(&known),
+    )?;
+    let legal = kept(alloc, problem, &places)?;
+    Ok(earlier(costed(problem, legal), known))
+}
+
+/// The known places, and the new ones where they differ from those before.
+fn changed(
+    alloc: Global,
+    problem: &Problem,
+    before: &[u16],
+    new: &[u16],
+    known: &[u16],
+) -> Result<Vec<u16>, AllocError>
+    ensures covers { IfOk result (λ places. length places.items ≡ length known.now) }
+    ensures numbers { IfOk result
+        (λ places. All (λ x. x ≤ length problem.now.persons) places.items) }
+{
+    let nobody = open_number(problem);
+    let mut places = Vec::new(alloc);
+    for (p, number) in known.iter().enumerate() {
+        places.push(number_at(before.get(p), new.get(p), *number).min(nobody))?;
+    }
+    Ok(places)
+}
+
+/// The new number if it differs from the one before, else the known one.
+fn number_at(before: Option<&u16>, new: Option<&u16>, known: u16) -> u16 {
+    match (before, new) {
+        (Some(before), Some(new)) if before != new => *new,
+        _ => known,
+    }
+}
