@@ -24,6 +24,7 @@ use line::{Line, LineFault, PageLine, PlanLine, TellLine, read_line};
 use pages::show;
 use roster_desk_run::{Status, run};
 use roster_desk_text::Unknown;
+use roster_plan::Means;
 use roster_watched::Watched;
 use std::fs::File;
 use std::io::{IsTerminal, Read};
@@ -124,8 +125,7 @@ fn plan<T: Threads + Sync, R: Read>(
     let status = run(
         threads,
         rt.alloc(),
-        line.effort,
-        line.workers.max(1),
+        &Means::of_effort(line.effort, line.workers.max(1)),
         report,
         reader,
         &mut writer,

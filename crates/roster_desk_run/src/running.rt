@@ -14,7 +14,7 @@ ghost use Rattle.roster_desk_run.specs.Run.{IsPlanFrom, IsPlanOfBook, IsStartRef
 
 use crate::status::Status;
 use roster_book::{Book, BookFault, Command, Watched, read_book};
-use roster_plan::{Planned, Watcher, plan};
+use roster_plan::{Means, Planned, Watcher, plan};
 use roster_problem::Problem;
 use roster_report::{TextFault, write_fault, write_plan, write_report};
 use roster_reports::{ReportFault, read_roster};
@@ -22,21 +22,20 @@ use std::alloc::Global;
 use std::io::{Read, Write};
 use std::thread::Threads;
 
-/// Reads a book to its end or to its first fault, plans it with so much effort, from 0 to 9, by so many
-/// workers, and writes the one answer. The plan begins with the roster that the report gives, if there is one, and else with the
-/// book's assignments. The watcher is told what is known on the way; whatever it does, the answer is one of
-/// these. The status tells if that could not be done.
+/// Reads a book to its end or to its first fault, plans it with these means at most, and writes the one
+/// answer. The plan begins with the roster that the report gives, if there is one, and else with the book's
+/// assignments. The watcher is told what is known on the way; whatever it does, the answer is one of these.
+/// The status tells if that could not be done.
 pub fn run<T: Threads + Sync, R: Read, W: Write, P: Watcher>(
     rt: &T,
     alloc: Global,
-    effort: u32,
-    workers: usize,
+    means: &Means,
     report: Option<&[u8]>,
     reader: &mut Watched<R>,
     writer: &mut Watched<W>,
     watcher: &mut P,
 ) -> Status
-    requires workers { 0 < workers }
+    requires workers { 0 < means.now.workers }
     requires reader_open { has_failed reader.old ≡ false }
     requires writer_open { has_failed writer.old ≡ false }
 
@@ -75,7 +74,7 @@ pub fn run<T: Threads + Sync, R: Read, W: Write, P: Watcher>(
         → OfTold IsFaultless (R.remaining (inner_of reader.old)) }
 {
     match read_book(alloc, reader, Command::Check) {
-        Ok(book) => answer(rt, alloc, effort, workers, report, &book, writer, watcher),
+        Ok(book) => answer(rt, alloc, means, report, &book, writer, watcher),
         Err(BookFault::At { row, code }) => refuse(alloc, row, code, writer),
         Err(BookFault::Device) => Status::ReadFailed,
         Err(BookFault::Memory) => Status::Memory,
@@ -106,14 +105,13 @@ fn refuse<W: Write>(alloc: Global, row: usize, code: u8, writer: &mut Watched<W>
 fn answer<T: Threads + Sync, W: Write, P: Watcher>(
     rt: &T,
     alloc: Global,
-    effort: u32,
-    workers: usize,
+    means: &Means,
     report: Option<&[u8]>,
     book: &Book,
     writer: &mut Watched<W>,
     watcher: &mut P,
 ) -> Status
-    requires workers { 0 < workers }
+    requires workers { 0 < means.now.workers }
     requires open { has_failed writer.old ≡ false }
     requires covers { length book.now.assigned ≡ length book.now.problem.pairings }
     requires numbers { All (λ x. x ≤ length book.now.problem.persons) book.now.assigned }
@@ -133,19 +131,10 @@ fn answer<T: Threads + Sync, W: Write, P: Watcher>(
     let problem = &book.problem;
     let Some(report) = report else {
         let start = book.assigned.as_slice();
-        return answer_from(rt, alloc, effort, workers, problem, start, writer, watcher);
+        return answer_from(rt, alloc, means, problem, start, writer, watcher);
     };
     match read_roster(alloc, problem, report) {
-        Ok(start) => answer_from(
-            rt,
-            alloc,
-            effort,
-            workers,
-            problem,
-            start.as_slice(),
-            writer,
-            watcher,
-        ),
+        Ok(start) => answer_from(rt, alloc, means, problem, start.as_slice(), writer, watcher),
         Err(ReportFault::At { line, wrong }) => Status::StartRefused { line, wrong },
         Err(ReportFault::Memory) => Status::Memory,
     }
@@ -155,14 +144,13 @@ fn answer<T: Threads + Sync, W: Write, P: Watcher>(
 fn answer_from<T: Threads + Sync, W: Write, P: Watcher>(
     rt: &T,
     alloc: Global,
-    effort: u32,
-    workers: usize,
+    means: &Means,
     problem: &Problem,
     start: &[u16],
     writer: &mut Watched<W>,
     watcher: &mut P,
 ) -> Status
-    requires workers { 0 < workers }
+    requires workers { 0 < means.now.workers }
     requires open { has_failed writer.old ≡ false }
     requires covers { length start.now ≡ length problem.now.pairings }
     requires numbers { All (λ x. x ≤ length problem.now.persons) start.now }
@@ -176,7 +164,7 @@ fn answer_from<T: Threads + Sync, W: Write, P: Watcher>(
     ensures start_refused { ¬ IsStartRefused result }
     ensures others { (result ≢ Status.Refused) × (result ≢ Status.ReadFailed) }
 {
-    let Ok(planned) = plan(rt, alloc, problem, start, effort, workers, watcher) else {
+    let Ok(planned) = plan(rt, alloc, problem, start, means, watcher) else {
         return Status::Memory;
     };
     match write_planned(alloc, problem, &planned, writer) {

@@ -9,11 +9,10 @@ ghost use Rattle.roster_plan.specs.Exact.{IsExact};
 ghost use Rattle.roster_plan.specs.Planned.{IsKnown, IsPlannedFrom};
 
 use crate::known::{Planned, best_plan, raised};
-use crate::planning::MOST_EFFORT;
+use crate::means::Means;
 use crate::watching::{Step, Watcher};
 use roster_cost::keys_are_in_order;
 use roster_lines::TableFault;
-use roster_model::limits::MOST_LINES;
 use roster_pricing::PricedBound;
 use roster_problem::{Problem, Roster};
 use roster_search::{Searched, least_within};
@@ -24,12 +23,6 @@ const FIRST_PART: u32 = 16;
 
 /// How many gaps are tried, at most. Each is about twice as wide as the one before.
 const MOST_GAPS: u32 = 8;
-
-/// How many lines a person may have at effort 0, and as many more with each effort more.
-const LINES_AN_EFFORT: usize = 4096;
-
-/// How many lines nodes may have to look at in one search at effort 0. Each effort more doubles them.
-const FEWEST_WORK: u64 = 1 << 19;
 
 /// What is found.
 #[derive(Debug, Drop)]
@@ -47,7 +40,7 @@ pub(crate) fn close<W: Watcher>(
     problem: &Problem,
     priced: &PricedBound<'_>,
     start: Planned,
-    effort: u32,
+    means: &Means,
     watcher: &mut W,
 ) -> Result<Planned, AllocError>
     requires problem { priced.now.problem ≡ problem.now }
@@ -59,7 +52,7 @@ pub(crate) fn close<W: Watcher>(
     let mut gap = whole / FIRST_PART;
     let mut planned = raised(problem, start, priced.bound(), Step::Prices, watcher);
     for _ in 0..MOST_GAPS {
-        match within(alloc, problem, priced, gap, effort)? {
+        match within(alloc, problem, priced, gap, means)? {
             Some(Found::Best(roster)) => {
                 let best = best_plan(problem, roster);
                 watcher.tell(problem, Step::Gap, &best);
@@ -85,18 +78,18 @@ fn within(
     problem: &Problem,
     priced: &PricedBound<'_>,
     gap: u32,
-    effort: u32,
+    means: &Means,
 ) -> Result<Option<Found>, AllocError>
     requires { priced.now.problem ≡ problem.now }
     ensures { IfOk result (λ found. IfSome found (IsExact problem.now)) }
 {
     let limit = limit_of(priced.bound(), gap);
-    let table = match priced.lines_within(alloc, gap, most_lines(effort)) {
+    let table = match priced.lines_within(alloc, gap, means.lines()) {
         Ok(table) => table,
         Err(TableFault::TooMany(_)) => return Ok(None),
         Err(TableFault::Memory) => return Err(AllocError),
     };
-    match least_within(alloc, problem, &table, limit, most_work(effort))? {
+    match least_within(alloc, problem, &table, limit, means.work())? {
         Searched::Settled(Some(roster)) => Ok(Some(Found::Best(roster))),
         Searched::Settled(None) => Ok(Some(Found::AtLeast(limit))),
         Searched::GivenUp => Ok(None),
@@ -118,21 +111,4 @@ fn gap_of(bound: i64, cost: i64) -> u32 {
 /// The next gap, of at most the whole one.
 fn wider(gap: u32, whole: u32) -> u32 {
     gap.saturating_mul(2).saturating_add(1).min(whole)
-}
-
-/// How many lines a person may have.
-pub(crate) fn most_lines(effort: u32) -> usize
-    ensures { (0 < result) × (result ≤ MOST_LINES) }
-{
-    let effort = if effort < MOST_EFFORT {
-        effort
-    } else {
-        MOST_EFFORT
-    };
-    LINES_AN_EFFORT * (effort as usize + 1)
-}
-
-/// How many lines nodes may have to look at in one search.
-pub(crate) fn most_work(effort: u32) -> u64 {
-    FEWEST_WORK << effort.min(MOST_EFFORT)
 }

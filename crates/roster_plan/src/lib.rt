@@ -7,6 +7,7 @@
 //! of no pairings at all, and of what was found. In reading order:
 //!
 //! - `kept`: what is legal of a given roster
+//! - `means`: what a plan may take
 //! - `bound`: what no roster costs less than
 //! - `exact`: the best roster, if the bound is near enough to what it costs
 //! - `draft`: a roster that is legal at every moment
@@ -30,6 +31,7 @@ mod draft;
 mod exact;
 mod kept;
 mod known;
+mod means;
 mod moves;
 mod nearby;
 mod neighbourhoods;
@@ -42,5 +44,6 @@ mod together;
 mod watching;
 
 pub use known::Planned;
+pub use means::Means;
 pub use planning::plan;
 pub use watching::{Step, Unwatched, Watcher};

@@ -9,9 +9,10 @@ ghost use Rattle.roster_plan.specs.Planned.{IsKnown, IsPlannedFrom};
 use crate::bound::lower_bound;
 use crate::changes::Change;
 use crate::draft::Draft;
-use crate::exact::{close, most_lines, most_work};
+use crate::exact::close;
 use crate::kept::kept;
 use crate::known::{Planned, best_plan, costed, earlier, places_of, raised, so_far};
+use crate::means::{MOST_EFFORT, Means};
 use crate::nearby::search_all;
 use crate::search::Search;
 use crate::together::improved_nearby;
@@ -26,9 +27,6 @@ use std::thread::Threads;
 /// How many changes are tried at effort 0. Each effort more doubles them.
 const FEWEST_TRIES: u32 = 20_000;
 
-/// The most effort.
-pub(crate) const MOST_EFFORT: u32 = 9;
-
 /// How many changes are looked at to learn what changes cost.
 const SAMPLES: u32 = 500;
 
@@ -42,19 +40,18 @@ const USUAL_STATES: u64 = 1000;
 /// How often prices are looked at, at most, at effort 0.
 const FEWEST_LOOKS: u32 = 4;
 
-/// A plan whose roster isn't after what is kept of the given places, nor after no pairings at all. Effort,
-/// from 0 to 9, is how much is tried: each one more doubles it. The plan is the same in each run, whatever
-/// the watcher does, and however many workers there are: so many threads at most, which share searches.
+/// A plan whose roster isn't after what is kept of the given places, nor after no pairings at all. It takes
+/// these means at most. The plan is the same in each run, whatever the watcher does, and however many
+/// workers there are.
 pub fn plan<R: Threads + Sync, W: Watcher>(
     rt: &R,
     alloc: Global,
     problem: &Problem,
     given: &[u16],
-    effort: u32,
-    workers: usize,
+    means: &Means,
     watcher: &mut W,
 ) -> Result<Planned, AllocError>
-    requires workers { 0 < workers }
+    requires workers { 0 < means.now.workers }
     requires covers { length given.now ≡ length problem.now.pairings }
     requires numbers { All (λ x. x ≤ length problem.now.persons) given.now }
     ensures plan { IfOk result
@@ -66,7 +63,7 @@ pub fn plan<R: Threads + Sync, W: Watcher>(
     let open = vec![in alloc; open_number(problem); problem.pairings().len()]?;
     let start = kept(alloc, problem, given)?;
     let known = earlier(costed(problem, start), costed(problem, open));
-    let planned = planned_from(rt, alloc, problem, known, effort, workers, watcher)?;
+    let planned = planned_from(rt, alloc, problem, known, means, watcher)?;
     Ok(planned)
 }
 
@@ -76,12 +73,11 @@ fn planned_from<R: Threads + Sync, W: Watcher>(
     alloc: Global,
     problem: &Problem,
     known: Roster,
-    effort: u32,
-    workers: usize,
+    means: &Means,
     watcher: &mut W,
 ) -> Result<Planned, AllocError>
     requires held { IsHeld problem.now known }
-    requires workers { 0 < workers }
+    requires workers { 0 < means.now.workers }
     ensures { IfOk result (IsPlannedFrom problem.now known) }
 {
     keys_are_in_order();
@@ -89,20 +85,18 @@ fn planned_from<R: Threads + Sync, W: Watcher>(
     let start = so_far(problem, known, floor);
     watcher.tell(problem, Step::Start, &start);
     let pairs = all_pairs(alloc, problem)?;
-    let (lines, work) = (most_lines(effort), most_work(effort));
+    let (lines, work) = (means.lines(), means.work());
     let all = search_all(alloc, problem, &pairs, start.roster, lines, work)?;
     if all.is_settled {
         let best = best_plan(problem, all.roster);
         watcher.tell(problem, Step::Sets, &best);
         return Ok(best);
     }
-    let found = improved(alloc, problem, places_of(&all.roster), effort)?;
+    let found = improved(alloc, problem, places_of(&all.roster), means.effort)?;
     let changed = so_far(problem, earlier(costed(problem, found), all.roster), floor);
     watcher.tell(problem, Step::Changes, &changed);
-    let near = improved_nearby(
-        rt, alloc, problem, &pairs, changed, effort, workers, watcher,
-    )?;
-    let planned = bounded(alloc, problem, near, effort, watcher)?;
+    let near = improved_nearby(rt, alloc, problem, &pairs, changed, means, watcher)?;
+    let planned = bounded(alloc, problem, near, means, watcher)?;
     Ok(planned)
 }
 
@@ -111,14 +105,14 @@ fn bounded<W: Watcher>(
     alloc: Global,
     problem: &Problem,
     start: Planned,
-    effort: u32,
+    means: &Means,
     watcher: &mut W,
 ) -> Result<Planned, AllocError>
     requires { IsKnown problem.now start }
     ensures { IfOk result (IsPlannedFrom problem.now start.roster) }
 {
     keys_are_in_order();
-    let looks = looks_of(problem, effort);
+    let looks = looks_of(problem, means.effort);
     if looks == 0 {
         return Ok(start);
     }
@@ -128,7 +122,7 @@ fn bounded<W: Watcher>(
         priced.raise(alloc, planned.roster.cost, 1)?;
         planned = raised(problem, planned, priced.bound(), Step::Prices, watcher);
     }
-    let closed = close(alloc, problem, &priced, planned, effort, watcher)?;
+    let closed = close(alloc, problem, &priced, planned, means, watcher)?;
     Ok(closed)
 }
 

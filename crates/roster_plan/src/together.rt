@@ -10,9 +10,9 @@ ghost use Rattle.roster_plan.specs.Planned.{IsKnown, IsPlannedFrom};
 
 use crate::kept::kept;
 use crate::known::{Planned, costed, earlier, places_of, so_far};
+use crate::means::{MOST_EFFORT, Means};
 use crate::nearby::{Nearby, search_nearby};
 use crate::neighbourhoods::{Neighbourhood, Neighbourhoods};
-use crate::planning::MOST_EFFORT;
 use crate::watching::{Step, Watcher};
 use roster_cost::keys_are_in_order;
 use roster_lines::Pairs;
@@ -27,9 +27,6 @@ const SEARCHES_AT_ONCE: usize = 4;
 /// How often so many are searched at effort 0, and as often more with each effort more: the longer changes were
 /// tried before, the less searches find.
 const ROUNDS_AN_EFFORT: u32 = 20;
-
-/// How many lines a person may have in a neighbourhood.
-const LINES_NEARBY: usize = 4096;
 
 /// How many lines nodes may have to look at in the search of a neighbourhood.
 const WORK_NEARBY: u64 = 1 << 19;
@@ -49,22 +46,21 @@ pub(crate) fn improved_nearby<R: Threads + Sync, W: Watcher>(
     problem: &Problem,
     pairs: &[Pairs],
     start: Planned,
-    effort: u32,
-    workers: usize,
+    means: &Means,
     watcher: &mut W,
 ) -> Result<Planned, AllocError>
     requires pairs { AreAllPairs problem.now pairs.now }
     requires known { IsKnown problem.now start }
-    requires workers { 0 < workers }
+    requires workers { 0 < means.now.workers }
     ensures { IfOk result (IsPlannedFrom problem.now start.roster) }
 {
     keys_are_in_order();
     let mut neighbourhoods = Neighbourhoods::new(alloc, problem)?;
     let mut planned = start;
-    for _ in 0..rounds_of(effort) {
+    for _ in 0..rounds_of(means.effort) {
         let before = planned.roster.copy(alloc)?;
         let mut attempts = attempts_at(alloc, problem, &before, &mut neighbourhoods)?;
-        try_all(rt, alloc, problem, pairs, &before, workers, &mut attempts);
+        try_all(rt, alloc, problem, pairs, &before, means, &mut attempts);
         planned = taken(
             alloc,
             problem,
@@ -110,21 +106,21 @@ fn try_all<R: Threads + Sync>(
     problem: &Problem,
     pairs: &[Pairs],
     before: &Roster,
-    workers: usize,
+    means: &Means,
     attempts: &mut [Attempt],
 )
     requires pairs { AreAllPairs problem.now pairs.now }
     requires held { IsHeld problem.now before.now }
-    requires workers { 0 < workers }
+    requires workers { 0 < means.now.workers }
     requires attempts { AreMade problem.now attempts.old }
 {
     let search = |_: usize, attempt: &mut Attempt|
         requires { AreAllPairs problem.now pairs.now × IsHeld problem.now before.now
             × IsMade problem.now attempt.old }
     {
-        attempt.found = found_in(alloc, problem, pairs, before, &attempt.of);
+        attempt.found = found_in(alloc, problem, pairs, before, means, &attempt.of);
     };
-    for_each_mut(rt, attempts, workers, &search);
+    for_each_mut(rt, attempts, means.workers, &search);
 }
 
 /// What the search of one of them comes to.
@@ -133,6 +129,7 @@ fn found_in(
     problem: &Problem,
     pairs: &[Pairs],
     before: &Roster,
+    means: &Means,
     of: &Neighbourhood,
 ) -> Result<Nearby, AllocError>
     requires pairs { AreAllPairs problem.now pairs.now }
@@ -146,7 +143,7 @@ fn found_in(
         pairs,
         known,
         &of.wanted,
-        LINES_NEARBY,
+        means.lines_nearby(),
         WORK_NEARBY,
     )
 }

@@ -1,0 +1,76 @@
+//! What a plan may take.
+
+ghost use Rattle.std.specs.Prelude.{◌≡◌, ◌<◌, ◌≤◌};
+
+use roster_model::limits::MOST_LINES;
+
+/// The most effort.
+pub(crate) const MOST_EFFORT: u32 = 9;
+
+/// How many lines a person may have at effort 0, and as many more with each effort more.
+const LINES_AN_EFFORT: usize = 4096;
+
+/// How many lines a person may have in a neighbourhood.
+const LINES_NEARBY: usize = 4096;
+
+/// How many lines nodes may have to look at in one search at effort 0. Each effort more doubles them.
+const FEWEST_WORK: u64 = 1 << 19;
+
+/// What a plan may take. It is the same plan for any number of workers.
+#[derive(Clone, Copy, Debug)]
+pub struct Means {
+    /// How much is tried, from 0 to 9: each one more doubles it. What is more counts as 9.
+    pub effort: u32,
+    /// So many threads at most share searches.
+    pub workers: usize,
+    /// So many legal sets at most a person may have in one step, from 1 to 200000. If somebody has more,
+    /// the step is left out.
+    pub most_sets: usize,
+}
+
+impl Means {
+    /// Of an effort, with as many legal sets as it allows: 4096 at effort 0, and as many more with each
+    /// effort more.
+    pub fn of_effort(effort: u32, workers: usize) -> Means
+        ensures effort { result.effort ≡ effort }
+        ensures workers { result.workers ≡ workers }
+        ensures sets { (0 < result.most_sets) × (result.most_sets ≤ MOST_LINES) }
+    {
+        Means {
+            effort,
+            workers,
+            most_sets: sets_of(effort),
+        }
+    }
+
+    /// How many lines a person may have where all are listed, or those of a gap.
+    pub(crate) fn lines(&self) -> usize
+        ensures { (0 < result) × (result ≤ MOST_LINES) }
+    {
+        self.most_sets.clamp(1, MOST_LINES)
+    }
+
+    /// How many lines a person may have in a neighbourhood.
+    pub(crate) fn lines_nearby(&self) -> usize
+        ensures { (0 < result) × (result ≤ MOST_LINES) }
+    {
+        self.most_sets.clamp(1, LINES_NEARBY)
+    }
+
+    /// How many lines nodes may have to look at in one search of all lines, or of those of a gap.
+    pub(crate) fn work(&self) -> u64 {
+        FEWEST_WORK << self.effort.min(MOST_EFFORT)
+    }
+}
+
+/// How many legal sets of a person an effort allows.
+fn sets_of(effort: u32) -> usize
+    ensures { (0 < result) × (result ≤ MOST_LINES) }
+{
+    let effort = if effort < MOST_EFFORT {
+        effort
+    } else {
+        MOST_EFFORT
+    };
+    LINES_AN_EFFORT * (effort as usize + 1)
+}
