@@ -1,6 +1,7 @@
 //! `roster-desk`: a planner's companion to `roster`.
 //!
-//! - `line`: the command line
+//! - `commands`: the commands and their options
+//! - `line`: what the words of the command line ask for
 //! - `inputs`: what its paths hold
 //! - `telling`: what is told of a roster, and the records of a report
 //! - `pages`: what is told of the records of a book
@@ -10,6 +11,7 @@
 //! or reads it and the reports whole and hands them to `tell` or `show`.
 #![tactic(auto)]
 
+mod commands;
 mod inputs;
 mod line;
 mod pages;
