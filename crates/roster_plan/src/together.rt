@@ -1,9 +1,8 @@
 //! Neighbourhoods of one roster, which several threads search at once.
 
 ghost use Rattle.std.specs.Prelude.{◌≡◌, ◌<◌, ◌≤◌, true, All, IfOk, length};
-ghost use Rattle.std.specs.Thread.{IsSync};
 ghost use Rattle.roster_lines.specs.Listing.{AreAllPairs};
-ghost use Rattle.roster_model.specs.Rosters.{IsLegalRoster, key_le};
+ghost use Rattle.roster_model.specs.Rosters.{key_le};
 ghost use Rattle.roster_model.specs.Settled.{IsHeld};
 ghost use Rattle.roster_plan.specs.Attempts.{AreMade, IsMade};
 ghost use Rattle.roster_plan.specs.Planned.{IsKnown, IsPlannedFrom};
@@ -20,12 +19,12 @@ use roster_problem::{Problem, Roster, open_number};
 use std::alloc::{AllocError, Global};
 use std::thread::{Threads, for_each_mut};
 
-/// So many neighbourhoods of a roster are searched at once. What a plan comes to hangs on this number, and not
-/// on how many threads share the searches.
+/// So many neighbourhoods of a roster are searched at once. What a plan comes to hangs on this number, and
+/// not on how many threads share the searches.
 const SEARCHES_AT_ONCE: usize = 4;
 
-/// How often so many are searched at effort 0, and as often more with each effort more: the longer changes were
-/// tried before, the less searches find.
+/// How often so many are searched at effort 0, and as often more with each effort more: the longer changes
+/// were tried before, the less searches find.
 const ROUNDS_AN_EFFORT: u32 = 20;
 
 /// How many lines nodes may have to look at in the search of a neighbourhood.
@@ -38,8 +37,8 @@ struct Attempt {
     found: Result<Nearby, AllocError>,
 }
 
-/// The plan with the earliest roster that searches of some neighbourhoods come to. So many threads at most share
-/// the searches.
+/// The plan with the earliest roster that searches of some neighbourhoods come to. The workers share the
+/// searches.
 pub(crate) fn improved_nearby<R: Threads + Sync, W: Watcher>(
     rt: &R,
     alloc: Global,
@@ -99,7 +98,7 @@ fn attempts_at(
     Ok(attempts)
 }
 
-/// Searches the neighbourhoods of the roster, by so many threads at most.
+/// Searches the neighbourhoods of the roster, shared among the workers.
 fn try_all<R: Threads + Sync>(
     rt: &R,
     alloc: Global,

@@ -1,6 +1,6 @@
 -- Chains that begin with a set, and what one person's reduced cost is in a roster.
 use Rattle.std.proofs.Common.{◌≡◌, ℕ, ◌+◌, ◌-◌, ◌<◌, List, [], ◌∷◌, ◌++◌, length, get_or, Some, refl, sym, ap, ◌∙◌, subst, inl, inr, arith, ℤ, pos, ◌+ℤ◌, ◌-ℤ◌, ◌*ℤ◌, ◌≤ℤ◌}
-use Rattle.std.specs.Prelude.{All, slice_get}
+use Rattle.std.specs.Prelude.{slice_get}
 use Rattle.std.proofs.lemmas.Bool.{cases_eq}
 use Rattle.std.proofs.lemmas.Int.{ints}
 use Rattle.std.proofs.lemmas.List.{get_or_append_left, get_or_push, length_push}
@@ -9,13 +9,12 @@ use Rattle.roster_model.specs.Costs.{cost_of}
 use Rattle.roster_model.specs.Places.{set_of}
 use Rattle.roster_model.specs.Problem.{Problem}
 use Rattle.roster_model.specs.Rosters.{IsLegalRoster}
-use Rattle.roster_model.specs.Rules.{is_among}
 use Rattle.roster_model.proofs.LineLemmas.{given_line}
 use Rattle.roster_cost.specs.Amounts.{cost_without_pairings, IsWithin}
 use Rattle.roster_lines.specs.Entries.{Entry, sets_of}
 use Rattle.roster_lines.specs.Person.{lines_at}
 use Rattle.roster_pricing.specs.declared.network.Network.{Network}
-use Rattle.roster_pricing.specs.Chains.{chain_value, followers_of, next_state, value_at, IsChain, IsRow}
+use Rattle.roster_pricing.specs.Chains.{followers_of, next_state, value_at, IsChain}
 use Rattle.roster_pricing.specs.Gaps.{IsAlong, IsLeastBehind}
 use Rattle.roster_pricing.specs.Looks.{AreLeasts, IsLook}
 use Rattle.roster_pricing.specs.Networks.{AreRows}

@@ -1,10 +1,8 @@
 -- Lines of a person whose reduced costs are low.
-use Rattle.std.specs.Prelude.{◌≡◌, ℕ, ◌<◌, ◌+◌, List, ◌++◌, ◌∷◌, [], length, ℤ, ◌+ℤ◌, ◌≤ℤ◌, All}
+use Rattle.std.specs.Prelude.{◌≡◌, ℕ, ◌<◌, List, ◌++◌, ◌∷◌, length, ℤ, ◌+ℤ◌, ◌≤ℤ◌}
 use Rattle.roster_model.specs.Problem.{Problem}
-use Rattle.roster_cost.specs.Amounts.{IsWithin}
 use Rattle.roster_pricing.specs.declared.network.Network.{Network}
-use Rattle.roster_pricing.specs.declared.parts.TheConstants.{MOST_AMOUNT, MOST_VALUE}
-use Rattle.roster_pricing.specs.Chains.{chain_value, value_at, IsChain}
+use Rattle.roster_pricing.specs.Chains.{chain_value, IsChain}
 use Rattle.roster_pricing.specs.Networks.{AreRows, AreValues, IsNetwork}
 use Rattle.roster_pricing.specs.Reduced.{reduced}
 

@@ -1,7 +1,7 @@
 use Rattle.std.proofs.Common.{sym, subst, rules, w64, FitsSigned}
 use Rattle.std.proofs.lemmas.Int.{to_z-of_z}
 use Rattle.roster_model.specs.Settled.{IsLowerBound}
-use Rattle.roster_plan.proofs.PlannedLemmas.{roster_on, same_on}
+use Rattle.roster_plan.proofs.PlannedLemmas.{roster_on}
 use Rattle.roster_plan.proofs.together.with_new.Goals as goal
 
 pub so_far-planned-requires-clause-bound : goal.so_far-planned-requires-clause-bound
