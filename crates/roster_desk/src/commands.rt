@@ -1,7 +1,7 @@
 //! The commands and their options, on `clap`.
 
 use clap::{Arg, ArgAction, Command, builder};
-use roster_model::limits::MOST_WORKERS;
+use roster_model::limits::{MOST_LINES, MOST_WORKERS};
 use std::alloc::{AllocError, Global};
 
 /// The book, which most commands have.
@@ -35,7 +35,7 @@ fn person<'a>(alloc: Global) -> Arg<'a> {
         .help("Only this person")
 }
 
-/// `plan`, with its book, its effort, its workers, its start, and what is told and kept on the way.
+/// `plan`, with its book, what it may take, its start, and what is told and kept on the way.
 fn plan<'a>(alloc: Global) -> Result<Command<'a>, AllocError> {
     let effort = Arg::new(alloc, "effort")
         .long("effort")
@@ -49,6 +49,11 @@ fn plan<'a>(alloc: Global) -> Result<Command<'a>, AllocError> {
         .value_parser(builder::ValueParser::unsigned(1, MOST_WORKERS.into()))
         .default_value("1")
         .help("How many threads may share searches: the plan is the same for any number");
+    let sets = Arg::new(alloc, "sets")
+        .long("sets")
+        .value_name("N")
+        .value_parser(builder::ValueParser::unsigned(1, MOST_LINES as u64))
+        .help("How many legal sets a person may have in one step, up to 200000; else effort says it");
     let start = Arg::new(alloc, "start")
         .long("start")
         .value_name("REPORT")
@@ -70,6 +75,7 @@ fn plan<'a>(alloc: Global) -> Result<Command<'a>, AllocError> {
         .arg(book(alloc))?
         .arg(effort)?
         .arg(workers)?
+        .arg(sets)?
         .arg(start)?
         .arg(progress)?
         .arg(keep)

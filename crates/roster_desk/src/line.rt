@@ -31,6 +31,8 @@ pub(crate) struct PlanLine<'a> {
     pub(crate) effort: u32,
     /// How many threads may share searches.
     pub(crate) workers: usize,
+    /// How many legal sets a person may have in one step, from 1 to 200000; none if effort says it.
+    pub(crate) sets: Option<usize>,
     /// The path of the report that gives the roster to begin with, or `-`; none if the book gives it.
     pub(crate) start: Option<&'a str>,
     /// Whether standard error is told what is known on the way, though it is no terminal.
@@ -142,6 +144,7 @@ fn planned<'a>(matches: &ArgMatches<'a>) -> Option<PlanLine<'a>> {
     let book = found.get_str("book")?;
     let effort = found.get_one::<u32>("effort").unwrap_or(USUAL_EFFORT);
     let workers = found.get_one::<usize>("workers").unwrap_or(1);
+    let sets = found.get_one::<usize>("sets");
     let start = found.get_str("start");
     let progress = found.get_flag("progress");
     let keep = found.get_str("keep");
@@ -149,6 +152,7 @@ fn planned<'a>(matches: &ArgMatches<'a>) -> Option<PlanLine<'a>> {
         book,
         effort,
         workers,
+        sets,
         start,
         progress,
         keep,

@@ -18,7 +18,7 @@ mod pages;
 mod telling;
 mod watching;
 
-ghost use Rattle.std.specs.Prelude.{◌≡◌, false};
+ghost use Rattle.std.specs.Prelude.{◌≡◌, ◌<◌, false};
 ghost use Rattle.roster_watched.specs.Watch.{has_failed};
 
 use inputs::{InputFault, STANDARD_INPUT, read_book_at, read_inputs, read_report_at, shares_input};
@@ -127,7 +127,7 @@ fn plan<T: Threads + Sync, R: Read>(
     let status = run(
         threads,
         rt.alloc(),
-        &Means::of_effort(line.effort, line.workers.max(1)),
+        &means_of(line),
         report,
         reader,
         &mut writer,
@@ -140,6 +140,17 @@ fn plan<T: Threads + Sync, R: Read>(
         return Status::WriteFailed.exit_code();
     }
     ended(rt, status)
+}
+
+/// What the plan may take.
+fn means_of(line: &PlanLine<'_>) -> Means
+    ensures { 0 < result.workers }
+{
+    let usual = Means::of_effort(line.effort, line.workers.max(1));
+    Means {
+        most_sets: line.sets.unwrap_or(usual.most_sets),
+        ..usual
+    }
 }
 
 /// Tells of a roster.
