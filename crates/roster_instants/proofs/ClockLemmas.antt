@@ -14,7 +14,7 @@ use Rattle.jiff_core.specs.declared.civil.datetime.DateTime.{DateTime}
 use Rattle.jiff_tz.proofs.YearLemmas.{year_of_day-date}
 use Rattle.jiff_tz.specs.Ambiguous.{compatible_offset, instant_of}
 use Rattle.jiff_tz.specs.PosixReader.{read_whole}
-use Rattle.jiff_tz.specs.PosixRule.{rule_nanos, rule_day, first_day, first_nanosecond, last_nanosecond, nanos_per_day, match_some, clamp_to, in_window, in_span, saturating_add, saturating_sub, shift_between, ambiguous_ahead, ambiguous_behind, ambiguous_by, ambiguous_at_by, civil_min, civil_max}
+use Rattle.jiff_tz.specs.PosixRule.{rule_nanos, rule_day, first_nanosecond, last_nanosecond, nanos_per_day, match_some, clamp_to, in_window, in_span, saturating_add, saturating_sub, shift_between, ambiguous_ahead, ambiguous_behind, ambiguous_by, ambiguous_at_by}
 use Rattle.jiff_tz.specs.PosixRule as rule
 use Rattle.jiff_tz.specs.PosixText.{day_time_view, dst_view, tz_view}
 use Rattle.jiff_tz.specs.Year.{year_of_day}

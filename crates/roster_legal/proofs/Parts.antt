@@ -7,13 +7,12 @@ pub mod Rest
 pub mod Recovery
 pub mod Limits
 pub mod DaysOff
-use Rattle.std.proofs.Common.{◌≡◌, ℕ, ◌<◌, Bool, true, false, eqb, List, [], refl, sym, ap, ◌∙◌, subst, inl, inr}
-use Rattle.std.specs.Prelude.{All, AllPairs, filter}
+use Rattle.std.proofs.Common.{◌≡◌, ℕ, ◌<◌, true, false, eqb, List, refl, sym, ap, ◌∙◌, subst, inl, inr}
 use Rattle.std.proofs.lemmas.Bool.{both_ways, false_from_ne_true}
 use Rattle.std.proofs.lemmas.List.Elements.{All-filter, filter_passes}
 use Rattle.std.proofs.lemmas.List.Kept.{AllPairs-filter}
 use Rattle.roster_model.specs.Problem.{Problem, home_of, leaves_of, precedes, year_of, eleven_of}
-use Rattle.roster_model.specs.records.Duty.{Duty, Holder, OfPairing, OfPerson}
+use Rattle.roster_model.specs.records.Duty.{Holder, OfPairing, OfPerson}
 use Rattle.roster_model.specs.Rules.{duty_list, is_among, is_listed, Rule, BaseRule, OverlapRule, LeaveRule, RestRule, RecoveryRule, LimitRule, DaysOffRule, Holds, HoldsLimit, IsLegal}
 use Rattle.roster_model.specs.Rules.Overlap.{NoOverlap}
 use Rattle.roster_model.specs.Rules.Leave.{KeepsLeave}
