@@ -65,7 +65,8 @@ impl Region {
         Some(limit)
     }
 
-    /// Takes person `k`'s lines away whose value is beyond the cut.
+    /// Takes person `k`'s lines away whose value is beyond the cut. A person with one line keeps it: whether
+    /// it costs too much is told by the bound.
     fn fix_lines_of(
         &mut self,
         alloc: Global,
