@@ -85,6 +85,10 @@ impl<'a> Node<'a> {
             → result ≤ℤ reduced_at self.now.tables k (set_of k places) }
         ensures fits { AreReduced 1 result }
     {
+        // With no line chosen, nothing is shared with one.
+        if k == 0 {
+            return self.tables.bound_of(k);
+        }
         if k == self.lines.len() {
             self.next_bound()
         } else {
