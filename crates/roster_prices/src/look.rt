@@ -10,7 +10,7 @@ use crate::picking::lines_within;
 use crate::powers::halved;
 use crate::reading::number_at;
 use crate::scope::Scope;
-use crate::tuning::{FEW_NEAR_LINES, MOST_CUTS, NEAR_PART};
+use crate::tuning::{FEW_NEAR_LINES, MOST_CUTS, NEAR_PART, VALUES_A_SAMPLE};
 use roster_problem::Problem;
 use roster_regions::{Choice, Region};
 use std::alloc::{AllocError, Global};
@@ -341,14 +341,13 @@ fn most_of_few(values: &[i64], least: i64, reach: i64, few: usize) -> Option<i64
     None
 }
 
-/// Whether no more than so few of the values are at most so much.
+/// Whether no more than about so few of the values are at most so much, as far as some of them tell.
 fn are_few_within(values: &[i64], most: i64, few: usize) -> bool {
     let mut count: usize = 0;
-    for value in values {
-        count = count.wrapping_add(usize::from(*value <= most));
-        if count > few {
-            return false;
+    for some in values.chunks(VALUES_A_SAMPLE) {
+        if let Some(value) = some.first() {
+            count = count.wrapping_add(usize::from(*value <= most));
         }
     }
-    true
+    count <= few / VALUES_A_SAMPLE
 }

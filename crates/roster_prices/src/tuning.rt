@@ -41,9 +41,9 @@ pub(crate) const SAMPLE_LINES: usize = 20_000;
 /// How many steps it takes on them. With 16 a month of 20 crew needed a tenth more looks at all lines.
 pub(crate) const SAMPLE_STEPS: u32 = 24;
 
-/// Lines count as near the least of their person if they weigh more than after so many halvings. With 20
-/// half as many lines more are looked at.
-pub(crate) const NEAR_HALVINGS: i64 = 12;
+/// Lines count as near the least of their person if they weigh more than after so many halvings. With 12
+/// `full` months take 5 of a hundred longer, and dense books up to 20; with 7 it is much as with this.
+pub(crate) const NEAR_HALVINGS: i64 = 9;
 
 /// About one in so many of a person's lines counts as near at most, and `FEW_NEAR_LINES` more: the reach is
 /// cut to a quarter until it is so, `MOST_CUTS` times at most, and then all lines count. Without that the
@@ -55,6 +55,10 @@ pub(crate) const FEW_NEAR_LINES: usize = 4_096;
 
 /// See `NEAR_PART`.
 pub(crate) const MOST_CUTS: usize = 8;
+
+/// Whether lines are so few is told from one in so many. It is odd, so that it doesn't go in step with lines
+/// that have a pairing and lines that don't.
+pub(crate) const VALUES_A_SAMPLE: usize = 17;
 
 /// So many looks at near lines come before the next one at all, at first and at most: twice as many as
 /// before if no other line had become the least, else half as many.
