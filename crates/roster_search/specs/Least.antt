@@ -21,6 +21,12 @@ abbrev pub IsCheapestBelow : Problem → (List ℕ → Type 0) → ℤ → Optio
 IsCheapestBelow problem Region limit None = CostsAtLeast problem Region limit
 IsCheapestBelow problem Region limit (Some key) = IsCheapest problem Region key × (key.cost <ℤ limit)
 
+-- the key is that of a legal roster in the region that costs less than the limit
+pub record IsKnownBelow (problem : Problem) (Region : List ℕ → Type 0) (limit : ℤ) (key : Key) : Type 0 where
+  pub held : IsHeld problem key
+  pub inside : Region key.places
+  pub below : key.cost <ℤ limit
+
 -- the key is that of a legal roster in the region, and isn't after that of any other there
 pub record IsLeast (problem : Problem) (Region : List ℕ → Type 0) (key : Key) : Type 0 where
   pub held : IsHeld problem key

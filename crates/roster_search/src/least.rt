@@ -1,15 +1,16 @@
 //! The least roster of a region.
 
-ghost use Rattle.std.specs.Prelude.{◌^◌, ◌-◌, ◌≤ℤ◌, ◌<ℤ◌, ℕ, IfOk, List, OnOk, Some, neg_ℤ, pos};
+ghost use Rattle.std.specs.Prelude.{◌^◌, ◌-◌, ◌≤ℤ◌, ◌<ℤ◌, ℕ, IfOk, IfSome, List, OnOk, Some, neg_ℤ, pos};
 ghost use Rattle.roster_model.specs.Costs.{cost_of};
 ghost use Rattle.roster_model.specs.Rosters.{IsLegalRoster};
 ghost use Rattle.roster_model.specs.Settled.{IsHeld, Settles};
 ghost use Rattle.roster_regions.specs.Regions.{IsIn, IsRegion};
-ghost use Rattle.roster_search.specs.Least.{CostsAtLeast, IsLeastBelow};
+ghost use Rattle.roster_search.specs.Least.{CostsAtLeast, IsCheapestBelow, IsKnownBelow, IsLeastBelow};
 
 use crate::cheapest::cheapest;
 use crate::finder::Finder;
 use crate::first::first;
+use crate::refining::roster_in;
 use crate::root::RootPrices;
 use roster_cost::{cost_without_pairings, lines_are_near, shares_add_up};
 use roster_prices::DualPrices;
@@ -18,12 +19,12 @@ use roster_regions::Region;
 use std::alloc::{AllocError, Global};
 
 /// The least roster of the region, with its cost, if it costs less than the limit; or none, and then each
-/// of them costs at least that. Any prices will do for it; good ones make it short.
+/// of them costs at least that. Any prices and any rounded roster will do for it; good ones make it short.
 pub(crate) fn least<F: Finder>(
     alloc: Global,
     problem: &Problem,
     region: Region,
-    root: &RootPrices,
+    root: RootPrices,
     limit: i64,
     finder: &mut F,
 ) -> Result<Option<Roster>, AllocError>
@@ -34,29 +35,94 @@ pub(crate) fn least<F: Finder>(
 {
     costs_fit(problem);
     let mut region = region;
-    match cheapest(
-        alloc,
-        problem,
-        &region,
-        &root.prices,
-        i64::MIN,
-        root.likely,
-        limit,
-        finder,
+    let RootPrices {
+        prices,
+        likely,
+        rounded,
+    } = root;
+    let known = known_below(alloc, problem, &region, rounded, limit)?;
+    match cheapest_from(
+        alloc, problem, &region, &prices, likely, known, limit, finder,
     )? {
         Some(roster) => {
             let mut roster = roster;
-            first_of_all(
-                alloc,
-                problem,
-                &mut region,
-                &mut roster,
-                &root.prices,
-                finder,
-            )?;
+            first_of_all(alloc, problem, &mut region, &mut roster, &prices, finder)?;
             Ok(Some(roster))
         }
         None => Ok(None),
+    }
+}
+
+/// The roster of these places, if it is one of the region and costs less than the limit.
+fn known_below(
+    alloc: Global,
+    problem: &Problem,
+    region: &Region,
+    places: Option<Vec<u16>>,
+    limit: i64,
+) -> Result<Option<Roster>, AllocError>
+    requires { IsRegion problem.now region.now }
+    ensures { IfOk result (λ known. IfSome known
+        (IsKnownBelow problem.now (IsIn problem.now region.now) limit)) }
+{
+    let Some(places) = places else {
+        return Ok(None);
+    };
+    let Some(roster) = roster_in(alloc, problem, region, places)? else {
+        return Ok(None);
+    };
+    if roster.cost >= limit {
+        return Ok(None);
+    }
+    Ok(Some(roster))
+}
+
+/// `cheapest`, if a roster of the region may be known that costs less than the limit: then nothing is asked
+/// for that costs as much.
+fn cheapest_from<F: Finder>(
+    alloc: Global,
+    problem: &Problem,
+    region: &Region,
+    prices: &DualPrices,
+    likely: i64,
+    known: Option<Roster>,
+    limit: i64,
+    finder: &mut F,
+) -> Result<Option<Roster>, AllocError>
+    requires finder { F.may_find }
+    requires region { IsRegion problem.now region.now }
+    requires known { IfSome known
+        (IsKnownBelow problem.now (IsIn problem.now region.now) limit) }
+    requires least { CostsAtLeast problem.now (IsIn problem.now region.now) (neg_ℤ (pos (2 ^ 63))) }
+    ensures cheapest { IfOk result
+        (IsCheapestBelow problem.now (IsIn problem.now region.now) limit) }
+    ensures goes_on { F.goes_on finder.old finder.new }
+{
+    let Some(known) = known else {
+        return cheapest(
+            alloc,
+            problem,
+            region,
+            prices,
+            i64::MIN,
+            likely,
+            limit,
+            finder,
+        );
+    };
+    let below = cheapest(
+        alloc,
+        problem,
+        region,
+        prices,
+        i64::MIN,
+        likely,
+        known.cost,
+        finder,
+    )?;
+    match below {
+        Some(roster) => Ok(Some(roster)),
+        None => Ok(Some(known)),
     }
 }
 

@@ -45,7 +45,7 @@ pub fn least_within(
     let region = Region::of_ranges(alloc, problem, table, &ranges)?;
     let root = root_prices(alloc, problem, &region)?;
     let mut patience = Patience::new(work);
-    let found = least(alloc, problem, region, &root, limit, &mut patience);
+    let found = least(alloc, problem, region, root, limit, &mut patience);
     match found {
         Ok(found) => Ok(Searched::Settled(found)),
         Err(_) if patience.is_over => Ok(Searched::GivenUp),

@@ -35,7 +35,7 @@ pub(crate) fn least_of_base<F: Finder>(
 {
     let region = region_of_base(alloc, problem, table, ranges, base)?;
     let root = root_prices(alloc, problem, &region)?;
-    least_in(alloc, problem, table, ranges, base, region, &root, finder)
+    least_in(alloc, problem, table, ranges, base, region, root, finder)
 }
 
 /// `least_of_base`, for which so many threads look at the lines; those that have nothing to do help to
@@ -65,7 +65,7 @@ pub(crate) fn least_of_base_by_threads<R: Threads + Sync>(
         ranges,
         base,
         region,
-        &root,
+        root,
         &mut Crew::new(rt, idle),
     )
 }
@@ -94,7 +94,7 @@ fn least_in<F: Finder>(
     ranges: &[(usize, usize)],
     base: usize,
     region: Region,
-    root: &RootPrices,
+    root: RootPrices,
     finder: &mut F,
 ) -> Result<Option<Roster>, AllocError>
     requires finder { F.may_find }

@@ -8,7 +8,7 @@ ghost use Rattle.roster_regions.specs.Regions.{IsDecided, IsIn, IsNarrowed, IsRe
 ghost use Rattle.roster_search.specs.Refined.{IsRefined};
 
 use crate::root::room;
-use crate::tuning::{FIRST_ROUNDING, NODE_STEPS};
+use crate::tuning::{FIRST_ROUNDING, MANY_LINES, NODE_STEPS};
 use roster_cost::roster_cost;
 use roster_prices::{Ascent, DualPrices, branch, rounded};
 use roster_problem::{Places, Problem, Roster};
@@ -40,6 +40,9 @@ pub(crate) fn refine(
 {
     let room = room(region, most);
     let mut ascent = Ascent::at_node(alloc, problem, region, prices)?;
+    if !fix_many(alloc, problem, region, &mut ascent, most)? {
+        return Ok(Refined::Nothing);
+    }
     for step in 0..NODE_STEPS {
         if !fix(alloc, problem, region, &mut ascent, most, room)? {
             return Ok(Refined::Nothing);
@@ -77,6 +80,42 @@ fn fix(
     if !ascent.look(alloc, problem, region, room)? {
         return Ok(true);
     }
+    fix_at_once(alloc, problem, region, ascent, most)
+}
+
+/// Leaves out of a region of many lines what costs more than it may by the prices, before they are looked
+/// at: that is cheaper than a look, and often leaves little to look at. False if each roster costs more.
+fn fix_many(
+    alloc: Global,
+    problem: &Problem,
+    region: &mut Region,
+    ascent: &mut Ascent,
+    most: i64,
+) -> Result<bool, AllocError>
+    requires { IsRegion problem.now region.old }
+    ensures { IfOk result (λ left. MatchBool left
+        (IsNarrowed problem.now (CostsAtMost problem.now most) region.old region.new)
+        (IsAllAbove problem.now region.old most)) }
+{
+    if ascent.lines() <= MANY_LINES {
+        return Ok(true);
+    }
+    fix_at_once(alloc, problem, region, ascent, most)
+}
+
+/// Leaves out of the region what costs more than it may by the prices. False if each roster costs more.
+fn fix_at_once(
+    alloc: Global,
+    problem: &Problem,
+    region: &mut Region,
+    ascent: &mut Ascent,
+    most: i64,
+) -> Result<bool, AllocError>
+    requires { IsRegion problem.now region.old }
+    ensures { IfOk result (λ left. MatchBool left
+        (IsNarrowed problem.now (CostsAtMost problem.now most) region.old region.new)
+        (IsAllAbove problem.now region.old most)) }
+{
     if !region.tighten(alloc, problem, ascent.prices(), most)? {
         return Ok(false);
     }
@@ -154,6 +193,21 @@ fn rounded_in(
     let Some(places) = rounded(alloc, problem, region, prices, room, 0)? else {
         return Ok(None);
     };
+    roster_in(alloc, problem, region, places)
+}
+
+/// The roster of these places, with its cost, if it is one of the region.
+pub(crate) fn roster_in(
+    alloc: Global,
+    problem: &Problem,
+    region: &Region,
+    places: Vec<u16>,
+) -> Result<Option<Roster>, AllocError>
+    requires { IsRegion problem.now region.now }
+    ensures held { IfOk result (λ roster. IfSome roster (IsHeld problem.now)) }
+    ensures inside { IfOk result (λ roster. IfSome roster
+        (λ roster. IsIn problem.now region.now roster.places)) }
+{
     let places = Places::new(places);
     if !region.is_in(alloc, problem, places.as_slice())? {
         return Ok(None);

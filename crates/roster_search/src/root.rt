@@ -1,6 +1,6 @@
 //! Prices to begin with.
 
-ghost use Rattle.std.specs.Prelude.{◌≡◌, ◌<◌, IfOk, IsTrue};
+ghost use Rattle.std.specs.Prelude.{◌≡◌, ◌<◌, IfOk, IsTrue, length};
 ghost use Rattle.roster_regions.specs.Regions.{IsRegion};
 
 use crate::tuning::{FEW_LINES_TO_FIX, LAST_ROOT_STEP, ROOT_STEPS, STEPS_A_ROUNDING};
@@ -11,11 +11,13 @@ use roster_regions::Region;
 use std::alloc::{AllocError, Global};
 use std::thread::Threads;
 
-/// Good prices for a region, and what its least roster likely costs. Nothing rests on either.
+/// Good prices for a region, what its least roster likely costs, and the places of the cheapest one that was
+/// rounded. Nothing rests on any of them.
 #[derive(Debug, Drop)]
 pub(crate) struct RootPrices {
     pub(crate) prices: DualPrices,
     pub(crate) likely: i64,
+    pub(crate) rounded: Option<Vec<u16>>,
 }
 
 /// Raises prices from the penalties on. A roster that is rounded on the way says how much may be paid; what
@@ -68,7 +70,8 @@ struct Rise {
     ascent: Ascent,
     // What is left of the region by the prices.
     part: Region,
-    // What a roster costs that was rounded.
+    // The cheapest roster that was rounded, and its cost.
+    rounded: Option<Vec<u16>>,
     most: i64,
 }
 
@@ -82,6 +85,7 @@ impl Rise {
         Ok(Rise {
             ascent: Ascent::at_root(alloc, problem, region, &penalties)?,
             part: region.copy(alloc)?,
+            rounded: None,
             most: i64::MAX,
         })
     }
@@ -171,15 +175,35 @@ impl Rise {
         requires { IsRegion problem.now self.old.part }
         ensures { self.new.part ≡ self.old.part }
     {
-        self.most = cheaper(alloc, problem, &self.part, &self.ascent, self.most, step)?;
+        let room = room(&self.part, self.most.saturating_sub(1));
+        let rounded = self.ascent.rounded(alloc, problem, &self.part, room, step)?;
+        if let Some(places) = rounded {
+            self.take(problem, places);
+        }
         Ok(())
+    }
+
+    /// Takes these places if they cost less than those before.
+    fn take(&mut self, problem: &Problem, places: Vec<u16>)
+        requires { length places.items ≡ length problem.now.pairings }
+        ensures { self.new.part ≡ self.old.part }
+    {
+        let cost = roster_cost(problem, &places);
+        if cost < self.most {
+            self.most = cost;
+            self.rounded = Some(places);
+        }
     }
 
     /// The prices of the greatest bound.
     fn prices(self, region: &Region) -> RootPrices {
         let likely = likely(region, self.ascent.bound());
         let prices = self.ascent.into_best();
-        RootPrices { prices, likely }
+        RootPrices {
+            prices,
+            likely,
+            rounded: self.rounded,
+        }
     }
 }
 
@@ -197,25 +221,4 @@ fn likely(region: &Region, bound: i64) -> i64 {
         .idle()
         .saturating_add(bound / scale)
         .saturating_add(i64::from(bound % scale > 0))
-}
-
-/// What a roster costs that is rounded from the prices, if that is less.
-fn cheaper(
-    alloc: Global,
-    problem: &Problem,
-    region: &Region,
-    ascent: &Ascent,
-    most: i64,
-    turn: usize,
-) -> Result<i64, AllocError>
-    requires { IsRegion problem.now region.now }
-{
-    let places = ascent.rounded(alloc, problem, region, i64::MAX, turn)?;
-    if let Some(places) = places {
-        let cost = roster_cost(problem, &places);
-        if cost < most {
-            return Ok(cost);
-        }
-    }
-    Ok(most)
 }

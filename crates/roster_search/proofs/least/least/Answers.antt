@@ -15,4 +15,4 @@ returns-in-Some-clause-least g c =
     subst (λ limit. IsLeastBelow problem Here limit (Some c.first_of_all.new.roster)) (to_z-of_z w64 c.args.limit c.ranges.limit) least
 
 pub returns-in-Some-clause-goes_on : goal.returns-in-Some-clause-goes_on
-returns-in-Some-clause-goes_on g c = g.met.F.Finder.follows _ _ _ c.cheapest.ensures.goes_on c.first_of_all.ensures.goes_on
+returns-in-Some-clause-goes_on g c = g.met.F.Finder.follows _ _ _ c.cheapest_from.ensures.goes_on c.first_of_all.ensures.goes_on
