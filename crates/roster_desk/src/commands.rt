@@ -48,12 +48,14 @@ fn plan<'a>(alloc: Global) -> Result<Command<'a>, AllocError> {
         .value_name("N")
         .value_parser(builder::ValueParser::unsigned(1, MOST_WORKERS.into()))
         .default_value("1")
-        .help("How many threads may share searches: the plan is the same for any number");
+        .help("How many threads may share the work: the plan is the same for any number");
     let sets = Arg::new(alloc, "sets")
         .long("sets")
         .value_name("N")
         .value_parser(builder::ValueParser::unsigned(1, MOST_LINES as u64))
-        .help("How many legal sets a person may have in one step, up to 200000; else effort says it");
+        .help(
+            "How many legal sets a person may have in one step, up to 200000; else effort says it",
+        );
     let start = Arg::new(alloc, "start")
         .long("start")
         .value_name("REPORT")

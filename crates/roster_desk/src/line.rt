@@ -29,7 +29,7 @@ pub(crate) struct PlanLine<'a> {
     pub(crate) book: &'a str,
     /// How much is to be tried, from 0 to 9.
     pub(crate) effort: u32,
-    /// How many threads may share searches.
+    /// How many threads may share the work.
     pub(crate) workers: usize,
     /// How many legal sets a person may have in one step, from 1 to 200000; none if effort says it.
     pub(crate) sets: Option<usize>,

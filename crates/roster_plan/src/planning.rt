@@ -96,19 +96,21 @@ fn planned_from<R: Threads + Sync, W: Watcher>(
     let changed = so_far(problem, earlier(costed(problem, found), all.roster), floor);
     watcher.tell(problem, Step::Changes, &changed);
     let near = improved_nearby(rt, alloc, problem, &pairs, changed, means, watcher)?;
-    let planned = bounded(alloc, problem, near, means, watcher)?;
+    let planned = bounded(rt, alloc, problem, near, means, watcher)?;
     Ok(planned)
 }
 
 /// The plan with a greater bound, if prices give one, and with the best roster, if that is found.
-fn bounded<W: Watcher>(
+fn bounded<R: Threads + Sync, W: Watcher>(
+    rt: &R,
     alloc: Global,
     problem: &Problem,
     start: Planned,
     means: &Means,
     watcher: &mut W,
 ) -> Result<Planned, AllocError>
-    requires { IsKnown problem.now start }
+    requires known { IsKnown problem.now start }
+    requires workers { 0 < means.now.workers }
     ensures { IfOk result (IsPlannedFrom problem.now start.roster) }
 {
     keys_are_in_order();
@@ -116,10 +118,10 @@ fn bounded<W: Watcher>(
     if looks == 0 {
         return Ok(start);
     }
-    let mut priced = PricedBound::new(alloc, problem)?;
+    let mut priced = PricedBound::new(rt, alloc, means.workers, problem)?;
     let mut planned = start;
     for _ in 1..looks {
-        priced.raise(alloc, planned.roster.cost, 1)?;
+        priced.raise(rt, alloc, means.workers, planned.roster.cost, 1)?;
         planned = raised(problem, planned, priced.bound(), Step::Prices, watcher);
     }
     let closed = close(alloc, problem, &priced, planned, means, watcher)?;

@@ -11,6 +11,7 @@
 //! - `rows`: the table
 //! - `columns`: chains that are known
 //! - `listing`: how they are listed
+//! - `persons`: looks at each person, shared among threads
 //! - `pricing`: what prices say of all rosters
 //! - `master`: the best prices for the chains that are known
 //! - `softness`: weights and logarithms in whole numbers
@@ -27,6 +28,7 @@ mod lists;
 mod master;
 mod network;
 mod parts;
+mod persons;
 mod pricing;
 mod rising;
 mod rows;

@@ -29,17 +29,16 @@ struct Spot {
     from: usize,
 }
 
-/// Renews the columns of person `k`, whose network it is, at some prices: what each pairing brings, the rows of
+/// Renews the columns of the person whose network it is at some prices: what each pairing brings, the rows of
 /// all pairings, and the least that a chain brings.
 pub(crate) fn renew_at(
     alloc: Global,
-    k: usize,
     network: &Network,
     prices: &[i64],
     values: &[i64],
     rows: &[Row],
     least: i64,
-    columns: &mut [Columns],
+    columns: &mut Columns,
 ) -> Result<(), AllocError> {
     let known = Known {
         network,
@@ -48,10 +47,7 @@ pub(crate) fn renew_at(
         rows,
         least,
     };
-    if k < columns.len() {
-        renew(alloc, &known, &mut columns[k])?;
-    }
-    Ok(())
+    renew(alloc, &known, columns)
 }
 
 /// Lists all chains that are no further above the least than the columns' reach, which shrinks until they are

@@ -1,11 +1,14 @@
 //! The best prices for the chains that are known: the linear program of these columns, nearly. Nothing rests on
 //! them.
 
-use crate::columns::Columns;
+ghost use Rattle.std.specs.Prelude.{◌<◌};
+
 use crate::lists::amount_at;
+use crate::persons::Seen;
 use crate::softness::logarithm;
-use crate::tuning::{FIRST_SOFTNESS, LEAST_SOFTNESS, ONE, PATIENCE, STEPS};
+use crate::tuning::{COLUMNS_FOR_A_THREAD, FIRST_SOFTNESS, LEAST_SOFTNESS, ONE, PATIENCE, STEPS};
 use std::alloc::{AllocError, Global};
+use std::thread::{Threads, for_each_mut};
 
 /// Prices on their way, how fast each moves, and the best ones so far.
 #[derive(Drop)]
@@ -19,29 +22,130 @@ struct Way {
     turns: i64,
 }
 
-/// Prices near the given ones, by no more than the stride, at which the columns of all persons cost the most, each
-/// pairing counting with its price, or its penalty if that is less: soft covers with momentum.
-pub(crate) fn ascend(
+/// The columns of some persons at some prices.
+#[derive(Drop)]
+struct Part {
+    // The values of one person's columns.
+    values: Vec<i64>,
+    // For each pairing the shares of the columns that have it.
+    covers: Vec<i64>,
+    // What the persons cost.
+    cost: Result<i64, AllocError>,
+}
+
+/// Prices near the given ones, by no more than the stride, at which the columns of all persons cost the most,
+/// each pairing counting with its price, or its penalty if that is less: soft covers with momentum. So many
+/// threads at most share the persons; what covers and costs add up to is the same for any number of them.
+pub(crate) fn ascend<R: Threads + Sync>(
+    rt: &R,
     alloc: Global,
-    columns: &[Columns],
+    threads: usize,
+    seen: &[Seen],
     center: &[i64],
     penalties: &[i64],
     stride: i64,
-) -> Result<Vec<i64>, AllocError> {
+) -> Result<Vec<i64>, AllocError>
+    requires { 0 < threads }
+{
     let mut way = start(alloc, center)?;
-    let mut values = Vec::new(alloc);
+    let mut parts = parts_of(alloc, threads, seen, center.len())?;
     for _ in 0..STEPS {
+        cover_all(rt, threads, seen, &way, &mut parts);
         let mut covers = vec![in alloc; 0; center.len()]?;
-        let mut sum: i64 = 0;
-        for list in columns {
-            let least = list.cover(&mut values, &way.prices, way.softness, &mut covers)?;
-            sum = sum.wrapping_add(least);
-        }
+        let sum = added(&parts, &mut covers)?;
         let terms = sum_of_terms(&way.prices, penalties);
         judge(alloc, &mut way, sum.wrapping_add(terms))?;
         advance(&mut way, &covers, center, penalties, stride);
     }
     Ok(way.best)
+}
+
+/// As many parts as there are columns for, each for a thread of its own.
+fn parts_of(
+    alloc: Global,
+    threads: usize,
+    seen: &[Seen],
+    pairings: usize,
+) -> Result<Vec<Part>, AllocError> {
+    let mut columns: usize = 0;
+    for one in seen {
+        columns = columns.saturating_add(one.columns.len());
+    }
+    let mut parts = Vec::new(alloc);
+    for _ in 0..threads.min(columns / COLUMNS_FOR_A_THREAD).max(1) {
+        parts.push(Part {
+            values: Vec::new(alloc),
+            covers: vec![in alloc; 0; pairings]?,
+            cost: Ok(0),
+        })?;
+    }
+    Ok(parts)
+}
+
+/// Each part covers with the columns of its persons.
+fn cover_all<R: Threads + Sync>(
+    rt: &R,
+    threads: usize,
+    seen: &[Seen],
+    way: &Way,
+    parts: &mut [Part],
+)
+    requires { 0 < threads }
+{
+    let count = parts.len().max(1);
+    let cover = |nth: usize, part: &mut Part|
+        requires { 0 < count }
+    {
+        part.cost = part.cover(seen, way, nth, count);
+    };
+    for_each_mut(rt, parts, threads, &cover);
+}
+
+impl Part {
+    /// Covers with the columns of one person of each so many, from the `nth` on. What they cost.
+    fn cover(
+        &mut self,
+        seen: &[Seen],
+        way: &Way,
+        nth: usize,
+        count: usize,
+    ) -> Result<i64, AllocError>
+        requires { 0 < count }
+    {
+        for i in 0..self.covers.len() {
+            self.covers[i] = 0;
+        }
+        let mut sum: i64 = 0;
+        for (k, one) in seen.iter().enumerate() {
+            if k % count == nth {
+                let least = one.columns.cover(
+                    &mut self.values,
+                    &way.prices,
+                    way.softness,
+                    &mut self.covers,
+                )?;
+                sum = sum.wrapping_add(least);
+            }
+        }
+        Ok(sum)
+    }
+}
+
+/// Adds the covers of all parts to these. What all persons cost.
+fn added(parts: &[Part], covers: &mut [i64]) -> Result<i64, AllocError> {
+    let mut sum: i64 = 0;
+    for part in parts {
+        sum = sum.wrapping_add(part.cost?);
+        add_up(covers, &part.covers);
+    }
+    Ok(sum)
+}
+
+/// Adds the covers of a part to these.
+fn add_up(covers: &mut [i64], more: &[i64]) {
+    for p in 0..covers.len() {
+        covers[p] = covers[p].wrapping_add(amount_at(more, p));
+    }
 }
 
 fn start(alloc: Global, center: &[i64]) -> Result<Way, AllocError> {

@@ -12,6 +12,7 @@ use crate::columns::Columns;
 use crate::listing::renew_at;
 use crate::network::{Network, network_of};
 use crate::parts::{MOST_LEAST, MOST_PRICE, MOST_SUM, MOST_VALUE, PARTS};
+use crate::persons::{Seen, look_at_all};
 use crate::rows::{row_behind, rows_of};
 use roster_cost::{cost_without_pairings, priced_shares_add_up, shares_add_up};
 use roster_cumulative::flight_of_set;
@@ -20,6 +21,7 @@ use roster_model::limits::{MOST_PAIRINGS, MOST_PERSONS};
 use roster_problem::Problem;
 use std::alloc::{AllocError, Global};
 use std::marker::Model;
+use std::thread::Threads;
 
 /// What prices say of all rosters.
 #[derive(Debug, Drop)]
@@ -69,20 +71,26 @@ impl<'a> Pricing<'a> {
         Ok(Pricing { problem, networks })
     }
 
-    /// What the prices say of all rosters. The columns of persons are renewed.
-    pub(crate) fn look(
+    /// What the prices say of all rosters. The columns of persons are renewed. So many threads at most share
+    /// the persons.
+    pub(crate) fn look<R: Threads + Sync>(
         &self,
+        rt: &R,
         alloc: Global,
+        threads: usize,
         prices: &[i64],
-        columns: &mut [Columns],
+        seen: &mut [Seen],
     ) -> Result<Look, AllocError>
-        requires { ArePrices self.now prices.now }
-        ensures { IfOk result
+        requires threads { 0 < threads }
+        requires prices { ArePrices self.now prices.now }
+        requires covers { length seen.old ≡ length self.now.persons }
+        ensures look { IfOk result
             (λ look. IsLook self.now prices.now look.bound look.leasts.items) }
+        ensures covers { length seen.new ≡ length seen.old }
     {
         priced_shares_add_up();
         shares_add_up();
-        let leasts = self.leasts(alloc, prices, columns)?;
+        let leasts = self.leasts(rt, alloc, threads, prices, seen)?;
         let terms = sum_of_terms(self.problem, prices);
         let parts = leasts.sum + terms;
         let bound = cost_without_pairings(self.problem) + in_units(parts);
@@ -101,13 +109,13 @@ impl<'a> Pricing<'a> {
         &self.networks[k]
     }
 
-    /// No line of person `k` has a lower reduced cost at the prices.
-    fn least(
+    /// No line of person `k` has a lower reduced cost at the prices. The person's columns are renewed.
+    pub(crate) fn least(
         &self,
         alloc: Global,
         k: usize,
         prices: &[i64],
-        columns: &mut [Columns],
+        columns: &mut Columns,
     ) -> Result<i64, AllocError>
         requires person { k < length self.now.persons }
         requires prices { ArePrices self.now prices.now }
@@ -117,22 +125,28 @@ impl<'a> Pricing<'a> {
     }
 
     /// What each person's reduced costs are at least, and the sum.
-    fn leasts(
+    fn leasts<R: Threads + Sync>(
         &self,
+        rt: &R,
         alloc: Global,
+        threads: usize,
         prices: &[i64],
-        columns: &mut [Columns],
+        seen: &mut [Seen],
     ) -> Result<Leasts, AllocError>
-        requires { ArePrices self.now prices.now }
+        requires threads { 0 < threads }
+        requires prices { ArePrices self.now prices.now }
+        requires covers { length seen.old ≡ length self.now.persons }
         ensures are { IfOk result (λ leasts. AreLeasts self.now prices.now
             (length self.now.persons) leasts.sum leasts.each.items) }
         ensures within { IfOk result (λ leasts. IsWithin (MOST_PERSONS * MOST_LEAST) leasts.sum) }
+        ensures covers { length seen.new ≡ length seen.old }
     {
         self.problem.is_sound();
+        look_at_all(rt, alloc, threads, self, prices, seen);
         let mut sum = 0;
         let mut each = Vec::new(alloc);
-        for k in 0..self.problem.persons().len() {
-            let least = self.least(alloc, k, prices, columns)?;
+        for k in 0..seen.len() {
+            let least = seen[k].least?;
             each.push(least)?;
             sum += least;
         }
@@ -147,7 +161,7 @@ fn least_of(
     k: usize,
     network: &Network,
     prices: &[i64],
-    columns: &mut [Columns],
+    columns: &mut Columns,
 ) -> Result<i64, AllocError>
     requires person { k < length problem.now.persons }
     requires network { IsNetwork problem.now k network.now }
@@ -161,7 +175,7 @@ fn least_of(
     let rows = rows_of(alloc, problem, k, network, &values)?;
     let row = row_behind(alloc, problem, k, network, &values, &rows, &network.first)?;
     let least = row.first();
-    renew_at(alloc, k, network, prices, &values, &rows, least, columns)?;
+    renew_at(alloc, network, prices, &values, &rows, least, columns)?;
     Ok(least)
 }
 

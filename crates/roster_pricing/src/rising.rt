@@ -9,18 +9,19 @@ ghost use Rattle.roster_lines.specs.Person.{AreListed, IsOfTable};
 ghost use Rattle.roster_pricing.specs.Looks.{IsLook};
 ghost use Rattle.roster_pricing.specs.Reduced.{ArePrices};
 
-use crate::columns::Columns;
 use crate::gap::lines_of_gap;
 use crate::lists::amount_at;
 use crate::master::ascend;
 use crate::parts::{MOST_PRICE, PARTS};
+use crate::persons::{Seen, unseen};
 use crate::pricing::Pricing;
-use crate::tuning::{FIRST_REACH, FIRST_STRIDE, LEAST_STRIDE, MOST_IDLE, MOST_STRIDE};
+use crate::tuning::{FIRST_STRIDE, LEAST_STRIDE, MOST_IDLE, MOST_STRIDE};
 use roster_lines::{Table, TableFault};
 use roster_model::limits::MOST_LINES;
 use roster_problem::Problem;
 use std::alloc::{AllocError, Global};
 use std::marker::Model;
+use std::thread::Threads;
 
 /// A number that no legal roster costs less than, and the prices that say so: the best so far. Contracts see
 /// the problem and the number.
@@ -28,7 +29,7 @@ use std::marker::Model;
 pub struct PricedBound<'a> {
     problem: &'a Problem,
     pricing: Pricing<'a>,
-    columns: Vec<Columns>,
+    seen: Vec<Seen>,
     prices: Vec<i64>,
     leasts: Vec<i64>,
     bound: i64,
@@ -40,29 +41,36 @@ pub struct PricedBound<'a> {
 }
 
 impl<'a> Model for PricedBound<'a> {
+    ghost use Rattle.std.specs.Prelude.{vec_len};
     ghost use Rattle.roster_pricing.specs.Looks.{Bounded, IsPricedBound};
 
     ghost Value = { Bounded };
 
     ghost view = { λ b. record { problem = b.problem.now; bound = b.bound } };
 
-    ghost invariant = { λ b. IsPricedBound b.problem.now b.pricing b.prices.items b.leasts.items
-        b.bound };
+    ghost invariant = { λ b. IsPricedBound b.problem.now b.pricing (vec_len b.seen)
+        b.prices.items b.leasts.items b.bound };
 }
 
 impl<'a> PricedBound<'a> {
-    /// What no prices at all say.
-    pub fn new(alloc: Global, problem: &'a Problem) -> Result<PricedBound<'a>, AllocError>
+    /// What no prices at all say. So many threads at most share the persons.
+    pub fn new<R: Threads + Sync>(
+        rt: &R,
+        alloc: Global,
+        threads: usize,
+        problem: &'a Problem,
+    ) -> Result<PricedBound<'a>, AllocError>
+        requires { 0 < threads }
         ensures { IfOk result (λ bound. bound.problem ≡ problem.now) }
     {
         let pricing = Pricing::new(alloc, problem)?;
-        let mut columns = no_columns(alloc, problem.persons().len())?;
+        let mut seen = unseen(alloc, problem.persons().len())?;
         let prices = no_prices(alloc, problem)?;
-        let look = pricing.look(alloc, &prices, &mut columns)?;
+        let look = pricing.look(rt, alloc, threads, &prices, &mut seen)?;
         Ok(PricedBound {
             problem,
             pricing,
-            columns,
+            seen,
             prices,
             leasts: look.leasts,
             bound: look.bound,
@@ -83,15 +91,24 @@ impl<'a> PricedBound<'a> {
     /// Raises the bound by so many looks at other prices. Each look lists the chains that cost least, and the
     /// next prices are the best ones for all chains that are known: column generation, with prices kept near
     /// those of the best look. It ends before so many looks if many in a row say no more, or if the bound is
-    /// what a known roster costs.
-    pub fn raise(&mut self, alloc: Global, known: i64, looks: u32) -> Result<(), AllocError>
+    /// what a known roster costs. So many threads at most share the persons of a look, and each number of
+    /// them gives the same bound.
+    pub fn raise<R: Threads + Sync>(
+        &mut self,
+        rt: &R,
+        alloc: Global,
+        threads: usize,
+        known: i64,
+        looks: u32,
+    ) -> Result<(), AllocError>
+        requires { 0 < threads }
         ensures { self.new.problem ≡ self.old.problem }
     {
         for _ in 0..looks {
             if self.idle >= MOST_IDLE || self.bound >= known {
                 break;
             }
-            self.step(alloc)?;
+            self.step(rt, alloc, threads)?;
         }
         Ok(())
     }
@@ -119,14 +136,30 @@ impl<'a> PricedBound<'a> {
     }
 
     /// Looks at the next prices, and takes them if they say more.
-    fn step(&mut self, alloc: Global) -> Result<(), AllocError>
+    fn step<R: Threads + Sync>(
+        &mut self,
+        rt: &R,
+        alloc: Global,
+        threads: usize,
+    ) -> Result<(), AllocError>
+        requires { 0 < threads }
         ensures { self.new.problem ≡ self.old.problem }
     {
         let problem = self.problem;
         let penalties = penalties(alloc, problem)?;
-        let wanted = ascend(alloc, &self.columns, &self.prices, &penalties, self.stride)?;
+        let wanted = ascend(
+            rt,
+            alloc,
+            threads,
+            &self.seen,
+            &self.prices,
+            &penalties,
+            self.stride,
+        )?;
         let prices = limited(alloc, problem, &wanted)?;
-        let look = self.pricing.look(alloc, &prices, &mut self.columns)?;
+        let look = self
+            .pricing
+            .look(rt, alloc, threads, &prices, &mut self.seen)?;
         if look.parts > self.parts {
             self.idle = if look.bound > self.bound {
                 0
@@ -162,15 +195,6 @@ fn no_prices(alloc: Global, problem: &Problem) -> Result<Vec<i64>, AllocError>
 {
     let prices = vec![in alloc; 0; problem.pairings().len()]?;
     Ok(prices)
-}
-
-/// For each person no columns.
-fn no_columns(alloc: Global, count: usize) -> Result<Vec<Columns>, AllocError> {
-    let mut columns = Vec::new(alloc);
-    for _ in 0..count {
-        columns.push(Columns::new(alloc, FIRST_REACH))?;
-    }
-    Ok(columns)
 }
 
 /// What it costs to leave each pairing open, in parts of a cost unit.

@@ -18,6 +18,9 @@ pub(crate) const MOST_REACH: i64 = 2000 * 64;
 /// How many chains are tried for one list.
 pub(crate) const MOST_TRIES: u32 = 1 << 18;
 
+/// How many columns are worth a thread of its own, each time that prices move by them.
+pub(crate) const COLUMNS_FOR_A_THREAD: usize = 2000;
+
 /// How often prices move by the columns before they are looked at again.
 pub(crate) const STEPS: u32 = 200;
 

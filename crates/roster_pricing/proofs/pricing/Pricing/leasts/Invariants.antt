@@ -4,7 +4,7 @@ use Rattle.roster_pricing.proofs.pricing.Pricing.leasts.Given as goal
 
 -- the first persons
 abbrev pub invariant-loop-k : goal.invariant-loop-k
-invariant-loop-k l = record {
+invariant-loop-k g l = record {
   few : l.k ≤ length l.self.persons;
   are : AreLeasts l.self l.prices l.k l.sum l.each.items;
 }

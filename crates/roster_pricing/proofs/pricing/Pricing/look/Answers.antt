@@ -7,8 +7,8 @@ use Rattle.roster_pricing.specs.Reduced.{price_at, shares_behind}
 use Rattle.roster_pricing.proofs.GapLemmas.{look_is}
 use Rattle.roster_pricing.proofs.pricing.Pricing.look.Goals as goal
 
-pub returns : goal.returns
-returns c =
+pub returns-clause-look : goal.returns-clause-look
+returns-clause-look g c =
     let problem = c.args.self.now in
     let prices = c.args.prices.now in
     let same = c.self.view_is in

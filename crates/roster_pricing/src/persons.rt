@@ -1,0 +1,59 @@
+//! Looks at each person, shared among threads.
+
+ghost use Rattle.std.specs.Prelude.{◌≡◌, ◌<◌, IfOk, length, vec_len};
+ghost use Rattle.roster_pricing.specs.Looks.{AreSeen, IsSeen};
+ghost use Rattle.roster_pricing.specs.Reduced.{ArePrices};
+
+use crate::columns::Columns;
+use crate::pricing::Pricing;
+use crate::tuning::FIRST_REACH;
+use std::alloc::{AllocError, Global};
+use std::thread::{Threads, for_each_mut};
+
+/// What looks know of a person.
+#[derive(Drop)]
+pub(crate) struct Seen {
+    /// The chains that are known.
+    pub(crate) columns: Columns,
+    /// What the last look says that reduced costs are at least, in parts of a cost unit.
+    pub(crate) least: Result<i64, AllocError>,
+}
+
+/// Of so many persons, before the first look.
+pub(crate) fn unseen(alloc: Global, count: usize) -> Result<Vec<Seen>, AllocError>
+    ensures { IfOk result (λ seen. vec_len seen ≡ count) }
+{
+    let mut seen = Vec::new(alloc);
+    seen.resize_with(
+        count,
+        || Seen {
+            columns: Columns::new(alloc, FIRST_REACH),
+            least: Err(AllocError),
+        },
+    )?;
+    Ok(seen)
+}
+
+/// Looks at each person at the prices, by so many threads at most. It comes to the same for any number of
+/// them, since nobody's look asks what another one's said.
+pub(crate) fn look_at_all<R: Threads + Sync>(
+    rt: &R,
+    alloc: Global,
+    threads: usize,
+    pricing: &Pricing<'_>,
+    prices: &[i64],
+    seen: &mut [Seen],
+)
+    requires threads { 0 < threads }
+    requires prices { ArePrices pricing.now prices.now }
+    requires covers { length seen.old ≡ length pricing.now.persons }
+    ensures { AreSeen pricing.now prices.now seen.new }
+{
+    let look = |k: usize, one: &mut Seen|
+        requires { (k < length pricing.now.persons) × ArePrices pricing.now prices.now }
+        ensures { IsSeen pricing.entry.now prices.entry.now k one.new }
+    {
+        one.least = pricing.least(alloc, k, prices, &mut one.columns);
+    };
+    for_each_mut(rt, seen, threads, &look);
+}
