@@ -21,10 +21,10 @@ const FEWEST_WORK: u64 = 1 << 19;
 pub struct Means {
     /// How much is tried, from 0 to 9: each one more doubles it. What is more counts as 9.
     pub effort: u32,
-    /// So many threads at most share searches and looks at prices.
+    /// So many threads at most, and one at least, share searches and looks at prices.
     pub workers: usize,
-    /// So many legal sets at most a person may have in one step, from 1 to 200000. If somebody has more,
-    /// the step is left out.
+    /// So many legal sets at most a person may have in one step, from 1 to 200000; less counts as 1, and more
+    /// as 200000. If somebody has more, the step is left out. In a neighbourhood it is 4096 at most.
     pub most_sets: usize,
 }
 

@@ -349,5 +349,5 @@ fn are_few_within(values: &[i64], most: i64, few: usize) -> bool {
             count = count.wrapping_add(usize::from(*value <= most));
         }
     }
-    count <= few / VALUES_A_SAMPLE
+    count <= few.div_ceil(VALUES_A_SAMPLE)
 }

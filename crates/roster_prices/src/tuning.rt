@@ -56,8 +56,9 @@ pub(crate) const FEW_NEAR_LINES: usize = 4_096;
 /// See `NEAR_PART`.
 pub(crate) const MOST_CUTS: usize = 8;
 
-/// Whether lines are so few is told from one in so many. It is odd, so that it doesn't go in step with lines
-/// that have a pairing and lines that don't.
+/// Whether lines are so few is told from one in so many: to count them all took a tenth of the time of 127
+/// crew with 196,527 lines each. It is odd, so that it doesn't go in step with lines that have a pairing and
+/// lines that don't.
 pub(crate) const VALUES_A_SAMPLE: usize = 17;
 
 /// So many looks at near lines come before the next one at all, at first and at most: twice as many as

@@ -1,5 +1,5 @@
-//! The best prices for the chains that are known: the linear program of these columns, nearly. Nothing rests on
-//! them.
+//! The best prices for the chains that are known: the linear program of these columns, nearly. Nothing rests
+//! on them.
 
 ghost use Rattle.std.specs.Prelude.{◌<◌};
 
@@ -24,7 +24,7 @@ struct Way {
 
 /// The columns of some persons at some prices.
 #[derive(Drop)]
-struct Part {
+struct Portion {
     // The values of one person's columns.
     values: Vec<i64>,
     // For each pairing the shares of the columns that have it.
@@ -48,11 +48,11 @@ pub(crate) fn ascend<R: Threads + Sync>(
     requires { 0 < threads }
 {
     let mut way = start(alloc, center)?;
-    let mut parts = parts_of(alloc, threads, seen, center.len())?;
+    let mut portions = portions_of(alloc, threads, seen, center.len())?;
     for _ in 0..STEPS {
-        cover_all(rt, threads, seen, &way, &mut parts);
+        cover_all(rt, threads, seen, &way, &mut portions);
         let mut covers = vec![in alloc; 0; center.len()]?;
-        let sum = added(&parts, &mut covers)?;
+        let sum = added(&portions, &mut covers)?;
         let terms = sum_of_terms(&way.prices, penalties);
         judge(alloc, &mut way, sum.wrapping_add(terms))?;
         advance(&mut way, &covers, center, penalties, stride);
@@ -60,48 +60,48 @@ pub(crate) fn ascend<R: Threads + Sync>(
     Ok(way.best)
 }
 
-/// As many parts as there are columns for, each for a thread of its own.
-fn parts_of(
+/// As many portions as there are columns for, each for a thread of its own.
+fn portions_of(
     alloc: Global,
     threads: usize,
     seen: &[Seen],
     pairings: usize,
-) -> Result<Vec<Part>, AllocError> {
+) -> Result<Vec<Portion>, AllocError> {
     let mut columns: usize = 0;
     for one in seen {
         columns = columns.saturating_add(one.columns.len());
     }
-    let mut parts = Vec::new(alloc);
+    let mut portions = Vec::new(alloc);
     for _ in 0..threads.min(columns / COLUMNS_FOR_A_THREAD).max(1) {
-        parts.push(Part {
+        portions.push(Portion {
             values: Vec::new(alloc),
             covers: vec![in alloc; 0; pairings]?,
             cost: Ok(0),
         })?;
     }
-    Ok(parts)
+    Ok(portions)
 }
 
-/// Each part covers with the columns of its persons.
+/// Each portion covers with the columns of its persons.
 fn cover_all<R: Threads + Sync>(
     rt: &R,
     threads: usize,
     seen: &[Seen],
     way: &Way,
-    parts: &mut [Part],
+    portions: &mut [Portion],
 )
     requires { 0 < threads }
 {
-    let count = parts.len().max(1);
-    let cover = |nth: usize, part: &mut Part|
+    let count = portions.len().max(1);
+    let cover = |nth: usize, portion: &mut Portion|
         requires { 0 < count }
     {
-        part.cost = part.cover(seen, way, nth, count);
+        portion.cost = portion.cover(seen, way, nth, count);
     };
-    for_each_mut(rt, parts, threads, &cover);
+    for_each_mut(rt, portions, threads, &cover);
 }
 
-impl Part {
+impl Portion {
     /// Covers with the columns of one person of each so many, from the `nth` on. What they cost.
     fn cover(
         &mut self,
@@ -131,17 +131,17 @@ impl Part {
     }
 }
 
-/// Adds the covers of all parts to these. What all persons cost.
-fn added(parts: &[Part], covers: &mut [i64]) -> Result<i64, AllocError> {
+/// Adds the covers of all portions to these. What all persons cost.
+fn added(portions: &[Portion], covers: &mut [i64]) -> Result<i64, AllocError> {
     let mut sum: i64 = 0;
-    for part in parts {
-        sum = sum.wrapping_add(part.cost?);
-        add_up(covers, &part.covers);
+    for portion in portions {
+        sum = sum.wrapping_add(portion.cost?);
+        add_up(covers, &portion.covers);
     }
     Ok(sum)
 }
 
-/// Adds the covers of a part to these.
+/// Adds the covers of a portion to these.
 fn add_up(covers: &mut [i64], more: &[i64]) {
     for p in 0..covers.len() {
         covers[p] = covers[p].wrapping_add(amount_at(more, p));

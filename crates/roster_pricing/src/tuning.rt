@@ -1,4 +1,5 @@
-//! Numbers that were found by measuring. Each may be another one: no bound rests on them, only how good it is.
+//! Numbers that were found by measuring. Each may be another one: no bound rests on them, only how good it
+//! is.
 
 /// One, in shares.
 pub(crate) const ONE: i64 = 1 << 16;
@@ -18,7 +19,8 @@ pub(crate) const MOST_REACH: i64 = 2000 * 64;
 /// How many chains are tried for one list.
 pub(crate) const MOST_TRIES: u32 = 1 << 18;
 
-/// How many columns are worth a thread of its own, each time that prices move by them.
+/// How many columns are worth a thread of its own, each time that prices move by them: threads start `STEPS`
+/// times between two looks.
 pub(crate) const COLUMNS_FOR_A_THREAD: usize = 2000;
 
 /// How often prices move by the columns before they are looked at again.

@@ -78,8 +78,8 @@ pub fn least_by_bases(
     }
 }
 
-/// One thread that finds a roster. It ends with a fault once it has done so much work, and then `is_over` says
-/// that it was no want of memory.
+/// One thread that finds a roster. It ends with a fault once it has done so much work, and then `is_over`
+/// says that it was no want of memory.
 #[derive(Drop)]
 struct Patience {
     left: u64,

@@ -40,7 +40,7 @@ pub(crate) fn refine(
 {
     let room = room(region, most);
     let mut ascent = Ascent::at_node(alloc, problem, region, prices)?;
-    if !fix_many(alloc, problem, region, &mut ascent, most)? {
+    if !fix_first(alloc, problem, region, &mut ascent, most)? {
         return Ok(Refined::Nothing);
     }
     for step in 0..NODE_STEPS {
@@ -80,12 +80,12 @@ fn fix(
     if !ascent.look(alloc, problem, region, room)? {
         return Ok(true);
     }
-    fix_at_once(alloc, problem, region, ascent, most)
+    fix_by_prices(alloc, problem, region, ascent, most)
 }
 
 /// Leaves out of a region of many lines what costs more than it may by the prices, before they are looked
 /// at: that is cheaper than a look, and often leaves little to look at. False if each roster costs more.
-fn fix_many(
+fn fix_first(
     alloc: Global,
     problem: &Problem,
     region: &mut Region,
@@ -100,11 +100,11 @@ fn fix_many(
     if ascent.lines() <= MANY_LINES {
         return Ok(true);
     }
-    fix_at_once(alloc, problem, region, ascent, most)
+    fix_by_prices(alloc, problem, region, ascent, most)
 }
 
 /// Leaves out of the region what costs more than it may by the prices. False if each roster costs more.
-fn fix_at_once(
+fn fix_by_prices(
     alloc: Global,
     problem: &Problem,
     region: &mut Region,

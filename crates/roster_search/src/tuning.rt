@@ -8,8 +8,8 @@ pub(crate) const ROOT_STEPS: usize = 300;
 /// The number of the last of them.
 pub(crate) const LAST_ROOT_STEP: usize = ROOT_STEPS - 1;
 
-/// After so many of these steps a roster is rounded again. It divides the steps on a sample, so that one is
-/// rounded at the first look at all lines: with 16 a `large` month took a third longer.
+/// After so many of these steps a roster is rounded again, unless the look is at a sample. With 8 a `full`
+/// month takes 1 of a hundred longer, and with 16 a `large` one took a third longer.
 pub(crate) const STEPS_A_ROUNDING: usize = 12;
 
 /// With more lines than this a root fixes nothing: to write the lines that are left takes as long as some
@@ -19,7 +19,8 @@ pub(crate) const FEW_LINES_TO_FIX: usize = 100_000;
 /// How often prices move at a node, at most. With none or 5 there were a hundred times the nodes.
 pub(crate) const NODE_STEPS: usize = 20;
 
-/// With more lines than this a node fixes by the prices of the node above before it looks.
+/// With more lines than this a node fixes by the prices of the node above before it looks: of 25 million
+/// lines (127 crew of `bench/crowd`) that takes 0.1 s if nothing goes, where a look takes 0.4 s.
 pub(crate) const MANY_LINES: usize = 20_000;
 
 /// After this step a roster is rounded, and after the last one.

@@ -11,7 +11,7 @@ use Rattle.roster_search.proofs.refining.refine.Goals as goal
 pub returns-then-not-branch : goal.returns-then-not-branch
 returns-then-not-branch c =
     let problem = c.args.problem.now in
-    let none = says_no _ _ _ c.in_ok-fix_many.ensures c.if-not-branch.true in
+    let none = says_no _ _ _ c.in_ok-fix_first.ensures c.if-not-branch.true in
     subst (IsAllAbove problem c.args.region.now) (to_z-of_z w64 c.args.most c.ranges.most) none
 
 pub returns-then-not-branch-2 : goal.returns-then-not-branch-2
