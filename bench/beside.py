@@ -342,7 +342,8 @@ def whole(month, sets, start, folder):
     chosen = sorted(columns[name] for _, name, value, _ in lines if name in columns and float(value) > 0.5)
     if [k for k, _ in chosen] != list(range(len(sets))):
         sys.exit("bench/plan: CBC gives no roster.")
-    return [mask for _, mask in chosen]
+    # CBC may pass over where it was to begin.
+    return min(([mask for _, mask in chosen], start), key=month.cost)
 
 
 def problem(month, sets, folder):
