@@ -3,12 +3,12 @@
 ghost use Rattle.std.specs.Prelude.{◌≡◌, ◌<◌, IfOk, unwrap_or};
 ghost use Rattle.std.specs.Arc.{arc_value};
 ghost use Rattle.roster_lines.specs.Person.{IsTableOf};
-ghost use Rattle.roster_model.specs.Settled.{Anywhere, IsHeld, IsNotAfter};
+ghost use Rattle.roster_model.specs.Settled.{IsHeld};
 ghost use Rattle.roster_bounds.specs.Chosen.{priced_table};
 
 use crate::books::{AS_EQUAL, EQUAL_SHARES, problem_of};
 use crate::spans::{all_open, is, searched};
-use roster_bounds::{Tables, choose_tables};
+use roster_bounds::Tables;
 use roster_branchtree::{Path, Sight, Span};
 use roster_lines::{Table, table_of};
 use roster_problem::{Problem, Roster};
@@ -112,23 +112,8 @@ fn informed<'a, R: Threads + Sync>(
 {
     let better = search_bases(rt, alloc, problem, table, opening, threads)?;
     let best = better_or(alloc, better, opening)?;
-    let tables = told(alloc, problem, table, &best)?;
+    let tables = Tables::of_best(alloc, problem, table, Arc::try_clone(&best)?)?;
     Ok((best, tables))
-}
-
-/// Tables that know the best roster.
-fn told<'a>(
-    alloc: Global,
-    problem: &'a Problem,
-    table: &'a Table,
-    best: &Arc<Roster>,
-) -> Result<Tables<'a>, AllocError>
-    requires table { IsTableOf problem.now table.now }
-    requires best { IsNotAfter problem.now Anywhere (arc_value best.now) }
-    ensures { IfOk result (λ tables. tables ≡ priced_table problem.now table.now tables.prices) }
-{
-    let tables = choose_tables(alloc, problem, table)?;
-    Ok(tables.knowing(Arc::try_clone(best)?))
 }
 
 /// What these tables know, and what the search of all lists of line numbers then does.

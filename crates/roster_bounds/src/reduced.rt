@@ -10,9 +10,10 @@ ghost use Rattle.roster_lines.specs.Person.{lines_at};
 ghost use Rattle.roster_bounds.specs.Amounts.{AreReduced};
 ghost use Rattle.roster_bounds.specs.Chosen.{ArePriced, AreSums, IsReducedBound, line_set, price_at};
 
-use crate::prices::Prices;
+use crate::prices::{MOST_PRICE, Prices};
 use roster_cost::units_of_set;
 use roster_lines::Table;
+use roster_model::limits::{MOST_PAIRINGS, MOST_UNITS};
 use roster_problem::Problem;
 use std::alloc::{AllocError, Global};
 
@@ -74,6 +75,17 @@ pub(crate) fn least_reduced(
     Ok(least)
 }
 
+/// A number that no line of any person has a lower reduced cost than.
+pub(crate) fn least_of_any(problem: &Problem, prices: &Prices) -> i128
+    ensures least { (k : ℕ) → IsReducedBound problem.now prices.now k result }
+    ensures bound { AreReduced 1 result }
+{
+    saved_at_most(problem);
+    let _ = problem.pairings();
+    let _ = prices.len();
+    LEAST_REDUCED
+}
+
 /// The lesser of two numbers.
 pub(crate) fn lesser(number: i128, other: i128) -> i128
     ensures first { result ≤ℤ number }
@@ -103,6 +115,9 @@ fn saved_at_most(problem: &Problem)
 
 /// No reduced cost is above this.
 pub(crate) const MOST_REDUCED: i128 = 1 << 64;
+
+/// And none is below this: a line saves the units and the prices of all pairings at most.
+const LEAST_REDUCED: i128 = -(MOST_PAIRINGS as i128 * (MOST_UNITS as i128 + MOST_PRICE as i128));
 
 /// For each line of person `k` what its pairings have for prices, in all.
 fn price_sums(

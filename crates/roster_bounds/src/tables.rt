@@ -8,10 +8,10 @@ ghost use Rattle.roster_lines.specs.Person.{lines_at, IsTableOf};
 ghost use Rattle.roster_cost.specs.Amounts.{IsWithin};
 ghost use Rattle.roster_bounds.specs.declared.prices.TheConstants.{MOST_PRICE};
 ghost use Rattle.roster_bounds.specs.Amounts.{AreReduced};
-ghost use Rattle.roster_bounds.specs.Chosen.{line_set, priced_table, reduced_at, ArePriced, AreReducedBounds, IsReducedBound, penalty_at, price_at};
+ghost use Rattle.roster_bounds.specs.Chosen.{halves_of, line_set, priced_table, reduced_at, ArePriced, AreReducedBounds, IsReducedBound, penalty_at, price_at};
 
 use crate::prices::Prices;
-use crate::reduced::{least_reduced, reduced};
+use crate::reduced::{least_of_any, least_reduced, reduced};
 use roster_cost::comes_before;
 use roster_lines::Table;
 use roster_problem::{Problem, Roster, Set};
@@ -74,15 +74,27 @@ impl<'a> Tables<'a> {
         }
     }
 
-    /// The same tables, which know a roster that is after no legal one.
-    pub fn knowing(self, best: Arc<Roster>) -> Tables<'a>
-        requires { IsNotAfter self.problem Anywhere (arc_value best) }
-        ensures { result ≡ self.entry }
+    /// The tables for who knows a roster that is after no legal one: each price is 0, and no line is looked at.
+    pub fn of_best(
+        alloc: Global,
+        problem: &'a Problem,
+        table: &'a Table,
+        best: Arc<Roster>,
+    ) -> Result<Tables<'a>, AllocError>
+        requires lines { IsTableOf problem.now table.now }
+        requires best { IsNotAfter problem.now Anywhere (arc_value best) }
+        ensures { IfOk result (λ tables.
+            tables ≡ priced_table problem.now table.now (halves_of problem.now 0)) }
     {
-        Tables {
+        let prices = Prices::of_penalties(alloc, problem, 0)?;
+        let bounds = far_bounds(alloc, problem, &prices)?;
+        Ok(Tables {
+            problem,
+            table,
+            prices,
+            bounds,
             best: Some(best),
-            ..self
-        }
+        })
     }
 
     /// Whether it is known that no legal roster comes before this one. It takes no memory.
@@ -202,5 +214,15 @@ fn bounds_of(
     for k in 0..problem.persons().len() {
         bounds.push(least_reduced(alloc, problem, table, prices, k)?)?;
     }
+    Ok(bounds)
+}
+
+/// The same without a look at the lines: for each person a number that is below what any line may have.
+fn far_bounds(alloc: Global, problem: &Problem, prices: &Prices) -> Result<Vec<i128>, AllocError>
+    ensures { IfOk result (λ bounds. AreReducedBounds problem.now prices.now
+        (length problem.now.persons) bounds.items) }
+{
+    let least = least_of_any(problem, prices);
+    let bounds = vec![in alloc; least; problem.persons().len()]?;
     Ok(bounds)
 }

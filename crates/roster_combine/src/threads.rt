@@ -4,7 +4,7 @@ ghost use Rattle.std.specs.Prelude.{◌≡◌, ◌+◌, ◌<◌, ◌≤◌, [], 
 ghost use Rattle.std.specs.Arc.{arc_value};
 ghost use Rattle.std.specs.Thread.{IsSync};
 ghost use Rattle.roster_model.specs.Problem.{Problem as PlainProblem};
-ghost use Rattle.roster_model.specs.Settled.{Anywhere, IsHeld, IsNotAfter};
+ghost use Rattle.roster_model.specs.Settled.{IsHeld};
 ghost use Rattle.roster_lines.specs.Entries.{Entry};
 ghost use Rattle.roster_lines.specs.Person.{IsTableOf};
 ghost use Rattle.roster_bounds.specs.Chosen.{priced_table};
@@ -14,7 +14,7 @@ use crate::combining::{Solved, combine, solved_again};
 use crate::gate::Gate;
 use crate::root::{first_known, search_root, widths_of};
 use crate::working::work;
-use roster_bounds::{Tables, choose_tables};
+use roster_bounds::Tables;
 use roster_incumbent::Incumbent;
 use roster_lines::Table;
 use roster_problem::{Problem, Roster};
@@ -81,23 +81,8 @@ fn begun<'a, R: Threads + Sync>(
     let known = first_known(alloc, problem)?;
     let better = search_bases(rt, alloc, problem, table, &known, threads)?;
     let best = better_or(alloc, better, known)?;
-    let tables = informed(alloc, problem, table, &best)?;
+    let tables = Tables::of_best(alloc, problem, table, Arc::try_clone(&best)?)?;
     Ok((best, tables))
-}
-
-/// The tables for the searches of spans, which know that the roster is the best.
-fn informed<'a>(
-    alloc: Global,
-    problem: &'a Problem,
-    table: &'a Table,
-    best: &Arc<Roster>,
-) -> Result<Tables<'a>, AllocError>
-    requires table { IsTableOf problem.now table.now }
-    requires best { IsNotAfter problem.now Anywhere (arc_value best.now) }
-    ensures { IfOk result (λ tables. tables ≡ priced_table problem.now table.now tables.prices) }
-{
-    let tables = choose_tables(alloc, problem, table)?;
-    Ok(tables.knowing(Arc::try_clone(best)?))
 }
 
 /// The better roster, if there is one, or the known one.
