@@ -1,5 +1,5 @@
 -- What was made of the lines of persons.
-use Rattle.std.specs.Prelude.{◌≡◌, ℕ, ◌≤◌, List, Some, length, slice_get, MatchResult, Result}
+use Rattle.std.specs.Prelude.{◌≡◌, ℕ, ◌<◌, ◌≤◌, All, List, Some, length, slice_get, MatchResult, Result}
 use Rattle.roster_model.specs.declared.limits.TheConstants.{MOST_LINES}
 use Rattle.roster_model.specs.Lines.{AreLines}
 use Rattle.roster_model.specs.Problem.{Problem}
@@ -22,6 +22,10 @@ IsMadeOf problem k made = MatchResult made (AreMade problem k) (IsFaultOf proble
 pub record AreMadeOf (problem : Problem) (slots : List (Result (List Entry) LinesFault)) : Type 0 where
   pub covers : length slots ≡ length problem.persons
   pub each : (k : ℕ) (made : Result (List Entry) LinesFault) → slice_get slots k ≡ Some made → IsMadeOf problem k made
+
+-- and what was made of those of some persons, with their places
+abbrev pub AreMadeFor : Problem → List (ℕ × Result (List Entry) LinesFault) → Type 0
+AreMadeFor problem all = All (λ made. (made.0 < length problem.persons) × IsMadeOf problem made.0 made.1) all
 
 -- the table has the lines of the first persons
 abbrev pub IsTableSoFar : Problem → List (List Entry) → Type 0

@@ -1,7 +1,7 @@
 //! The lines of all persons, by several threads.
 
-ghost use Rattle.std.specs.Prelude.{◌≡◌, ◌<◌, IfErr, IfOk, length};
-ghost use Rattle.roster_lines.specs.Made.{AreMadeOf, IsMadeOf};
+ghost use Rattle.std.specs.Prelude.{◌≡◌, ◌<◌, All, IfErr, IfOk, length};
+ghost use Rattle.roster_lines.specs.Made.{AreMadeFor, AreMadeOf};
 ghost use Rattle.roster_lines.specs.Person.{IsTableOf};
 ghost use Rattle.roster_lines.specs.TableFaults.{IsTableFaultOf};
 
@@ -9,13 +9,17 @@ use crate::extend::{LinesFault, lines_of};
 use crate::lines::Lines;
 use crate::table::{Table, TableFault};
 use roster_problem::Problem;
-use std::alloc::Global;
-use std::thread::{Threads, for_each_mut};
+use std::alloc::{AllocError, Global};
+use std::sync::atomic::{AtomicUsize, Ordering};
+use std::thread::{Threads, map_indices};
+
+/// What was made of the lines of the person at the place.
+type Made = (usize, Result<Lines, LinesFault>);
 
 /// The lines of all persons, made by so many threads at most: the table of `table_of`, for every number
-/// of them. Each thread takes some persons that follow one another. The faults are looked at in book
-/// order once all have ended, so the first person whose lines weren't made decides between `TooMany` and
-/// `Memory`, whatever thread made whose lines.
+/// of them. Each thread makes the lines of the next person until nobody is left. The faults are looked at in
+/// book order once all have ended, so the first person whose lines weren't made decides between `TooMany`
+/// and `Memory`, whatever thread made whose lines.
 pub fn all_lines<R: Threads + Sync>(
     rt: &R,
     alloc: Global,
@@ -26,34 +30,80 @@ pub fn all_lines<R: Threads + Sync>(
     ensures table { IfOk result (IsTableOf problem.now) }
     ensures fault { IfErr result (IsTableFaultOf problem.now) }
 {
-    let mut slots = Vec::new(alloc);
-    slots.resize_with(problem.persons().len(), || Err(LinesFault::Memory))?;
-    make_all(rt, alloc, problem, workers, &mut slots);
+    let next = AtomicUsize::new(0);
+    let turns = |_: usize| -> Result<Vec<Made>, AllocError>
+        ensures { IfOk result (λ all. AreMadeFor problem.entry.now all.items) }
+    { made_in_turn(alloc, problem, &next) };
+    let threads = workers.min(problem.persons().len());
+    let lists = map_indices(rt, alloc, threads, &turns)?;
+    let slots = placed(alloc, problem, lists)?;
     gathered(alloc, problem, slots)
 }
 
-// Makes the lines of each person, and puts into the person's slot what came of it.
-fn make_all<R: Threads + Sync>(
-    rt: &R,
+/// What is made of the lines of those persons whom nobody else has taken, one after another.
+fn made_in_turn(
     alloc: Global,
     problem: &Problem,
-    workers: usize,
-    slots: &mut [Result<Lines, LinesFault>],
-)
-    requires workers { 0 < workers }
-    requires slots { length slots.old ≡ length problem.now.persons }
-    ensures { AreMadeOf problem.now slots.new }
+    next: &AtomicUsize,
+) -> Result<Vec<Made>, AllocError>
+    ensures { IfOk result (λ all. AreMadeFor problem.now all.items) }
 {
-    let make = |k: usize, slot: &mut Result<Lines, LinesFault>|
-        requires { k < length problem.now.persons }
-        ensures { IsMadeOf problem.entry.now k slot.new }
-    {
-        *slot = lines_of(alloc, problem, k);
-    };
-    for_each_mut(rt, slots, workers, &make);
+    let persons = problem.persons().len();
+    let mut all = Vec::with_capacity(alloc, persons)?;
+    for _ in 0..persons {
+        let k = next.fetch_add(1, Ordering::SeqCst);
+        if k >= persons {
+            break;
+        }
+        all.push((k, lines_of(alloc, problem, k)))?;
+    }
+    Ok(all)
 }
 
-// The table of the lines in the slots, or the fault of the first slot that has one.
+/// A slot for each person, with what was made of the person's lines.
+fn placed(
+    alloc: Global,
+    problem: &Problem,
+    lists: Vec<Result<Vec<Made>, AllocError>>,
+) -> Result<Vec<Result<Lines, LinesFault>>, AllocError>
+    requires { All (λ list. IfOk list (λ all. AreMadeFor problem.now all.items)) lists.items }
+    ensures { IfOk result (λ slots. AreMadeOf problem.now slots.items) }
+{
+    let mut lists = lists;
+    let mut slots = empty_slots(alloc, problem)?;
+    while let Some(list) = lists.pop() {
+        put(problem, list?, &mut slots);
+    }
+    Ok(slots)
+}
+
+/// A slot for each person, with no lines.
+fn empty_slots(
+    alloc: Global,
+    problem: &Problem,
+) -> Result<Vec<Result<Lines, LinesFault>>, AllocError>
+    ensures { IfOk result (λ slots. AreMadeOf problem.now slots.items) }
+{
+    let mut slots = Vec::new(alloc);
+    for _ in 0..problem.persons().len() {
+        slots.push(Err(LinesFault::Memory))?;
+    }
+    Ok(slots)
+}
+
+/// Puts what was made of the lines of persons into their slots.
+fn put(problem: &Problem, list: Vec<Made>, slots: &mut Vec<Result<Lines, LinesFault>>)
+    requires list { AreMadeFor problem.now list.items }
+    requires slots { AreMadeOf problem.now slots.old.items }
+    ensures { AreMadeOf problem.now slots.new.items }
+{
+    let mut list = list;
+    while let Some((k, made)) = list.pop() {
+        slots[k] = made;
+    }
+}
+
+/// The table of the lines in the slots, or the fault of the first slot that has one.
 fn gathered(
     alloc: Global,
     problem: &Problem,
