@@ -23,10 +23,11 @@ use std::sync::{Arc, Wait};
 /// Takes spans from the pool and searches them, until the pool is at rest or was stopped. What it answers
 /// are the spans that it finished, with the roster by which each is settled, in order.
 ///
-/// Before each search it splits its span while nothing is pending for other workers. It looks at the
-/// incumbent at each node of its searches, and raises it to each roster that it finds. A pool
-/// that refuses its calls is stopped, and the list so far is the answer. If memory runs out, the pool is
-/// stopped too, and its hand stays full. It may wait for a span and for the locks.
+/// Before each search it splits its span while nothing is pending for other workers, unless the tables know
+/// that nothing comes before its last roster. It looks at the incumbent at each node of its searches, and
+/// raises it to each roster that it finds. A pool that refuses its calls is stopped, and the list so far is
+/// the answer. If memory runs out, the pool is stopped too, and its hand stays full. It may wait for a span
+/// and for the locks.
 pub fn work<R: Wait, L: Ledger, G: Gate>(
     rt: &R,
     alloc: Global,
@@ -117,7 +118,7 @@ impl<'a, R: Wait, L: Ledger, G: Gate> Worker<'a, R, L, G> {
         ensures counted { IfOk result (λ got. MatchOption got (share.new ≡ share.old)
             (λ _. share.new ≡ share.old + 1)) }
     {
-        let Some(piece) = self.next()? else {
+        let Some(piece) = self.next(known)? else {
             return Ok(None);
         };
         self.gate.pass(self.number, Point::Ready);
@@ -126,9 +127,9 @@ impl<'a, R: Wait, L: Ledger, G: Gate> Worker<'a, R, L, G> {
     }
 
     /// What the worker keeps of a span from the pool.
-    fn next(&self) -> Result<Option<Piece>, AllocError> {
+    fn next(&self, known: &Roster) -> Result<Option<Piece>, AllocError> {
         match self.pool.wait_take(self.rt, self.number) {
-            Ok(Some(piece)) => self.shared(piece),
+            Ok(Some(piece)) => self.shared(piece, known),
             Ok(None) => Ok(None),
             Err(fault) => {
                 self.refused(fault)?;
@@ -137,8 +138,12 @@ impl<'a, R: Wait, L: Ledger, G: Gate> Worker<'a, R, L, G> {
         }
     }
 
-    /// What the worker keeps of the piece, once something is pending for others or it can't be split.
-    fn shared(&self, piece: Piece) -> Result<Option<Piece>, AllocError> {
+    /// What the worker keeps of the piece, once something is pending for others or it can't be split. It keeps
+    /// all of it if nothing comes before its roster: then the search ends as soon as it begins.
+    fn shared(&self, piece: Piece, known: &Roster) -> Result<Option<Piece>, AllocError> {
+        if self.tables.none_before(known) {
+            return Ok(Some(piece));
+        }
         let mut piece = piece;
         for _ in self.rt.forever() {
             if !self.pool.short(self.rt) {
