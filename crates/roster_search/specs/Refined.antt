@@ -1,5 +1,5 @@
 -- What is left of a region in the search for a roster that costs at most so much.
-use Rattle.std.specs.Prelude.{ℤ}
+use Rattle.std.specs.Prelude.{ℤ, Bool, MatchBool}
 use Rattle.roster_model.specs.Problem.{Problem}
 use Rattle.roster_model.specs.Settled.{IsWithinCost}
 use Rattle.roster_regions.specs.Bounds.{CostsAtMost, IsAllAbove}
@@ -13,3 +13,9 @@ abbrev pub IsRefined : Problem → ℤ → Region → Region → Refined → Typ
 IsRefined problem most old new (Found roster) = IsWithinCost problem (IsIn problem old) most roster
 IsRefined problem most old new Nothing = IsAllAbove problem old most
 IsRefined problem most old new (Part prices) = IsNarrowed problem (CostsAtMost problem most) old new
+
+-- The region has lost nothing that costs at most so much; or, if that is false, each of its rosters costs
+-- more.
+abbrev pub IsFixed : Problem → ℤ → Region → Region → Bool → Type 0
+IsFixed problem most old new left =
+    MatchBool left (IsNarrowed problem (CostsAtMost problem most) old new) (IsAllAbove problem old most)

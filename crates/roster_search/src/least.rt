@@ -98,31 +98,22 @@ fn cheapest_from<F: Finder>(
         (IsCheapestBelow problem.now (IsIn problem.now region.now) limit) }
     ensures goes_on { F.goes_on finder.old finder.new }
 {
-    let Some(known) = known else {
-        return cheapest(
-            alloc,
-            problem,
-            region,
-            prices,
-            i64::MIN,
-            likely,
-            limit,
-            finder,
-        );
+    let most = match &known {
+        Some(roster) => roster.cost,
+        None => limit,
     };
-    let below = cheapest(
+    match cheapest(
         alloc,
         problem,
         region,
         prices,
         i64::MIN,
         likely,
-        known.cost,
+        most,
         finder,
-    )?;
-    match below {
+    )? {
         Some(roster) => Ok(Some(roster)),
-        None => Ok(Some(known)),
+        None => Ok(known),
     }
 }
 

@@ -1,11 +1,10 @@
 //! Regions made smaller by prices that rise.
 
-ghost use Rattle.std.specs.Prelude.{◌<◌, IfOk, IfSome, MatchBool, MatchOption, length};
+ghost use Rattle.std.specs.Prelude.{◌<◌, IfOk, IfSome, MatchOption, length};
 ghost use Rattle.roster_model.specs.Settled.{IsHeld, IsWithinCost};
-ghost use Rattle.roster_regions.specs.Bounds.{CostsAtMost, IsAllAbove};
 ghost use Rattle.roster_regions.specs.Prices.{ArePrices};
-ghost use Rattle.roster_regions.specs.Regions.{IsDecided, IsIn, IsNarrowed, IsRegion, IsSplit};
-ghost use Rattle.roster_search.specs.Refined.{IsRefined};
+ghost use Rattle.roster_regions.specs.Regions.{IsDecided, IsIn, IsRegion, IsSplit};
+ghost use Rattle.roster_search.specs.Refined.{IsFixed, IsRefined};
 
 use crate::root::room;
 use crate::tuning::{FIRST_ROUNDING, MANY_LINES, NODE_STEPS};
@@ -70,9 +69,7 @@ fn fix(
     room: i64,
 ) -> Result<bool, AllocError>
     requires { IsRegion problem.now region.old }
-    ensures { IfOk result (λ left. MatchBool left
-        (IsNarrowed problem.now (CostsAtMost problem.now most) region.old region.new)
-        (IsAllAbove problem.now region.old most)) }
+    ensures { IfOk result (IsFixed problem.now most region.old region.new) }
 {
     if ascent.is_decided() {
         return Ok(true);
@@ -93,9 +90,7 @@ fn fix_first(
     most: i64,
 ) -> Result<bool, AllocError>
     requires { IsRegion problem.now region.old }
-    ensures { IfOk result (λ left. MatchBool left
-        (IsNarrowed problem.now (CostsAtMost problem.now most) region.old region.new)
-        (IsAllAbove problem.now region.old most)) }
+    ensures { IfOk result (IsFixed problem.now most region.old region.new) }
 {
     if ascent.lines() <= MANY_LINES {
         return Ok(true);
@@ -112,9 +107,7 @@ fn fix_by_prices(
     most: i64,
 ) -> Result<bool, AllocError>
     requires { IsRegion problem.now region.old }
-    ensures { IfOk result (λ left. MatchBool left
-        (IsNarrowed problem.now (CostsAtMost problem.now most) region.old region.new)
-        (IsAllAbove problem.now region.old most)) }
+    ensures { IfOk result (IsFixed problem.now most region.old region.new) }
 {
     if !region.tighten(alloc, problem, ascent.prices(), most)? {
         return Ok(false);
