@@ -97,7 +97,7 @@ pub fn wanted_lines<W: Wanted>(
 }
 
 /// `wanted_lines`, for which the pairs of person `k` are known.
-pub(crate) fn lines_of_pairs<W: Wanted>(
+pub fn lines_of_pairs<W: Wanted>(
     alloc: Global,
     problem: &Problem,
     k: usize,

@@ -29,7 +29,7 @@ mod table;
 mod wanted;
 mod wanted_tables;
 
-pub use extend::{LinesFault, lines_between, lines_of, wanted_lines};
+pub use extend::{LinesFault, lines_between, lines_of, lines_of_pairs, wanted_lines};
 pub use laws::{
     all_lines_are_some, few_are_not_crowded, has_numbers, nobody_is_crowded, one_list_of_lines,
     one_list_of_numbers,

@@ -1,4 +1,5 @@
 mod ChainLemmas
+mod ListedLemmas
 mod RowLemmas
 mod ShareLemmas
 mod TermLemmas

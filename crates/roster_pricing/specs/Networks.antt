@@ -3,7 +3,7 @@ use Rattle.std.specs.Prelude.{◌≡◌, ℕ, ◌+◌, ◌*◌, ◌-◌, ◌<◌
 use Rattle.roster_model.specs.Costs.{distance, flight_of}
 use Rattle.roster_model.specs.Problem.{Problem, target_of, units_of, weight_of}
 use Rattle.roster_cost.specs.Amounts.{IsWithin, minutes_of_pairing}
-use Rattle.roster_lines.specs.Listing.{AreAlone, IsRow as AreFollowers}
+use Rattle.roster_lines.specs.Listing.{AreAlone, ArePairs, IsRow as AreFollowers}
 use Rattle.roster_pricing.specs.declared.network.Network.{Network}
 use Rattle.roster_pricing.specs.declared.parts.TheConstants.{MOST_TERM, MOST_VALUE, PARTS}
 use Rattle.roster_pricing.specs.Chains.{followers_of, next_state, value_at, IsRow}
@@ -35,6 +35,7 @@ pub record IsNetwork (problem : Problem) (k : ℕ) (network : Network) : Type 0 
   pub terms : AreTerms problem k step network.terms.items
   pub some : 0 < length network.terms.items
   pub within : All (IsWithin MOST_TERM) network.terms.items
+  pub pairs : ArePairs problem k network.pairs
 
 -- what each pairing brings
 pub record AreValues (problem : Problem) (prices : List ℤ) (k : ℕ) (values : List ℤ) : Type 0 where

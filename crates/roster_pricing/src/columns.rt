@@ -2,6 +2,7 @@
 
 use crate::lists::{amount_at, place_at};
 use crate::softness::{share_of, weight_of};
+use roster_problem::Set;
 use std::alloc::{AllocError, Global};
 
 /// The chains of one person that are known, one behind another.
@@ -13,6 +14,8 @@ pub(crate) struct Columns {
     places: Vec<u16>,
     /// How far above the least the next ones are to be listed, in parts of a cost unit.
     pub(crate) reach: i64,
+    /// Whether they are lines. Of a chain it is only known that its neighbours are legal together.
+    pub(crate) sets: bool,
 }
 
 impl Columns {
@@ -23,6 +26,15 @@ impl Columns {
             ends: Vec::new(alloc),
             places: Vec::new(alloc),
             reach,
+            sets: false,
+        }
+    }
+
+    /// None so far, which are to be lines.
+    pub(crate) fn of_sets(alloc: Global, reach: i64) -> Columns {
+        Columns {
+            sets: true,
+            ..Columns::new(alloc, reach)
         }
     }
 
@@ -34,6 +46,18 @@ impl Columns {
     /// Adds one, by its pairings and what it costs without prices.
     pub(crate) fn push(&mut self, places: &[u16], cost: i64) -> Result<(), AllocError> {
         self.places.extend_from_slice(places)?;
+        self.ends.push(self.places.len())?;
+        self.costs.push(cost)?;
+        Ok(())
+    }
+
+    /// Adds the one whose pairings are in the set, and what it costs without prices.
+    pub(crate) fn push_set(&mut self, set: &Set, cost: i64) -> Result<(), AllocError> {
+        let mut from = 0;
+        while let Some(p) = set.first_from(from) {
+            self.places.push(p as u16)?;
+            from = p + 1;
+        }
         self.ends.push(self.places.len())?;
         self.costs.push(cost)?;
         Ok(())

@@ -11,6 +11,7 @@
 //! - `rows`: the table
 //! - `columns`: chains that are known
 //! - `listing`: how they are listed
+//! - `sets`: legal sets, listed
 //! - `persons`: looks at each person, shared among threads
 //! - `pricing`: what prices say of all rosters
 //! - `master`: the best prices for the chains that are known
@@ -32,6 +33,7 @@ mod persons;
 mod pricing;
 mod rising;
 mod rows;
+mod sets;
 mod softness;
 mod terms;
 mod tuning;

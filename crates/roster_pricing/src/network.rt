@@ -6,7 +6,7 @@ ghost use Rattle.roster_pricing.specs.Networks.{IsNetwork};
 
 use crate::terms::terms_of;
 use roster_legal::{Judge, part_of_legal_is_legal};
-use roster_lines::pairs_of;
+use roster_lines::{Pairs, pairs_of};
 use roster_problem::{Problem, Set};
 use std::alloc::{AllocError, Global};
 
@@ -21,6 +21,8 @@ pub(crate) struct Network {
     pub(crate) followers: Vec<Set>,
     pub(crate) steps: Vec<usize>,
     pub(crate) terms: Vec<i64>,
+    /// What the first two are from.
+    pub(crate) pairs: Pairs,
 }
 
 /// The network of person `k`.
@@ -34,11 +36,14 @@ pub(crate) fn network_of(alloc: Global, problem: &Problem, k: usize) -> Result<N
     let step = step_of(&pairs.flights);
     let terms = terms_of(alloc, problem, k, step)?;
     let steps = steps_of(alloc, &pairs.flights, step)?;
+    let mut followers = Vec::new(alloc);
+    followers.extend_from_slice(&pairs.rows)?;
     Ok(Network {
         first: pairs.alone,
-        followers: pairs.rows,
+        followers,
         steps,
         terms,
+        pairs,
     })
 }
 

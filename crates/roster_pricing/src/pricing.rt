@@ -4,16 +4,18 @@ ghost use Rattle.std.specs.Prelude.{◌≡◌, ◌<◌, ◌*◌, ◌≤ℤ◌, �
 ghost use Rattle.roster_model.specs.Problem.{units_of};
 ghost use Rattle.roster_model.specs.Rosters.{IsLegalRoster};
 ghost use Rattle.roster_cost.specs.Amounts.{IsWithin};
-ghost use Rattle.roster_pricing.specs.Networks.{AreValues, IsNetwork};
+ghost use Rattle.roster_pricing.specs.Networks.{AreRows, AreValues, IsNetwork};
 ghost use Rattle.roster_pricing.specs.Looks.{AreLeasts, IsLook};
 ghost use Rattle.roster_pricing.specs.Reduced.{shares_behind, ArePrices, IsLeastOf, IsTermOf};
 
 use crate::columns::Columns;
+use crate::gap::Cheap;
 use crate::listing::renew_at;
 use crate::network::{Network, network_of};
 use crate::parts::{MOST_LEAST, MOST_PRICE, MOST_SUM, MOST_VALUE, PARTS};
 use crate::persons::{Seen, look_at_all};
-use crate::rows::{row_behind, rows_of};
+use crate::rows::{Row, row_behind, rows_of};
+use crate::sets::least_set;
 use roster_cost::{cost_without_pairings, priced_shares_add_up, shares_add_up};
 use roster_cumulative::flight_of_set;
 use roster_legal::part_of_legal_is_legal;
@@ -168,15 +170,43 @@ fn least_of(
     requires prices { ArePrices problem.now prices.now }
     ensures { IfOk result (IsLeastOf problem.now prices.now k) }
 {
+    let values = values_of(alloc, problem, k, prices)?;
+    let rows = rows_of(alloc, problem, k, network, &values)?;
+    let chain = least_chain(alloc, problem, k, network, prices, &values, &rows)?;
+    if columns.sets {
+        let mut cheap = Cheap::of_rows(problem, k, network, prices, values, rows, chain);
+        let least = least_set(
+            alloc, problem, k, network, prices, &mut cheap, chain, columns,
+        )?;
+        return Ok(least);
+    }
+    renew_at(alloc, network, prices, &values, &rows, chain, columns)?;
+    Ok(chain)
+}
+
+/// What a chain of person `k` brings at least. No line has a lower reduced cost.
+fn least_chain(
+    alloc: Global,
+    problem: &Problem,
+    k: usize,
+    network: &Network,
+    prices: &[i64],
+    values: &[i64],
+    rows: &[Row],
+) -> Result<i64, AllocError>
+    requires person { k < length problem.now.persons }
+    requires network { IsNetwork problem.now k network.now }
+    requires prices { ArePrices problem.now prices.now }
+    requires values { AreValues problem.now prices.now k values.now }
+    requires rows { AreRows problem.now network.now values.now rows.now }
+    requires all { length rows.now ≡ length problem.now.pairings }
+    ensures { IfOk result (IsLeastOf problem.now prices.now k) }
+{
     part_of_legal_is_legal();
     flight_of_set();
     problem.is_sound();
-    let values = values_of(alloc, problem, k, prices)?;
-    let rows = rows_of(alloc, problem, k, network, &values)?;
-    let row = row_behind(alloc, problem, k, network, &values, &rows, &network.first)?;
-    let least = row.first();
-    renew_at(alloc, network, prices, &values, &rows, least, columns)?;
-    Ok(least)
+    let row = row_behind(alloc, problem, k, network, values, rows, &network.first)?;
+    Ok(row.first())
 }
 
 /// What each pairing brings to person `k`: its units, less its price.

@@ -15,6 +15,7 @@ use crate::master::ascend;
 use crate::parts::{MOST_PRICE, PARTS};
 use crate::persons::{Seen, unseen};
 use crate::pricing::Pricing;
+use crate::sets::turn_to_sets;
 use crate::tuning::{FIRST_STRIDE, LEAST_STRIDE, MOST_IDLE, MOST_STRIDE};
 use roster_lines::{Table, TableFault};
 use roster_model::limits::MOST_LINES;
@@ -38,6 +39,8 @@ pub struct PricedBound<'a> {
     stride: i64,
     // How many looks in a row have said no more in whole cost units.
     idle: u32,
+    // Whether looks list lines and no longer chains.
+    sets: bool,
 }
 
 impl<'a> Model for PricedBound<'a> {
@@ -77,6 +80,7 @@ impl<'a> PricedBound<'a> {
             parts: look.parts,
             stride: FIRST_STRIDE,
             idle: 0,
+            sets: false,
         })
     }
 
@@ -105,10 +109,14 @@ impl<'a> PricedBound<'a> {
         ensures { self.new.problem ≡ self.old.problem }
     {
         for _ in 0..looks {
-            if self.idle >= MOST_IDLE || self.bound >= known {
+            if self.bound >= known || (self.sets && self.idle >= MOST_IDLE) {
                 break;
             }
-            self.step(rt, alloc, threads)?;
+            if self.idle >= MOST_IDLE {
+                self.turn(rt, alloc, threads)?;
+            } else {
+                self.step(rt, alloc, threads)?;
+            }
         }
         Ok(())
     }
@@ -157,6 +165,41 @@ impl<'a> PricedBound<'a> {
             self.stride,
         )?;
         let prices = limited(alloc, problem, &wanted)?;
+        self.look(rt, alloc, threads, prices)
+    }
+
+    /// Looks at the best prices again, from now on by lines.
+    fn turn<R: Threads + Sync>(
+        &mut self,
+        rt: &R,
+        alloc: Global,
+        threads: usize,
+    ) -> Result<(), AllocError>
+        requires { 0 < threads }
+        ensures { self.new.problem ≡ self.old.problem }
+    {
+        turn_to_sets(alloc, &mut self.seen);
+        self.sets = true;
+        let mut prices = Vec::new(alloc);
+        prices.extend_from_slice(&self.prices)?;
+        self.look(rt, alloc, threads, prices)?;
+        self.idle = 0;
+        self.stride = FIRST_STRIDE;
+        Ok(())
+    }
+
+    /// Looks at the prices, and takes them if they say more.
+    fn look<R: Threads + Sync>(
+        &mut self,
+        rt: &R,
+        alloc: Global,
+        threads: usize,
+        prices: Vec<i64>,
+    ) -> Result<(), AllocError>
+        requires threads { 0 < threads }
+        requires prices { ArePrices self.old.problem prices.items }
+        ensures { self.new.problem ≡ self.old.problem }
+    {
         let look = self
             .pricing
             .look(rt, alloc, threads, &prices, &mut self.seen)?;

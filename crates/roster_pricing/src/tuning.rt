@@ -42,3 +42,13 @@ pub(crate) const MOST_STRIDE: i64 = 600 * 64;
 
 /// After so many looks in a row that say no more in whole cost units the bound is as good as it gets.
 pub(crate) const MOST_IDLE: u32 = 12;
+
+/// How many lines come up in one list of a person, at most.
+pub(crate) const MOST_LISTED: usize = 20_000;
+
+/// How many lists of a person there are at one look, at most: so often a reach is halved from `MOST_REACH` to
+/// `LEAST_REACH`.
+pub(crate) const MOST_LISTS: u32 = 12;
+
+/// How far above the least chain lines are listed at first, in parts of a cost unit.
+pub(crate) const FIRST_REACH_OF_SETS: i64 = 20 * 64;
