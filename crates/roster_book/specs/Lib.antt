@@ -1,4 +1,5 @@
 pub mod View
 pub mod Flown
+pub mod Keys
 pub mod Draft
 pub mod Reading

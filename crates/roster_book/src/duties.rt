@@ -4,7 +4,7 @@ ghost use Rattle.std.specs.Prelude.{◌≡◌, ◌<◌, ◌++◌, ◌∷◌, [],
 ghost use Rattle.roster_model.specs.Record.{place_named};
 ghost use Rattle.roster_book.specs.Flown.{fits_at, sector_count, with_sector_at};
 
-use crate::named::place_of;
+use crate::named::{key_of, place_by_key};
 use roster_model::limits::MOST_SECTORS;
 use roster_problem::{Duty, Sector};
 use std::alloc::{AllocError, Global};
@@ -14,6 +14,8 @@ use std::marker::Model;
 #[derive(Drop)]
 pub(crate) struct Duties {
     duties: Vec<Duty>,
+    // The keys of their names, which a search for a name reads in place of the duties.
+    keys: Vec<u64>,
     // The sectors of them all, counted.
     sectors: usize,
 }
@@ -22,12 +24,14 @@ impl Model for Duties {
     ghost use Rattle.std.specs.Prelude.{◌≡◌, List};
     ghost use Rattle.roster_model.specs.records.Duty.{Duty as Entry};
     ghost use Rattle.roster_book.specs.Flown.{sector_count};
+    ghost use Rattle.roster_book.specs.Keys.{keys_of};
 
     ghost Value = { List Entry };
 
     ghost view = { λ d. d.duties.items };
 
-    ghost invariant = { λ d. d.sectors ≡ sector_count d.duties.items };
+    ghost invariant = { λ d. (d.sectors ≡ sector_count d.duties.items)
+        × (d.keys.items ≡ keys_of (λ duty. duty.id) d.duties.items) };
 }
 
 impl Duties {
@@ -38,6 +42,7 @@ impl Duties {
     {
         Duties {
             duties: Vec::new(alloc),
+            keys: Vec::new(alloc),
             sectors: 0,
         }
     }
@@ -76,16 +81,18 @@ impl Duties {
         ensures value { result ≡ place_named (λ duty. duty.id) name.now self.now }
         ensures within { IfSome result (λ place. place < length self.now) }
     {
-        place_of(&self.duties, name)
+        place_by_key(&self.keys, &self.duties, name)
     }
 
     /// Puts a duty without a sector behind the others.
-    #[tactic(auto, using(crate::proofs::SectorTable::sector_count_bare))]
     pub(crate) fn push(&mut self, duty: Duty) -> Result<(), AllocError>
         requires { duty.sectors ≡ [] }
         ensures { OnOk result (self.new ≡ self.old ++ duty ∷ []) }
     {
+        let key = key_of(duty.id.as_bytes());
+        self.keys.reserve(1)?;
         self.duties.push(duty)?;
+        self.keys.push_reserved(key);
         Ok(())
     }
 

@@ -3,6 +3,7 @@
 ghost use Rattle.std.specs.Prelude.{◌≡◌, ◌<◌, IfSome, length};
 ghost use Rattle.std.specs.Str.{bytes_eq};
 ghost use Rattle.roster_model.specs.Record.{place_named};
+ghost use Rattle.roster_book.specs.Keys.{key_of_name, keys_of};
 
 use roster_problem::{Base, Duty, Name, Pairing, Person};
 
@@ -66,4 +67,29 @@ pub(crate) fn place_of<T: Named>(entries: &[T], name: &[u8]) -> Option<usize>
     ensures within { IfSome result (λ place. place < length entries.now) }
 {
     entries.iter().position(|entry| is_name(entry.name(), name))
+}
+
+/// A name's key: its last eight bytes as a number, by which most names of a table are told apart.
+#[tactic(auto, unfolding(crate::specs::Keys::key_of_name))]
+pub(crate) fn key_of(name: &[u8]) -> u64
+    ensures { result ≡ key_of_name name.now }
+{
+    name.iter()
+        .fold(0, |key, byte| (key << 8) | u64::from(*byte))
+}
+
+/// The place of the entry with the name, by the keys of the entries' names: of an entry with another
+/// key only the key is read.
+pub(crate) fn place_by_key<T: Named>(keys: &[u64], entries: &[T], name: &[u8]) -> Option<usize>
+    requires { keys.now ≡ keys_of T.id_of entries.now }
+    ensures value { result ≡ place_named T.id_of name.now entries.now }
+    ensures within { IfSome result (λ place. place < length entries.now) }
+{
+    let key = key_of(name);
+    for place in 0..keys.len() {
+        if keys[place] == key && is_name(entries[place].name(), name) {
+            return Some(place);
+        }
+    }
+    None
 }
