@@ -6,8 +6,8 @@ use roster_desk_run::write_planned;
 use roster_plan::{Planned, Step, Watcher};
 use roster_problem::Problem;
 use roster_watched::Watched;
-use std::fs;
 use std::fs::File;
+use std::{fs, str};
 
 /// Tells standard error what is known of a plan, and keeps it in a file, as far as that is wanted.
 #[derive(Drop)]
@@ -38,22 +38,31 @@ impl<'a> Companion<'a> {
         self.has_failed
     }
 
-    // A line, if its numbers are new.
-    fn line(&mut self, step: Step, cost: i64, bound: i64) {
+    // A line, if its numbers are new. A step of one base names it.
+    fn line(&mut self, step: Step, base: Option<&str>, cost: i64, bound: i64) {
         if self.last == Some((cost, bound)) {
             return;
         }
         self.last = Some((cost, bound));
         let rt = self.rt;
         let gap = cost.saturating_sub(bound);
-        let _ = eprintln!(rt; "{step}: cost {cost}, bound {bound}, gap {gap}");
+        let _ = match base {
+            Some(base) => {
+                eprintln!(rt; "{step} of {base}: cost {cost}, bound {bound}, gap {gap}")
+            }
+            None => eprintln!(rt; "{step}: cost {cost}, bound {bound}, gap {gap}"),
+        };
     }
 }
 
 impl<'a> Watcher for Companion<'a> {
-    fn tell(&mut self, problem: &Problem, step: Step, planned: &Planned) {
+    fn tell(&mut self, problem: &Problem, base: Option<usize>, step: Step, planned: &Planned) {
         if self.is_told {
-            self.line(step, planned.roster.cost, planned.bound);
+            let base = match base {
+                Some(base) => name_of(problem, base),
+                None => None,
+            };
+            self.line(step, base, planned.roster.cost, planned.bound);
         }
         let Some(path) = self.keep else {
             return;
@@ -65,6 +74,15 @@ impl<'a> Watcher for Companion<'a> {
             self.has_failed = true;
         }
     }
+}
+
+/// The name of the base at the place, if somebody is of it.
+fn name_of(problem: &Problem, base: usize) -> Option<&str> {
+    let k = problem
+        .persons()
+        .iter()
+        .position(|person| person.base == base)?;
+    str::from_utf8(problem.home(k).id.as_bytes()).ok()
 }
 
 /// Writes the plan to a new file beside the one at the path, and puts it in its place. Whether that could be

@@ -1,19 +1,22 @@
 -- What pairings cost at least in a legal roster, one after another.
-use Rattle.std.proofs.Common.{◌≡◌, ℕ, ◌+◌, ◌<◌, ◌≤◌, true, eqb, ltb, cond, List, [], ◌∷◌, length, drop, get_or, Some, refl, sym, ap, ◌∙◌, subst, inl, inr, arith, ℤ, pos, ◌+ℤ◌, ◌≤ℤ◌, eq-eqb}
+use Rattle.std.proofs.Common.{◌≡◌, ℕ, suc, ◌+◌, ◌<◌, ◌≤◌, true, eqb, ltb, cond, List, [], ◌∷◌, length, drop, get_or, Some, refl, sym, ap, ◌∙◌, subst, inl, inr, arith, ℤ, pos, ◌+ℤ◌, ◌≤ℤ◌, eq-eqb}
 use Rattle.std.specs.Prelude.{slice_get}
 use Rattle.std.proofs.lemmas.Option.{get_or_from_slice_get, slice_get-get_or}
 use Rattle.std.proofs.lemmas.List.{drop_more, drop_all}
-use Rattle.std.specs.List.{range_with_len}
+use Rattle.std.specs.List.{range_with_len, sum_by}
 use Rattle.std.proofs.lemmas.Bool.{cases_eq, lt-ltb, le-ltb, ne_eqb, false≢true}
 use Rattle.std.proofs.lemmas.Int.{ints}
 use Rattle.roster_model.specs.records.Pairing.{Pairing}
 use Rattle.roster_model.specs.Problem.{Problem, units_of}
 use Rattle.roster_model.specs.Places.{set_of, open_number}
 use Rattle.roster_model.specs.Rules.{is_among, IsLegal}
-use Rattle.roster_model.specs.Costs.{cost_of, open_penalties, placed_units, missed_target}
+use Rattle.roster_model.specs.Costs.{cost_of, open_penalties, placed_units, missed_target, missed_targets}
 use Rattle.roster_model.specs.Rosters.{IsLegalRoster}
-use Rattle.roster_model.specs.Settled.{IsLowerBound}
+use Rattle.roster_pricing.specs.Homes.{IsHome, IsHomeBound}
+use Rattle.roster_search.specs.Parts.{base_of_person}
+use Rattle.roster_plan.proofs.PartLemmas.{of_home}
 use Rattle.roster_model.proofs.CostLemmas.{total-pos}
+use Rattle.roster_model.proofs.SumLemmas.{sum_by-range_more}
 use Rattle.roster_model.proofs.SetLemmas.{is_among-later}
 use Rattle.roster_model.proofs.PlacesParts.{in_set_of_number}
 use Rattle.roster_model.specs.declared.limits.TheConstants.{MOST_UNITS}
@@ -60,8 +63,17 @@ behind problem p pairing pairings x places left e f =
 none : Pairing
 none = record { id = []; base = 0; penalty = 0; row = 0 }
 
-pub one_more : (problem : Problem) (p : ℕ) (floor bound : ℤ) (places : List ℕ) → PartsAreLegal problem → IsLegalRoster problem places → p < length problem.pairings → IsFloor problem p floor → bound ≤ℤ cost_behind problem (p + 1) places → (bound +ℤ floor) ≤ℤ cost_behind problem p places
-one_more problem p floor bound places parts roster inside floored below =
+-- who has a pairing in a roster of a base is of the base
+who_has : (problem : Problem) (base p k : ℕ) (places : List ℕ) → IsHome problem base places → p < length places → k < length problem.persons → get_or places p 0 ≡ k → base_of_person problem k ≡ base
+who_has problem base p k places home inside person has =
+    elim (cases_eq (base_of_person problem k) base) [
+      | inl same ↦ same
+      | inr other ↦ absurd (false≢true (subst (λ set. is_among set p ≡ true) (of_home problem base places home k person (ne_eqb (base_of_person problem k) base other)) (in_set_of_number k p places inside has)))
+    ]
+
+pub one_more : (problem : Problem) (base p : ℕ) (floor bound missed : ℤ) (places : List ℕ) → PartsAreLegal problem → IsLegalRoster problem places → IsHome problem base places → p < length problem.pairings → IsFloor problem base p floor
+    → bound ≤ℤ (cost_behind problem (p + 1) places +ℤ missed) → (bound +ℤ floor) ≤ℤ (cost_behind problem p places +ℤ missed)
+one_more problem base p floor bound missed places parts roster home inside floored below =
     let pairing : Pairing = get_or problem.pairings p none in
     let is : slice_get problem.pairings p ≡ Some pairing = slice_get-get_or problem.pairings p none inside in
     let n = length problem.persons in
@@ -71,24 +83,25 @@ one_more problem p floor bound places parts roster inside floored below =
     let most : x ≤ n = roster.numbers p 0 there in
     let e : drop p problem.pairings ≡ pairing ∷ drop (p + 1) problem.pairings = drop_more problem.pairings p pairing inside ∙ ap (λ q. q ∷ drop (p + 1) problem.pairings) (get_or_from_slice_get problem.pairings p pairing pairing is) in
     let split = behind problem p pairing (drop (p + 1) problem.pairings) x (drop (p + 1) places) places e (drop_more places p 0 there) in
-    let own = amount n x pairing.penalty (units_of problem x p) floor most (floored.unflown pairing is) (λ person. floored.flown x person (alone_legal problem p x places parts roster there person refl)) in
+    let own = amount n x pairing.penalty (units_of problem x p) floor most (floored.unflown pairing is) (λ person. floored.flown x person (who_has problem base p x places home there person refl) (alone_legal problem p x places parts roster there person refl)) in
     omega (arith, ints, split, own, below)
 
-pub nothing_behind : (problem : Problem) (p : ℕ) (places : List ℕ) → IsLegalRoster problem places → p ≡ length problem.pairings → pos 0 ≤ℤ cost_behind problem p places
-nothing_behind problem p places roster end =
+-- behind the last pairing only missed targets are left
+pub nothing_behind : (problem : Problem) (p : ℕ) (missed others : ℤ) (places : List ℕ) → IsLegalRoster problem places → p ≡ length problem.pairings → others ≤ℤ missed → others ≤ℤ (cost_behind problem p places +ℤ missed)
+nothing_behind problem p missed others places roster end less =
     let covers = roster.covers in
     let e : drop p problem.pairings ≡ [] = drop_all p problem.pairings (omega arith) in
     let f : drop p places ≡ [] = drop_all p places (omega arith) in
-    rw (e, f) omega (arith, ints)
+    rw (e, f) omega (arith, ints, less)
 
-pub one_person_more : (problem : Problem) (k p : ℕ) (least floor : ℤ) → IsFloorAmong problem k p least → IsFloorOf problem k p least floor → IsFloorAmong problem (k + 1) p floor
-one_person_more problem k p least floor among is =
+pub one_person_more : (problem : Problem) (base k p : ℕ) (least floor : ℤ) → IsFloorAmong problem base k p least → IsFloorOf problem base k p least floor → IsFloorAmong problem base (k + 1) p floor
+one_person_more problem base k p least floor among is =
     let most = is.at_most in
     record {
       unflown = λ pairing there. let u = among.unflown pairing there in omega (arith, ints, u, most);
-      flown = λ j below legal. elim (cases_eq j k) [
-        | inl same ↦ subst (λ i. floor ≤ℤ units_of problem i p) (sym same) (is.flown (subst (λ i. IsLegal problem i (p ∷ [])) same legal))
-        | inr other ↦ let f = among.flown j (omega arith) legal in omega (arith, ints, f, most)
+      flown = λ j below own legal. elim (cases_eq j k) [
+        | inl same ↦ subst (λ i. floor ≤ℤ units_of problem i p) (sym same) (is.flown (subst (λ i. base_of_person problem i ≡ base) same own) (subst (λ i. IsLegal problem i (p ∷ [])) same legal))
+        | inr other ↦ let f = among.flown j (omega arith) own legal in omega (arith, ints, f, most)
       ];
       within = elim is.from [
         | inl same ↦ subst (IsWithin MOST_UNITS) (sym same) among.within
@@ -96,9 +109,32 @@ one_person_more problem k p least floor among is =
       ];
     }
 
-pub is_bound : (problem : Problem) (p : ℕ) (bound : ℤ) → p ≡ 0 → ((places : List ℕ) → IsLegalRoster problem places → bound ≤ℤ cost_behind problem p places) → IsLowerBound problem bound
+pub is_bound : (problem : Problem) (base p : ℕ) (bound : ℤ) → p ≡ 0
+    → ((places : List ℕ) → IsLegalRoster problem places → IsHome problem base places → bound ≤ℤ (cost_behind problem p places +ℤ missed_targets problem places))
+    → IsHomeBound problem base bound
 unfolding cost_of
-is_bound problem p bound first below places roster =
-    let missed = total-pos (λ k. missed_target problem k (set_of k places)) (range_with_len 0 (length problem.persons)) in
-    let here : bound ≤ℤ cost_behind problem 0 places = subst (λ q. bound ≤ℤ cost_behind problem q places) first (below places roster) in
-    omega (arith, ints, here, missed)
+is_bound problem base p bound first below places roster home =
+    let here : bound ≤ℤ (cost_behind problem 0 places +ℤ missed_targets problem places) = subst (λ q. bound ≤ℤ (cost_behind problem q places +ℤ missed_targets problem places)) first (below places roster home) in
+    omega (arith, ints, here)
+
+-- ---- missed targets
+
+-- what the first persons miss of their targets
+abbrev pub missed_until : Problem → List ℕ → ℕ → ℕ
+missed_until problem places n = sum_by (λ k. missed_target problem k (set_of k places)) (range_with_len 0 n)
+
+pub nobody_misses : (problem : Problem) (places : List ℕ) → pos 0 ≤ℤ pos (missed_until problem places 0)
+nobody_misses problem places = omega (arith, ints)
+
+pub one_misses_more : (problem : Problem) (places : List ℕ) (k : ℕ) (missed more sum : ℤ) → missed ≤ℤ pos (missed_until problem places k) → more ≤ℤ pos (missed_target problem k (set_of k places)) → sum ≤ℤ (missed +ℤ more)
+    → sum ≤ℤ pos (missed_until problem places (k + 1))
+one_misses_more problem places k missed more sum before here less =
+    let f : ℕ → ℕ = λ i. missed_target problem i (set_of i places) in
+    let next : k + 1 ≡ suc k = omega arith in
+    let all : missed_until problem places (k + 1) ≡ missed_until problem places k + f k = ap (λ n. sum_by f (range_with_len 0 n)) next ∙ sum_by-range_more f 0 k k (omega arith) in
+    omega (arith, ints, before, here, less, all)
+
+pub all_miss : (problem : Problem) (places : List ℕ) (missed : ℤ) → missed ≤ℤ pos (missed_until problem places (length problem.persons)) → missed ≤ℤ missed_targets problem places
+all_miss problem places missed less =
+    let sum = total-pos (λ k. missed_target problem k (set_of k places)) (range_with_len 0 (length problem.persons)) in
+    omega (arith, ints, less, sum)

@@ -1,7 +1,9 @@
 mod Reassigned
 mod KeptLemmas
+mod PartLemmas
 mod FloorLemmas
 mod PlanLemmas
 mod ExactLemmas
 mod NearLemmas
 mod PlannedLemmas
+mod MonthLemmas

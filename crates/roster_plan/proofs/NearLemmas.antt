@@ -1,9 +1,8 @@
 -- Which lines a neighbourhood has.
-use Rattle.std.proofs.Common.{◌≡◌, ℕ, ◌+◌, ◌<◌, Bool, true, false, eqb, List, [], length, replicate, refl, sym, ap, ◌∙◌, subst, inl, inr, arith}
-use Rattle.std.specs.Prelude.{unwrap_or, Option, ◌||◌}
-use Rattle.std.proofs.lemmas.Bool.{cases_lt, eq-eqb, false≢true}
-use Rattle.std.proofs.lemmas.List.{get_or-replicate, length-replicate}
-use Rattle.std.proofs.lemmas.Option.{get_or_from_slice_get, slice_get_cases, slice_get_within, slice_get-get_or}
+use Rattle.std.proofs.Common.{◌≡◌, ℕ, ◌+◌, ◌<◌, Bool, true, false, eqb, List, [], length, refl, sym, ap, ◌∙◌, subst, inl, inr, arith}
+use Rattle.std.specs.Prelude.{slice_get, unwrap_or, Option, Some, ◌||◌}
+use Rattle.std.proofs.lemmas.Bool.{cases_eq, cases_lt, eq-eqb, false≢true, ne_eqb}
+use Rattle.std.proofs.lemmas.Option.{slice_get_cases, slice_get_within, slice_get-get_or}
 use Rattle.roster_model.specs.Places.{set_of}
 use Rattle.roster_model.specs.Problem.{Problem}
 use Rattle.roster_model.specs.Rosters.{IsLegalRoster, Key}
@@ -17,7 +16,10 @@ use Rattle.roster_lines.specs.Entries.{Entry}
 use Rattle.roster_lines.specs.Person.{lines_at, AreListed, IsOfTable}
 use Rattle.roster_lines.specs.WantedTables.{AreAllWanted}
 use Rattle.roster_search.specs.Limited.{IsEarlier}
+use Rattle.roster_pricing.specs.Homes.{IsHome}
+use Rattle.roster_search.specs.Parts.{base_of_person}
 use Rattle.roster_plan.specs.Near.{IsNear}
+use Rattle.roster_plan.proofs.PartLemmas.{of_home}
 
 -- what a person wants who keeps some pairings and may have others
 abbrev pub wants : Between → Problem → ℕ → List ℕ → Type 0
@@ -62,17 +64,27 @@ HasAll-next p old new has members q below = elim (cases_lt q p) [
   | inr after ↦ members q ∙ either_true (is_among old q) (eqb p q) (eq-eqb p q (omega arith))
 ]
 
--- so each legal roster is near if all may have it
-pub all_near : (problem : Problem) (free : Between) (places : List ℕ) → free.must ≡ [] → HasAll (length problem.pairings) free.may
-    → IsLegalRoster problem places → IsNear (replicate (length problem.persons) free) places
-all_near problem free places must may legal k between at =
-    let n = length problem.persons in
-    let inside : k < n = omega (arith, slice_get_within (replicate n free) k between at, length-replicate n free) in
-    let same : free ≡ between = sym (get_or-replicate n k free free inside) ∙ get_or_from_slice_get (replicate n free) k between free at in
-    subst (λ (b : Between). IsBetween b.must b.may (set_of k places)) same (record {
-      holds = λ p member. absurd (false≢true (sym (ap (λ set. is_among set p) must) ∙ member));
-      within = λ p member. elim (cases_lt p (length places)) [
-        | inl below ↦ let covers = legal.covers in either_true (is_among free.must p) (is_among free.may p) (may p (omega arith))
-        | inr past ↦ absurd (false≢true (sym (is_among-set_of_past k p places past) ∙ member))
+-- A person of the base is free who keeps nothing and may have each pairing; any other one keeps nothing.
+pub record IsFree (problem : Problem) (base k : ℕ) (between : Between) : Type 0 where
+  pub keeps : between.must ≡ []
+  pub may : base_of_person problem k ≡ base → HasAll (length problem.pairings) between.may
+
+abbrev pub AreFree : Problem → ℕ → List Between → Type 0
+AreFree problem base wanted = (k : ℕ) (between : Between) → slice_get wanted k ≡ Some between → IsFree problem base k between
+
+-- so each legal roster in which only persons of the base fly is near
+pub free_near : (problem : Problem) (base : ℕ) (wanted : List Between) (places : List ℕ) → AreFree problem base wanted → length wanted ≡ length problem.persons
+    → IsLegalRoster problem places → IsHome problem base places → IsNear wanted places
+free_near problem base wanted places free covers legal home k between at =
+    let is = free k between at in
+    let person : k < length problem.persons = omega (arith, slice_get_within wanted k between at, covers) in
+    record {
+      holds = λ p member. absurd (false≢true (sym (ap (λ set. is_among set p) is.keeps) ∙ member));
+      within = λ p member. elim (cases_eq (base_of_person problem k) base) [
+        | inl ours ↦ elim (cases_lt p (length places)) [
+          | inl below ↦ let covers = legal.covers in either_true (is_among between.must p) (is_among between.may p) (is.may ours p (omega arith))
+          | inr past ↦ absurd (false≢true (sym (is_among-set_of_past k p places past) ∙ member))
+        ]
+        | inr other ↦ absurd (false≢true (subst (λ set. is_among set p ≡ true) (of_home problem base places home k person (ne_eqb (base_of_person problem k) base other)) member))
       ];
-    })
+    }

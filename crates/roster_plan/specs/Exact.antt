@@ -1,10 +1,12 @@
--- The best roster, or what no roster costs less than.
+-- The best roster of a base, or what none costs less than.
+use Rattle.std.specs.Prelude.{ℕ}
 use Rattle.roster_model.specs.Problem.{Problem}
-use Rattle.roster_model.specs.Settled.{Anywhere, IsHeld, IsLowerBound, IsNotAfter}
+use Rattle.roster_model.specs.Settled.{IsHeld, IsNotAfter}
+use Rattle.roster_pricing.specs.Homes.{IsHome, IsHomeBound}
 use Rattle.roster_plan.specs.declared.exact.Found.{Found}
 use Rattle.roster_plan.specs.declared.exact.Found.TheVariants.{AtLeast, Best}
 
 -- what is found is so
-abbrev pub IsExact : Problem → Found → Type 0
-IsExact problem (Best roster) = IsHeld problem roster × IsNotAfter problem Anywhere roster
-IsExact problem (AtLeast bound) = IsLowerBound problem bound
+abbrev pub IsExact : Problem → ℕ → Found → Type 0
+IsExact problem base (Best roster) = IsHeld problem roster × IsNotAfter problem (IsHome problem base) roster
+IsExact problem base (AtLeast bound) = IsHomeBound problem base bound

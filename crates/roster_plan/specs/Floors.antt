@@ -5,20 +5,22 @@ use Rattle.roster_model.specs.records.Pairing.{Pairing}
 use Rattle.roster_model.specs.Problem.{Problem, units_of}
 use Rattle.roster_model.specs.Rules.{IsLegal}
 use Rattle.roster_cost.specs.Amounts.{IsWithin}
+use Rattle.roster_search.specs.Parts.{base_of_person}
 
--- The pairing at place p costs no less, be it left open or flown by one of the first n persons, for whom it
--- is legal alone. The amount is within the limit of units, which is that of penalties too.
-pub record IsFloorAmong (problem : Problem) (n p : ℕ) (floor : ℤ) : Type 0 where
+-- The pairing at place p costs no less, be it left open or flown by one of the first n persons who is of the base
+-- and for whom it is legal alone. The amount is within the limit of units, which is that of penalties too.
+pub record IsFloorAmong (problem : Problem) (base n p : ℕ) (floor : ℤ) : Type 0 where
   pub unflown : (pairing : Pairing) → slice_get problem.pairings p ≡ Some pairing → floor ≤ℤ pos pairing.penalty
-  pub flown : (k : ℕ) → k < n → IsLegal problem k (p ∷ []) → floor ≤ℤ units_of problem k p
+  pub flown : (k : ℕ) → k < n → base_of_person problem k ≡ base → IsLegal problem k (p ∷ []) → floor ≤ℤ units_of problem k p
   pub within : IsWithin MOST_UNITS floor
 
 -- the same of all persons
-abbrev pub IsFloor : Problem → ℕ → ℤ → Type 0
-IsFloor problem p floor = IsFloorAmong problem (length problem.persons) p floor
+abbrev pub IsFloor : Problem → ℕ → ℕ → ℤ → Type 0
+IsFloor problem base p floor = IsFloorAmong problem base (length problem.persons) p floor
 
--- no more than the least so far, nor than the units of person k if the pairing is legal alone
-pub record IsFloorOf (problem : Problem) (k p : ℕ) (least floor : ℤ) : Type 0 where
+-- no more than the least so far, nor than the units of person k if that one is of the base and the pairing is
+-- legal alone
+pub record IsFloorOf (problem : Problem) (base k p : ℕ) (least floor : ℤ) : Type 0 where
   pub at_most : floor ≤ℤ least
-  pub flown : IsLegal problem k (p ∷ []) → floor ≤ℤ units_of problem k p
+  pub flown : base_of_person problem k ≡ base → IsLegal problem k (p ∷ []) → floor ≤ℤ units_of problem k p
   pub from : (floor ≡ least) ⊎ IsWithin MOST_UNITS floor

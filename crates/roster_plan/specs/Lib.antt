@@ -5,3 +5,5 @@ pub mod Exact
 pub mod Near
 pub mod Planned
 pub mod Attempts
+pub mod Parts
+pub mod Months

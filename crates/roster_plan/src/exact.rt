@@ -1,15 +1,16 @@
-//! The best roster, if the bound is near enough to what it costs.
+//! The best roster of a base, if its bound is near enough to what it costs.
 //!
-//! A roster that costs at most so much more than the bound has lines of low reduced cost only. If these
-//! are few they are listed, and searched whole: the least of their rosters is then the best of all, or
-//! no roster costs so little.
+//! A roster of the base that costs at most so much more than the bound has lines of low reduced cost only. If
+//! these are few they are listed, and searched whole: the least of their rosters is then the best of the base,
+//! or none costs so little.
 
-ghost use Rattle.std.specs.Prelude.{◌≡◌, ◌<◌, ◌≤◌, ◌≤ℤ◌, ◌+ℤ◌, pos, IfOk, IfSome};
+ghost use Rattle.std.specs.Prelude.{◌≡◌, ◌<◌, ◌≤ℤ◌, ◌+ℤ◌, pos, IfOk, IfSome};
+ghost use Rattle.roster_model.specs.declared.limits.TheConstants.{MOST_BASES as most_bases};
 ghost use Rattle.roster_plan.specs.Exact.{IsExact};
-ghost use Rattle.roster_plan.specs.Planned.{IsKnown, IsPlannedFrom};
+ghost use Rattle.roster_plan.specs.Months.{IsMonth, IsMonthFrom};
 
-use crate::known::{Planned, best_plan, raised};
 use crate::means::Means;
+use crate::months::Month;
 use crate::watching::{Step, Watcher};
 use roster_cost::keys_are_in_order;
 use roster_lines::TableFault;
@@ -27,39 +28,39 @@ const MOST_GAPS: u32 = 8;
 /// What is found.
 #[derive(Debug, Drop)]
 pub(crate) enum Found {
-    /// The best roster, with its cost.
+    /// The best roster of the base, with its cost.
     Best(Roster),
-    /// No legal roster costs less than so much.
+    /// No legal roster of the base costs less than so much.
     AtLeast(i64),
 }
 
-/// The plan with the best roster, if that is found, or else with the greatest bound that is found on the
-/// way.
+/// The month with the best roster of the base, if that is found, or else with the greatest bound that is found
+/// on the way.
 pub(crate) fn close<W: Watcher>(
     alloc: Global,
     problem: &Problem,
     priced: &PricedBound<'_>,
-    start: Planned,
+    base: usize,
+    start: Month,
     means: &Means,
     watcher: &mut W,
-) -> Result<Planned, AllocError>
+) -> Result<Month, AllocError>
     requires problem { priced.now.problem ≡ problem.now }
-    requires known { IsKnown problem.now start }
-    ensures { IfOk result (IsPlannedFrom problem.now start.roster) }
+    requires base { (priced.now.base ≡ base) × (base < most_bases) }
+    requires month { IsMonth problem.now start }
+    ensures { IfOk result (IsMonthFrom problem.now start.planned.roster) }
 {
     keys_are_in_order();
-    let whole = gap_of(priced.bound(), start.roster.cost);
+    let whole = gap_of(priced.bound(), start.parts[base].roster.cost);
     let mut gap = whole / FIRST_PART;
-    let mut planned = raised(problem, start, priced.bound(), Step::Prices, watcher);
+    let mut month = start;
     for _ in 0..MOST_GAPS {
-        match within(alloc, problem, priced, gap, means)? {
+        match within(alloc, problem, priced, base, gap, means)? {
             Some(Found::Best(roster)) => {
-                let best = best_plan(problem, roster);
-                watcher.tell(problem, Step::Gap, &best);
-                return Ok(best);
+                return month.settled(alloc, problem, base, &roster, Step::Gap, watcher);
             }
             Some(Found::AtLeast(bound)) => {
-                planned = raised(problem, planned, bound, Step::Gap, watcher);
+                month = month.raised(alloc, problem, base, bound, Step::Gap, watcher)?;
             }
             None => break,
         }
@@ -68,20 +69,22 @@ pub(crate) fn close<W: Watcher>(
         }
         gap = wider(gap, whole);
     }
-    Ok(planned)
+    Ok(month)
 }
 
-/// The best roster if it costs at most so many units more than the bound, or that none does; or nothing,
-/// if that takes too many lines or too long.
+/// The best roster of the base if it costs at most so many units more than the bound, or that none does; or
+/// nothing, if that takes too many lines or too long.
 fn within(
     alloc: Global,
     problem: &Problem,
     priced: &PricedBound<'_>,
+    base: usize,
     gap: u32,
     means: &Means,
 ) -> Result<Option<Found>, AllocError>
-    requires { priced.now.problem ≡ problem.now }
-    ensures { IfOk result (λ found. IfSome found (IsExact problem.now)) }
+    requires problem { priced.now.problem ≡ problem.now }
+    requires base { priced.now.base ≡ base }
+    ensures { IfOk result (λ found. IfSome found (IsExact problem.now base)) }
 {
     let limit = limit_of(priced.bound(), gap);
     let table = match priced.lines_within(alloc, gap, means.lines()) {

@@ -5,9 +5,9 @@ ghost use Rattle.roster_model.specs.Rosters.{key_le, key_of};
 ghost use Rattle.roster_model.specs.Settled.{Anywhere, IsHeld, IsLowerBound, IsNotAfter};
 ghost use Rattle.roster_plan.specs.Planned.{IsKnown};
 
-use crate::watching::{Step, Watcher};
 use roster_cost::{comes_before, keys_are_in_order, roster_cost};
 use roster_problem::{Places, Problem, Roster};
+use roster_search::costs_fit;
 
 /// A plan. Whoever is given one is promised what stands beside each field.
 #[derive(Debug, Drop)]
@@ -74,6 +74,7 @@ pub(crate) fn best_plan(problem: &Problem, roster: Roster) -> Planned
     requires best { IsNotAfter problem.now Anywhere roster }
     ensures known { IsKnown problem.now result }
     ensures roster { result.roster ≡ roster }
+    ensures best { result.is_best ≡ true }
 {
     let bound = roster.cost;
     Planned {
@@ -83,23 +84,12 @@ pub(crate) fn best_plan(problem: &Problem, roster: Roster) -> Planned
     }
 }
 
-/// The plan with another bound, if that is greater. Then the watcher is told so.
-pub(crate) fn raised<W: Watcher>(
-    problem: &Problem,
-    planned: Planned,
-    bound: i64,
-    step: Step,
-    watcher: &mut W,
-) -> Planned
-    requires known { IsKnown problem.now planned }
-    requires bound { IsLowerBound problem.now bound }
+/// The plan of a roster before anything else is known: none costs less than the least number there is.
+pub(crate) fn first_plan(problem: &Problem, roster: Roster) -> Planned
+    requires { IsHeld problem.now roster }
     ensures known { IsKnown problem.now result }
-    ensures roster { result.roster ≡ planned.roster }
+    ensures roster { result.roster ≡ roster }
 {
-    if bound <= planned.bound {
-        return planned;
-    }
-    let raised = so_far(problem, planned.roster, bound);
-    watcher.tell(problem, step, &raised);
-    raised
+    costs_fit(problem);
+    so_far(problem, roster, i64::MIN)
 }

@@ -1,15 +1,19 @@
 //! A legal roster of any month with its cost, and a number that no roster costs less than.
 //!
-//! `plan` answers every problem, also one with far more legal sets than can be listed. If there are few,
-//! it searches them whole. Else it begins with what is legal of a given roster, improves it by a fixed
-//! number of random changes, then by searches of neighbourhoods, and promises neither the best roster
-//! nor a near one: each step keeps the roster legal, and the result is the earliest of what was given,
-//! of no pairings at all, and of what was found. In reading order:
+//! `plan` answers every problem, also one with far more legal sets than can be listed. Nobody flies a pairing of
+//! another base, so each base is planned apart. If it has few legal sets, they are searched whole. Else `plan`
+//! begins with what is legal of a given roster, improves it by a fixed number of random changes, then by
+//! searches of neighbourhoods. Prices bound what the base costs, and what costs little more is searched. `plan`
+//! promises neither the best roster nor a near one: each step keeps the roster legal, and the result is the
+//! earliest of what was given, of no pairings at all, and of what was found. In reading order:
 //!
 //! - `kept`: what is legal of a given roster
 //! - `means`: what a plan may take
-//! - `bound`: what no roster costs less than
-//! - `exact`: the best roster, if the bound is near enough to what it costs
+//! - `known`: what is known of a plan
+//! - `watching`: who is told that while the plan is made
+//! - `bound`: what no roster of a base costs less than
+//! - `parts`: what is known of each base, and the plan that they make
+//! - `months`: what is known of a month while it is planned
 //! - `draft`: a roster that is legal at every moment
 //! - `random`: numbers that look random, the same in each run
 //! - `sets`: what a search asks of sets
@@ -20,11 +24,12 @@
 //! - `nearby`: neighbourhoods of a roster, searched whole
 //! - `neighbourhoods`: which neighbourhood is searched next
 //! - `together`: neighbourhoods that several threads search at once
-//! - `known`: what is known of a plan
-//! - `watching`: who is told that while the plan is made
+//! - `exact`: the best roster of a base, if its bound is near enough to what it costs
+//! - `apart`: each base searched whole, or bounded by prices
 //! - `planning`: the plan
 #![tactic(auto)]
 
+mod apart;
 mod bound;
 mod changes;
 mod draft;
@@ -32,9 +37,11 @@ mod exact;
 mod kept;
 mod known;
 mod means;
+mod months;
 mod moves;
 mod nearby;
 mod neighbourhoods;
+mod parts;
 mod planning;
 mod random;
 mod search;

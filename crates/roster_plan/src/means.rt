@@ -24,7 +24,8 @@ pub struct Means {
     /// So many threads at most, and one at least, share searches and looks at prices.
     pub workers: usize,
     /// So many legal sets at most a person may have in one step, from 1 to 200000; less counts as 1, and more
-    /// as 200000. If somebody has more, the step is left out. In a neighbourhood it is 4096 at most.
+    /// as 200000. If somebody has more, that base, gap or neighbourhood isn't searched. In a neighbourhood it
+    /// is 4096 at most.
     pub most_sets: usize,
 }
 
@@ -57,7 +58,7 @@ impl Means {
         self.most_sets.clamp(1, LINES_NEARBY)
     }
 
-    /// How many lines nodes may have to look at in one search of all lines, or of those of a gap.
+    /// How many lines nodes may have to look at in one search of all lines of a base, or of those of its gap.
     pub(crate) fn work(&self) -> u64 {
         FEWEST_WORK << self.effort.min(MOST_EFFORT)
     }

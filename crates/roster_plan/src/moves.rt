@@ -44,7 +44,7 @@ impl<'a> Search<'a> {
 
     // A random pairing, more often than not an open one, if there is one.
     fn next_pairing(&mut self) -> usize {
-        let p = self.random.below(self.tables.pairings());
+        let p = self.some_pairing();
         if self.random.below(2) == 0 {
             return p;
         }

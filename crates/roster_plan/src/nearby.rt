@@ -1,13 +1,14 @@
 //! Neighbourhoods of a roster, searched whole.
 //!
 //! In a neighbourhood each person keeps some pairings and may have some others. Its lines are listed,
-//! and the least of its rosters is found, as the best roster of a small month is: that is the
-//! neighbourhood in which nobody keeps anything, and everybody may have all.
+//! and the least of its rosters is found. The best roster of a base with few legal sets is found so too: in that
+//! neighbourhood nobody keeps anything, persons of the base may have all, and nobody else has anything.
 
-ghost use Rattle.std.specs.Prelude.{◌≡◌, ◌<◌, ◌≤◌, ℕ, true, List, IfOk, length, replicate};
+ghost use Rattle.std.specs.Prelude.{◌≡◌, ◌<◌, ◌≤◌, ℕ, true, List, IfOk, length};
 ghost use Rattle.roster_lines.specs.Listing.{AreAllPairs};
 ghost use Rattle.roster_model.specs.Rosters.{IsLegalRoster, key_le};
-ghost use Rattle.roster_model.specs.Settled.{Anywhere, IsHeld, IsNotAfter};
+ghost use Rattle.roster_model.specs.Settled.{IsHeld, IsNotAfter};
+ghost use Rattle.roster_pricing.specs.Homes.{IsHome};
 ghost use Rattle.roster_plan.specs.Near.{IsNear};
 
 use crate::sets::all_of;
@@ -80,12 +81,13 @@ pub(crate) fn search_nearby(
     }
 }
 
-/// The best roster of all, if each person has few enough lines and the search of them ends; or the known
-/// one.
-pub(crate) fn search_all(
+/// The earlier one of the known roster and the least one in which only persons of the base fly, as
+/// `search_nearby` has it.
+pub(crate) fn search_base(
     alloc: Global,
     problem: &Problem,
     pairs: &[Pairs],
+    base: usize,
     known: Roster,
     most: usize,
     work: u64,
@@ -94,37 +96,33 @@ pub(crate) fn search_all(
     requires known { IsHeld problem.now known }
     requires limit { (0 < most) × (most ≤ MOST_LINES) }
     ensures held { IfOk result (λ nearby. IsHeld problem.now nearby.roster) }
-    ensures kept { IfOk result (λ nearby. key_le nearby.roster known ≡ true) }
     ensures best { IfOk result (λ nearby. nearby.is_settled ≡ true
-        → IsNotAfter problem.now Anywhere nearby.roster) }
+        → IsNotAfter problem.now (IsHome problem.now base) nearby.roster) }
 {
-    let wanted = all_free(alloc, problem)?;
+    let wanted = free_at(alloc, problem, base)?;
     let nearby = search_nearby(alloc, problem, pairs, known, &wanted, most, work)?;
     Ok(nearby)
 }
 
-/// The neighbourhood of all legal rosters: nobody keeps anything, and everybody may have all.
-fn all_free(alloc: Global, problem: &Problem) -> Result<Vec<Between>, AllocError>
+/// The neighbourhood of all legal rosters in which only persons of the base fly: they keep nothing and may have
+/// all, and nobody else has anything.
+fn free_at(alloc: Global, problem: &Problem, base: usize) -> Result<Vec<Between>, AllocError>
     ensures covers { IfOk result (λ wanted. length wanted.items ≡ length problem.now.persons) }
     ensures all { IfOk result (λ wanted. (places : List ℕ) → IsLegalRoster problem.now places
-        → IsNear wanted.items places) }
+        → IsHome problem.now base places → IsNear wanted.items places) }
 {
     problem.is_sound();
-    let free = Between {
-        must: Set::empty(),
-        may: all_of(problem.pairings().len()),
-    };
-    let wanted = repeated(alloc, &free, problem.persons().len())?;
-    Ok(wanted)
-}
-
-/// So many times the same.
-fn repeated(alloc: Global, between: &Between, count: usize) -> Result<Vec<Between>, AllocError>
-    ensures { IfOk result (λ list. list.items ≡ replicate count between.now) }
-{
-    let mut list = Vec::with_capacity(alloc, count)?;
-    for _ in 0..count {
-        list.push(*between)?;
+    let all = all_of(problem.pairings().len());
+    let mut wanted = Vec::new(alloc);
+    for k in 0..problem.persons().len() {
+        wanted.push(Between {
+            must: Set::empty(),
+            may: if problem.person(k).base == base {
+                all
+            } else {
+                Set::empty()
+            },
+        })?;
     }
-    Ok(list)
+    Ok(wanted)
 }

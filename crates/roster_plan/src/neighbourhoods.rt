@@ -2,6 +2,7 @@
 
 ghost use Rattle.std.specs.Prelude.{◌≡◌, IfOk, length};
 
+use crate::parts::{Part, is_open};
 use crate::random::Random;
 use crate::search::set_of;
 use crate::sets::{add, amount_at, without};
@@ -43,6 +44,8 @@ const SHRINKS_BY: u32 = PARTS;
 #[derive(Drop)]
 pub(crate) struct Neighbourhoods {
     random: Random,
+    // Who is of a base whose best roster isn't known.
+    persons: Vec<usize>,
     // When pairings begin.
     begins: Vec<i64>,
     // The kinds and how large they are, and the kind of the last one.
@@ -59,14 +62,25 @@ pub(crate) struct Neighbourhood {
 }
 
 impl Neighbourhoods {
-    /// Those of a problem.
-    pub(crate) fn new(alloc: Global, problem: &Problem) -> Result<Neighbourhoods, AllocError> {
+    /// Those of a problem, in bases whose best roster isn't known.
+    pub(crate) fn new(
+        alloc: Global,
+        problem: &Problem,
+        parts: &[Part],
+    ) -> Result<Neighbourhoods, AllocError> {
+        let mut persons = Vec::new(alloc);
+        for (k, person) in problem.persons().iter().enumerate() {
+            if is_open(parts, person.base) {
+                persons.push(k)?;
+            }
+        }
         let mut sizes = Vec::new(alloc);
         for size in FIRST_SIZES {
             sizes.push(size)?;
         }
         Ok(Neighbourhoods {
             random: Random::new(SEED),
+            persons,
             begins: times(alloc, problem, false)?,
             sizes,
             kind: 0,
@@ -114,7 +128,8 @@ impl Neighbourhoods {
     // Some persons of one base: a few, half of them, or all.
     fn persons(&mut self, alloc: Global, problem: &Problem) -> Result<Vec<usize>, AllocError> {
         let mut left = Vec::new(alloc);
-        let k = self.random.below(problem.persons().len());
+        let i = self.random.below(self.persons.len());
+        let k = self.persons.get(i).copied().unwrap_or(0);
         if let Some(first) = problem.persons().get(k) {
             for (k, person) in problem.persons().iter().enumerate() {
                 if person.base == first.base {

@@ -4,23 +4,25 @@ ghost use Rattle.std.specs.Prelude.{◌≡◌, ◌<◌, ◌≤◌, All, IfOk, le
 ghost use Rattle.roster_model.specs.Plans.{IsPlan};
 ghost use Rattle.roster_model.specs.Rosters.{IsLegalRoster};
 ghost use Rattle.roster_model.specs.Settled.{IsBest, IsHeld};
-ghost use Rattle.roster_plan.specs.Planned.{IsKnown, IsPlannedFrom};
+ghost use Rattle.roster_lines.specs.Listing.{AreAllPairs};
+ghost use Rattle.roster_plan.specs.Months.{IsMonth, IsMonthFrom};
+ghost use Rattle.roster_plan.specs.Planned.{IsPlannedFrom};
 
-use crate::bound::lower_bound;
+use crate::apart::{bounded, searched};
 use crate::changes::Change;
 use crate::draft::Draft;
-use crate::exact::close;
 use crate::kept::kept;
-use crate::known::{Planned, best_plan, costed, earlier, places_of, raised, so_far};
+use crate::known::{Planned, costed, earlier, places_of, so_far};
 use crate::means::{MOST_EFFORT, Means};
-use crate::nearby::search_all;
+use crate::months::Month;
+use crate::parts::Part;
 use crate::search::Search;
 use crate::together::improved_nearby;
 use crate::watching::{Step, Watcher};
 use roster_cost::keys_are_in_order;
-use roster_lines::all_pairs;
-use roster_pricing::PricedBound;
-use roster_problem::{Problem, Roster, open_number};
+use roster_lines::{Pairs, all_pairs};
+use roster_problem::{Problem, Roster};
+use roster_search::all_open;
 use std::alloc::{AllocError, Global};
 use std::thread::Threads;
 
@@ -29,16 +31,6 @@ const FEWEST_TRIES: u32 = 20_000;
 
 /// How many changes are looked at to learn what changes cost.
 const SAMPLES: u32 = 500;
-
-/// How many steps prices are worth at effort 0, about; each takes about a nanosecond. Each effort more
-/// doubles them.
-const FEWEST_STEPS: u64 = 1 << 28;
-
-/// How many states of flight a person has, about.
-const USUAL_STATES: u64 = 1000;
-
-/// How often prices are looked at, at most, at effort 0.
-const FEWEST_LOOKS: u32 = 4;
 
 /// A plan whose roster isn't after what is kept of the given places, nor after no pairings at all. It takes
 /// these means at most. The plan is the same in each run, whatever the watcher does, and however many
@@ -59,15 +51,14 @@ pub fn plan<R: Threads + Sync, W: Watcher>(
     ensures best { IfOk result
         (λ planned. planned.is_best ≡ true → IsBest problem.now planned.roster.places) }
 {
-    keys_are_in_order();
-    let open = vec![in alloc; open_number(problem); problem.pairings().len()]?;
+    let open = all_open(alloc, problem)?;
     let start = kept(alloc, problem, given)?;
     let known = earlier(costed(problem, start), costed(problem, open));
     let planned = planned_from(rt, alloc, problem, known, means, watcher)?;
     Ok(planned)
 }
 
-/// The plan that comes of a known roster: the best one if all lines are few.
+/// The plan that comes of a known roster: the best one if all bases are settled.
 fn planned_from<R: Threads + Sync, W: Watcher>(
     rt: &R,
     alloc: Global,
@@ -81,94 +72,65 @@ fn planned_from<R: Threads + Sync, W: Watcher>(
     ensures { IfOk result (IsPlannedFrom problem.now known) }
 {
     keys_are_in_order();
-    let floor = lower_bound(alloc, problem)?;
-    let start = so_far(problem, known, floor);
-    watcher.tell(problem, Step::Start, &start);
     let pairs = all_pairs(alloc, problem)?;
-    let (lines, work) = (means.lines(), means.work());
-    let all = search_all(alloc, problem, &pairs, start.roster, lines, work)?;
-    if all.is_settled {
-        let best = best_plan(problem, all.roster);
-        watcher.tell(problem, Step::Sets, &best);
-        return Ok(best);
+    let start = Month::of(alloc, problem, &pairs, known)?;
+    watcher.tell(problem, None, Step::Start, &start.planned);
+    let sought = searched(alloc, problem, &pairs, start, means, watcher)?;
+    if sought.planned.is_best {
+        return Ok(sought.planned);
     }
-    let found = improved(alloc, problem, places_of(&all.roster), means.effort)?;
-    let changed = so_far(problem, earlier(costed(problem, found), all.roster), floor);
-    watcher.tell(problem, Step::Changes, &changed);
-    let near = improved_nearby(rt, alloc, problem, &pairs, changed, means, watcher)?;
-    let planned = bounded(rt, alloc, problem, near, means, watcher)?;
-    Ok(planned)
+    let tried = tried(rt, alloc, problem, &pairs, sought, means, watcher)?;
+    let month = bounded(rt, alloc, problem, &pairs, tried, means, watcher)?;
+    Ok(month.planned)
 }
 
-/// The plan with a greater bound, if prices give one, and with the best roster, if that is found.
-fn bounded<R: Threads + Sync, W: Watcher>(
+/// The month with a roster that comes of changes tried one after another, and of searches of neighbourhoods.
+fn tried<R: Threads + Sync, W: Watcher>(
     rt: &R,
     alloc: Global,
     problem: &Problem,
-    start: Planned,
+    pairs: &[Pairs],
+    start: Month,
     means: &Means,
     watcher: &mut W,
-) -> Result<Planned, AllocError>
-    requires known { IsKnown problem.now start }
+) -> Result<Month, AllocError>
+    requires pairs { AreAllPairs problem.now pairs.now }
+    requires month { IsMonth problem.now start }
     requires workers { 0 < means.now.workers }
-    ensures { IfOk result (IsPlannedFrom problem.now start.roster) }
+    ensures { IfOk result (IsMonthFrom problem.now start.planned.roster) }
 {
-    keys_are_in_order();
-    let looks = looks_of(problem, means.effort);
-    if looks == 0 {
-        return Ok(start);
-    }
-    let mut priced = PricedBound::new(rt, alloc, means.workers, problem)?;
-    let mut planned = start;
-    for _ in 1..looks {
-        priced.raise(rt, alloc, means.workers, planned.roster.cost, 1)?;
-        planned = raised(problem, planned, priced.bound(), Step::Prices, watcher);
-    }
-    let closed = close(alloc, problem, &priced, planned, means, watcher)?;
-    Ok(closed)
+    let places = places_of(&start.planned.roster);
+    let found = improved(alloc, problem, places, &start.parts, means.effort)?;
+    let changed = costed(problem, found);
+    let month = start.renewed(alloc, problem, &changed, Step::Changes, watcher)?;
+    let roster = month.planned.roster.copy(alloc)?;
+    let known = so_far(problem, roster, month.planned.bound);
+    let near = improved_nearby(
+        rt,
+        alloc,
+        problem,
+        pairs,
+        &month.parts,
+        known,
+        means,
+        watcher,
+    )?;
+    month.renewed(alloc, problem, &near.roster, Step::Neighbourhoods, watcher)
 }
 
-/// How often an effort looks at prices: more often the greater it is, if there is time for so many
-/// steps.
-fn looks_of(problem: &Problem, effort: u32) -> u32 {
-    let effort = if effort < MOST_EFFORT {
-        effort
-    } else {
-        MOST_EFFORT
-    };
-    let looks = FEWEST_LOOKS + effort * (effort + 2);
-    let in_time = (FEWEST_STEPS << effort) / steps_of(problem).max(1);
-    in_time.min(u64::from(looks)) as u32
-}
-
-/// How many steps a look takes, about: for each person one for each two pairings of the same base, and
-/// each state of flight.
-fn steps_of(problem: &Problem) -> u64 {
-    let mut steps: u64 = 0;
-    for person in problem.persons() {
-        let mut pairings: u64 = 0;
-        for pairing in problem.pairings() {
-            if pairing.base == person.base {
-                pairings = pairings.wrapping_add(1);
-            }
-        }
-        steps = steps.wrapping_add(pairings.wrapping_mul(pairings) / 2);
-    }
-    steps.wrapping_mul(USUAL_STATES)
-}
-
-/// A legal roster, found by changes to the one given.
+/// A legal roster, found by changes to the one given in bases whose best roster isn't known.
 fn improved(
     alloc: Global,
     problem: &Problem,
     start: &[u16],
+    parts: &[Part],
     effort: u32,
 ) -> Result<Vec<u16>, AllocError>
     requires { IsLegalRoster problem.now start.now }
     ensures { IfOk result (λ found. IsLegalRoster problem.now found.items) }
 {
     let mut draft = Draft::new(alloc, problem, start)?;
-    let mut search = Search::new(alloc, problem, start)?;
+    let mut search = Search::new(alloc, problem, start, parts)?;
     fill(&mut draft, &mut search)?;
     let warmth = usual_extra(&mut search)? / 4;
     let tries = tries_of(effort);

@@ -1,8 +1,9 @@
 //! Changes tried one after another. Nothing rests on what a search thinks that its roster is and costs.
 
 use crate::changes::Changes;
+use crate::parts::{Part, is_open};
 use crate::random::Random;
-use crate::sets::{amount_at, joined, set_at, without};
+use crate::sets::{add, amount_at, joined, set_at, without};
 use crate::tables::Tables;
 use roster_problem::{Problem, Set, open_number};
 use std::alloc::{AllocError, Global};
@@ -19,6 +20,8 @@ pub(crate) struct Search<'a> {
     // By person: the set, and what it costs.
     sets: Vec<Set>,
     lines: Vec<i64>,
+    // The pairings of bases whose best roster isn't known, and which of them are open.
+    pairings: Vec<usize>,
     open: Set,
     // What has been saved since the start, and at most.
     saved: i64,
@@ -26,11 +29,12 @@ pub(crate) struct Search<'a> {
 }
 
 impl<'a> Search<'a> {
-    /// A search that begins with this roster.
+    /// A search that begins with this roster, in bases whose best roster isn't known.
     pub(crate) fn new(
         alloc: Global,
         problem: &'a Problem,
         places: &[u16],
+        parts: &[Part],
     ) -> Result<Search<'a>, AllocError> {
         let tables = Tables::new(alloc, problem)?;
         let mut sets = Vec::new(alloc);
@@ -40,20 +44,35 @@ impl<'a> Search<'a> {
             lines.push(tables.line(k, &set))?;
             sets.push(set)?;
         }
-        let open = set_of(places, usize::from(open_number(problem)));
+        let mut pairings = Vec::new(alloc);
+        let mut sought = Set::empty();
+        for (p, pairing) in problem.pairings().iter().enumerate() {
+            if is_open(parts, pairing.base) {
+                pairings.push(p)?;
+                add(&mut sought, p);
+            }
+        }
+        let open = set_of(places, usize::from(open_number(problem))).and(&sought);
         Ok(Search {
             tables,
             random: Random::new(SEED),
             changes: Changes::new(alloc),
             sets,
             lines,
+            pairings,
             open,
             saved: 0,
             most_saved: 0,
         })
     }
 
-    /// The pairings that are open.
+    /// One of the pairings of bases whose best roster isn't known, by chance.
+    pub(crate) fn some_pairing(&mut self) -> usize {
+        let i = self.random.below(self.pairings.len());
+        self.pairings.get(i).copied().unwrap_or(0)
+    }
+
+    /// Those pairings of the same bases that are open.
     pub(crate) fn open(&self) -> &Set {
         &self.open
     }

@@ -12,8 +12,9 @@ use crate::known::{Planned, costed, earlier, places_of, so_far};
 use crate::means::{MOST_EFFORT, Means};
 use crate::nearby::{Nearby, search_nearby};
 use crate::neighbourhoods::{Neighbourhood, Neighbourhoods};
+use crate::parts::Part;
 use crate::watching::{Step, Watcher};
-use roster_cost::keys_are_in_order;
+use roster_cost::{comes_before, keys_are_in_order};
 use roster_lines::Pairs;
 use roster_problem::{Problem, Roster, open_number};
 use std::alloc::{AllocError, Global};
@@ -37,13 +38,14 @@ struct Attempt {
     found: Result<Nearby, AllocError>,
 }
 
-/// The plan with the earliest roster that searches of some neighbourhoods come to. The workers share the
-/// searches.
+/// The plan with the earliest roster that searches of some neighbourhoods come to, in bases whose best roster isn't
+/// known. The workers share the searches.
 pub(crate) fn improved_nearby<R: Threads + Sync, W: Watcher>(
     rt: &R,
     alloc: Global,
     problem: &Problem,
     pairs: &[Pairs],
+    parts: &[Part],
     start: Planned,
     means: &Means,
     watcher: &mut W,
@@ -54,7 +56,7 @@ pub(crate) fn improved_nearby<R: Threads + Sync, W: Watcher>(
     ensures { IfOk result (IsPlannedFrom problem.now start.roster) }
 {
     keys_are_in_order();
-    let mut neighbourhoods = Neighbourhoods::new(alloc, problem)?;
+    let mut neighbourhoods = Neighbourhoods::new(alloc, problem, parts)?;
     let mut planned = start;
     for _ in 0..rounds_of(means.effort) {
         let before = planned.roster.copy(alloc)?;
@@ -187,10 +189,14 @@ fn with_new<W: Watcher>(
     if !nearby.is_new {
         return Ok(start);
     }
+    let known = start.roster.copy(alloc)?;
     let bound = start.bound;
     let roster = joined(alloc, problem, before, &nearby.roster, start.roster)?;
+    let is_new = comes_before(&roster, &known);
     let planned = so_far(problem, roster, bound);
-    watcher.tell(problem, Step::Neighbourhoods, &planned);
+    if is_new {
+        watcher.tell(problem, None, Step::Neighbourhoods, &planned);
+    }
     Ok(planned)
 }
 

@@ -12,15 +12,15 @@ use std::fmt::{Display, Formatter};
 pub enum Step {
     /// What is legal of the given roster was kept.
     Start,
-    /// All legal sets were searched.
+    /// All legal sets of a base were searched.
     Sets,
     /// Changes were tried.
     Changes,
     /// Neighbourhoods were searched.
     Neighbourhoods,
-    /// Prices were looked at.
+    /// Prices of a base were looked at.
     Prices,
-    /// The sets of rosters that cost little more than the bound were searched.
+    /// The sets of a base's rosters that cost little more than its bound were searched.
     Gap,
 }
 
@@ -40,8 +40,8 @@ impl Display for Step {
 /// Who is told what is known of a plan while it is made. Nothing rests on what that does.
 pub trait Watcher {
     /// Tells what is known, by which step: the plan would be this one if it ended here. It is told each
-    /// time that it is another one, and so the last one too.
-    fn tell(&mut self, problem: &Problem, step: Step, planned: &Planned)
+    /// time that it is another one, and so the last one too. A step of a single base tells its place.
+    fn tell(&mut self, problem: &Problem, base: Option<usize>, step: Step, planned: &Planned)
         requires { IsKnown problem.now planned.now };
 }
 
@@ -50,5 +50,5 @@ pub trait Watcher {
 pub struct Unwatched;
 
 impl Watcher for Unwatched {
-    fn tell(&mut self, _problem: &Problem, _step: Step, _planned: &Planned) {}
+    fn tell(&mut self, _problem: &Problem, _base: Option<usize>, _step: Step, _planned: &Planned) {}
 }

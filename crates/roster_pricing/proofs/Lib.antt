@@ -1,3 +1,4 @@
+mod HomeLemmas
 mod ChainLemmas
 mod ListedLemmas
 mod RowLemmas

@@ -1,6 +1,6 @@
 -- What pairings bring to a roster beside reduced costs, one after another, and what a roster costs at least.
 use Rattle.std.proofs.Common.{◌≡◌, ℕ, zero, suc, ◌+◌, ◌-◌, ◌*◌, ◌<◌, eqb, cond, List, [], ◌∷◌, length, drop, get_or, Some, refl, sym, ap, ◌∙◌, subst, inl, inr, arith, ℤ, pos, ◌+ℤ◌, ◌-ℤ◌, ◌*ℤ◌, ◌≤ℤ◌, eq-eqb, w64, FitsSigned, rules, ◌≤◌}
-use Rattle.std.specs.Prelude.{slice_get}
+use Rattle.std.specs.Prelude.{◌≢◌, slice_get}
 use Rattle.std.specs.List.{range_with_len}
 use Rattle.std.proofs.lemmas.Bool.{cases_eq, ne_eqb}
 use Rattle.std.proofs.lemmas.Int.{ints}
@@ -11,13 +11,14 @@ use Rattle.roster_model.specs.Problem.{Problem}
 use Rattle.roster_model.specs.Places.{open_number, set_of}
 use Rattle.roster_model.specs.Costs.{cost_of, line_cost, open_penalties, total}
 use Rattle.roster_model.specs.Rosters.{IsLegalRoster}
-use Rattle.roster_model.specs.Settled.{IsLowerBound}
 use Rattle.roster_model.proofs.CostLemmas.{total-nil, total-cons}
 use Rattle.roster_model.specs.declared.limits.TheConstants.{MOST_PERSONS}
 use Rattle.roster_cost.specs.Amounts.{cost_without_pairings, IsWithin}
 use Rattle.roster_cost.specs.Priced.{penalties_and_prices, reduced_cost}
 use Rattle.roster_pricing.specs.declared.parts.TheConstants.{MOST_LEAST, PARTS}
+use Rattle.roster_pricing.specs.Homes.{IsHome, IsHomeBound}
 use Rattle.roster_pricing.specs.Reduced.{price_at, reduced, reduced_costs, shares_behind, IsTermOf}
+use Rattle.roster_pricing.proofs.HomeLemmas.{open_elsewhere}
 
 -- a pairing of no list
 none : Pairing
@@ -34,16 +35,16 @@ behind problem prices p pairing pairings x places left e f =
     let priced : penalties_and_prices (price_at prices) n p (drop p problem.pairings) (drop p left) ≡ cond (eqb x n) (pos pairing.penalty) (price_at prices p) +ℤ penalties_and_prices (price_at prices) n (p + 1) pairings places = rw (e, f) refl in
     omega (arith, ints, open_ones, priced)
 
--- a term is no more than what its pairing brings
-own_share : (n x penalty : ℕ) (price term : ℤ) → term ≤ℤ price → term ≤ℤ pos (PARTS * penalty) → term ≤ℤ (cond (eqb x n) (pos penalty) price +ℤ pos ((PARTS - 1) * cond (eqb x n) penalty 0))
+-- a term is no more than what its pairing brings, whose price counts if it isn't open
+own_share : (n x penalty : ℕ) (price term : ℤ) → (x ≢ n → term ≤ℤ price) → term ≤ℤ pos (PARTS * penalty) → term ≤ℤ (cond (eqb x n) (pos penalty) price +ℤ pos ((PARTS - 1) * cond (eqb x n) penalty 0))
 own_share n x penalty price term flown unflown =
     elim (cases_eq x n) [
       | inl same ↦ rw (eq-eqb x n same) omega (arith, ints, unflown)
-      | inr other ↦ rw (ne_eqb x n other) omega (arith, ints, flown)
+      | inr other ↦ rw (ne_eqb x n other) omega (arith, ints, flown other)
     ]
 
-pub one_more : (problem : Problem) (prices : List ℤ) (p : ℕ) (term sum : ℤ) (places : List ℕ) → IsLegalRoster problem places → p < length problem.pairings → IsTermOf problem p (price_at prices p) term → sum ≤ℤ shares_behind problem prices (p + 1) places → (sum +ℤ term) ≤ℤ shares_behind problem prices p places
-one_more problem prices p term sum places roster inside is below =
+pub one_more : (problem : Problem) (prices : List ℤ) (base p : ℕ) (term sum : ℤ) (places : List ℕ) → IsLegalRoster problem places → IsHome problem base places → p < length problem.pairings → IsTermOf problem base p (price_at prices p) term → sum ≤ℤ shares_behind problem prices (p + 1) places → (sum +ℤ term) ≤ℤ shares_behind problem prices p places
+one_more problem prices base p term sum places roster home inside is below =
     let pairing : Pairing = get_or problem.pairings p none in
     let at : slice_get problem.pairings p ≡ Some pairing = slice_get-get_or problem.pairings p none inside in
     let covers = roster.covers in
@@ -51,7 +52,12 @@ one_more problem prices p term sum places roster inside is below =
     let there : p < length places = omega (arith, covers) in
     let e : drop p problem.pairings ≡ pairing ∷ drop (p + 1) problem.pairings = drop_more problem.pairings p pairing inside ∙ ap (λ q. q ∷ drop (p + 1) problem.pairings) (get_or_from_slice_get problem.pairings p pairing pairing at) in
     let split = behind problem prices p pairing (drop (p + 1) problem.pairings) x (drop (p + 1) places) places e (drop_more places p 0 there) in
-    let own = own_share (open_number problem) x pairing.penalty (price_at prices p) term is.flown (is.unflown pairing at) in
+    let flown : x ≢ open_number problem → term ≤ℤ price_at prices p = λ someone.
+    elim (cases_eq pairing.base base) [
+      | inl own ↦ is.flown pairing at own
+      | inr other ↦ absurd (someone (open_elsewhere problem base places p pairing roster home at other))
+    ] in
+    let own = own_share (open_number problem) x pairing.penalty (price_at prices p) term flown (is.unflown pairing at) in
     omega (arith, ints, split, own, below)
 
 pub nothing_behind : (problem : Problem) (prices : List ℤ) (p : ℕ) (places : List ℕ) → p ≡ length problem.pairings → pos 0 ≤ℤ shares_behind problem prices p places
@@ -104,16 +110,16 @@ parts_of_cost problem prices places shared priced =
     let split = sums_split (λ k. reduced problem prices k (set_of k places)) (λ k. line_cost problem k (set_of k places)) (λ k. line_cost problem k []) (λ k. reduced_cost problem (price_at prices) k (set_of k places)) (λ k. omega (arith, ints)) persons in
     omega (arith, ints, split, shared, priced)
 
--- so it costs at least what sums say that are no more than these
-pub bound_below : (problem : Problem) (prices : List ℤ) (leasts terms units : ℤ) → ((places : List ℕ) → IsLegalRoster problem places → IsShared problem places) → ((places : List ℕ) → IsLegalRoster problem places → IsPriced problem prices places)
-    → ((places : List ℕ) → IsLegalRoster problem places → leasts ≤ℤ reduced_costs problem prices (length problem.persons) places)
-    → ((places : List ℕ) → IsLegalRoster problem places → terms ≤ℤ shares_behind problem prices 0 places)
+-- so one of the base costs at least what sums say that are no more than these
+pub bound_below : (problem : Problem) (prices : List ℤ) (base : ℕ) (leasts terms units : ℤ) → ((places : List ℕ) → IsLegalRoster problem places → IsShared problem places) → ((places : List ℕ) → IsLegalRoster problem places → IsPriced problem prices places)
+    → ((places : List ℕ) → IsLegalRoster problem places → IsHome problem base places → leasts ≤ℤ reduced_costs problem prices (length problem.persons) places)
+    → ((places : List ℕ) → IsLegalRoster problem places → IsHome problem base places → terms ≤ℤ shares_behind problem prices 0 places)
     → ((more : ℤ) → (leasts +ℤ terms) ≤ℤ (pos PARTS *ℤ more) → units ≤ℤ more)
-    → IsLowerBound problem (cost_without_pairings problem +ℤ units)
-bound_below problem prices leasts terms units shared priced persons pairings least places roster =
+    → IsHomeBound problem base (cost_without_pairings problem +ℤ units)
+bound_below problem prices base leasts terms units shared priced persons pairings least places roster home =
     let whole = parts_of_cost problem prices places (shared places roster) (priced places roster) in
-    let first = persons places roster in
-    let second = pairings places roster in
+    let first = persons places roster home in
+    let second = pairings places roster home in
     let above = least (cost_of problem places -ℤ cost_without_pairings problem) (omega (arith, ints, whole, first, second)) in
     omega (arith, ints, above)
 

@@ -1,6 +1,10 @@
 -- Lines of a person whose reduced costs are low.
-use Rattle.std.specs.Prelude.{◌≡◌, ℕ, ◌<◌, List, ◌++◌, ◌∷◌, length, ℤ, ◌+ℤ◌, ◌≤ℤ◌}
+use Rattle.std.specs.Prelude.{◌≡◌, ◌≢◌, ℕ, ◌<◌, List, [], ◌++◌, ◌∷◌, length, Some, slice_get, ℤ, ◌+ℤ◌, ◌≤ℤ◌}
+use Rattle.roster_model.specs.Lines.{IsLine}
 use Rattle.roster_model.specs.Problem.{Problem}
+use Rattle.roster_model.specs.records.Crew.{Person}
+use Rattle.roster_lines.specs.Entries.{Entry, sets_of}
+use Rattle.roster_lines.specs.Person.{AreListedOf}
 use Rattle.roster_pricing.specs.declared.network.Network.{Network}
 use Rattle.roster_pricing.specs.Chains.{chain_value, IsChain}
 use Rattle.roster_pricing.specs.Networks.{AreRows, AreValues, IsNetwork}
@@ -43,3 +47,11 @@ abbrev pub IsLeastBehind : Network → List ℤ → List ℕ → ℕ → ℤ →
 IsLeastBehind network values set p least =
     (rest : List ℕ) → IsChain network.followers.items network.first (set ++ p ∷ rest)
     → least ≤ℤ chain_value network values 0 (set ++ p ∷ rest)
+
+-- Lines of person k: all whose reduced cost is no more than it may be, if the person is of the base, and else
+-- the empty one alone.
+pub record AreCheapOf (problem : Problem) (prices : List ℤ) (base k : ℕ) (limit : ℤ) (lines : List Entry) : Type 0 where
+  pub listed : AreListedOf problem k lines
+  pub every : (person : Person) → slice_get problem.persons k ≡ Some person → person.base ≡ base
+      → (set : List ℕ) → IsLine problem k set → reduced problem prices k set ≤ℤ limit → (i : ℕ) × (slice_get (sets_of lines) i ≡ Some set)
+  pub none : (person : Person) → slice_get problem.persons k ≡ Some person → person.base ≢ base → sets_of lines ≡ [] ∷ []

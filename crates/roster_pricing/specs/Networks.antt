@@ -3,7 +3,8 @@ use Rattle.std.specs.Prelude.{◌≡◌, ℕ, ◌+◌, ◌*◌, ◌-◌, ◌<◌
 use Rattle.roster_model.specs.Costs.{distance, flight_of}
 use Rattle.roster_model.specs.Problem.{Problem, target_of, units_of, weight_of}
 use Rattle.roster_cost.specs.Amounts.{IsWithin, minutes_of_pairing}
-use Rattle.roster_lines.specs.Listing.{AreAlone, ArePairs, IsRow as AreFollowers}
+use Rattle.roster_lines.specs.declared.pairs.Pairs.{Pairs}
+use Rattle.roster_lines.specs.Listing.{AreAllPairs, AreAlone, IsRow as AreFollowers}
 use Rattle.roster_pricing.specs.declared.network.Network.{Network}
 use Rattle.roster_pricing.specs.declared.parts.TheConstants.{MOST_TERM, MOST_VALUE, PARTS}
 use Rattle.roster_pricing.specs.Chains.{followers_of, next_state, value_at, IsRow}
@@ -35,7 +36,6 @@ pub record IsNetwork (problem : Problem) (k : ℕ) (network : Network) : Type 0 
   pub terms : AreTerms problem k step network.terms.items
   pub some : 0 < length network.terms.items
   pub within : All (IsWithin MOST_TERM) network.terms.items
-  pub pairs : ArePairs problem k network.pairs
 
 -- what each pairing brings
 pub record AreValues (problem : Problem) (prices : List ℤ) (k : ℕ) (values : List ℤ) : Type 0 where
@@ -57,3 +57,8 @@ pub record AreRows (problem : Problem) (network : Network) (values : List ℤ) (
 pub record AreNetworks (problem : Problem) (networks : List Network) : Type 0 where
   pub covers : length networks ≡ length problem.persons
   pub each : (k : ℕ) (network : Network) → slice_get networks k ≡ Some network → IsNetwork problem k network
+
+-- the pairs and the network of each person
+pub record IsPricing (problem : Problem) (pairs : List Pairs) (networks : List Network) : Type 0 where
+  pub judged : AreAllPairs problem pairs
+  pub are : AreNetworks problem networks

@@ -47,7 +47,8 @@ shares_behind problem prices p places =
     penalties_and_prices (price_at prices) (open_number problem) p (drop p problem.pairings) (drop p places)
     +ℤ pos ((PARTS - 1) * open_penalties (open_number problem) (drop p problem.pairings) (drop p places))
 
--- no more than the price of the pairing at place p, nor than its penalty
-pub record IsTermOf (problem : Problem) (p : ℕ) (price term : ℤ) : Type 0 where
-  pub flown : term ≤ℤ price
+-- No more than the penalty of the pairing at place p, nor than its price, if it is of the base. One of another
+-- base has no price in a roster of the base: nobody flies it.
+pub record IsTermOf (problem : Problem) (base p : ℕ) (price term : ℤ) : Type 0 where
+  pub flown : (pairing : Pairing) → slice_get problem.pairings p ≡ Some pairing → pairing.base ≡ base → term ≤ℤ price
   pub unflown : (pairing : Pairing) → slice_get problem.pairings p ≡ Some pairing → term ≤ℤ pos (PARTS * pairing.penalty)

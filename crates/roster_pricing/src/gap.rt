@@ -1,4 +1,4 @@
-//! Lines that a roster may have which costs little more than a bound.
+//! Lines that a roster of a base may have which costs little more than a bound.
 //!
 //! What a roster costs above the bound is what its persons' reduced costs are above the least ones, and what
 //! its pairings bring beside: nothing of that is below 0. So a line whose reduced cost alone is further above
@@ -9,7 +9,8 @@ ghost use Rattle.roster_model.specs.Costs.{cost_of};
 ghost use Rattle.roster_model.specs.Rosters.{IsLegalRoster};
 ghost use Rattle.roster_cost.specs.Amounts.{IsWithin};
 ghost use Rattle.roster_lines.specs.Person.{AreListed, IsOfTable};
-ghost use Rattle.roster_pricing.specs.Gaps.{IsAlong, IsLeastBehind, IsTabled};
+ghost use Rattle.roster_pricing.specs.Gaps.{AreCheapOf, IsAlong, IsLeastBehind, IsTabled};
+ghost use Rattle.roster_pricing.specs.Homes.{IsHome};
 ghost use Rattle.roster_pricing.specs.Looks.{IsLook};
 ghost use Rattle.roster_pricing.specs.Networks.{AreRows, IsNetwork};
 ghost use Rattle.roster_pricing.specs.Reduced.{ArePrices};
@@ -20,49 +21,76 @@ use crate::pricing::{Pricing, values_of};
 use crate::rows::{Row, led, next_state, rows_of};
 use roster_cumulative::flight_of_set;
 use roster_legal::part_of_legal_is_legal;
-use roster_lines::{LinesFault, Table, TableFault, Wanted, wanted_lines};
+use roster_lines::{Between, Lines, LinesFault, Table, TableFault, Wanted, lines_of_pairs};
 use roster_model::limits::{MOST_LINES, MOST_PAIRINGS};
 use roster_problem::{Problem, Set};
 use std::alloc::{AllocError, Global};
 use std::marker::Model;
 
-/// For each person the lines that a legal roster may have which costs at most so many units more than the bound
-/// that the prices say.
+/// For the rosters in which only persons of the base fly: the lines that each of them may have in a legal one
+/// that costs at most so many units more than the bound that the prices say. Other persons have the empty line.
 pub(crate) fn lines_of_gap(
     alloc: Global,
-    problem: &Problem,
     pricing: &Pricing<'_>,
+    base: usize,
     prices: &[i64],
     leasts: &[i64],
     bound: i64,
     gap: u32,
     most: usize,
 ) -> Result<Table, TableFault>
-    requires pricing { pricing.now ≡ problem.now }
-    requires prices { ArePrices problem.now prices.now }
-    requires look { IsLook problem.now prices.now bound leasts.now }
+    requires prices { ArePrices pricing.now prices.now }
+    requires look { IsLook pricing.now prices.now base bound leasts.now }
     requires limit { (0 < most) × (most ≤ MOST_LINES) }
-    ensures listed { IfOk result (AreListed problem.now) }
-    ensures all { IfOk result (λ table. (places : List ℕ) → IsLegalRoster problem.now places
-        → cost_of problem.now places ≤ℤ (bound +ℤ pos gap) → IsOfTable table places) }
+    ensures listed { IfOk result (AreListed pricing.now) }
+    ensures all { IfOk result (λ table. (places : List ℕ) → IsLegalRoster pricing.now places
+        → IsHome pricing.now base places
+        → cost_of pricing.now places ≤ℤ (bound +ℤ pos gap) → IsOfTable table places) }
+    ensures home { IfOk result (λ table. (places : List ℕ)
+        → IsOfTable table places → IsHome pricing.now base places) }
 {
+    let problem = pricing.problem();
     let mut table = Table::empty(alloc);
     for k in 0..problem.persons().len() {
-        let cheap = Cheap::new(
-            alloc,
-            problem,
-            k,
-            pricing.network(k),
-            prices,
-            limit_of(leasts[k], gap),
-        )?;
-        match wanted_lines(alloc, problem, k, &cheap, most) {
+        let limit = limit_of(leasts[k], gap);
+        match lines_of_person(alloc, pricing, base, k, prices, limit, most) {
             Ok(lines) => table.push(alloc, lines)?,
             Err(LinesFault::TooMany) => return Err(TableFault::TooMany(k)),
             Err(LinesFault::Memory) => return Err(TableFault::Memory),
         }
     }
     Ok(table)
+}
+
+/// The lines of person `k` whose reduced cost is at most so much at the prices; the empty one alone, if the
+/// person is of another base.
+fn lines_of_person(
+    alloc: Global,
+    pricing: &Pricing<'_>,
+    base: usize,
+    k: usize,
+    prices: &[i64],
+    limit: i64,
+    most: usize,
+) -> Result<Lines, LinesFault>
+    requires person { k < length pricing.now.persons }
+    requires prices { ArePrices pricing.now prices.now }
+    requires limit { (0 < most) × (most ≤ MOST_LINES) }
+    ensures { IfOk result (AreCheapOf pricing.now prices.now base k limit) }
+{
+    let problem = pricing.problem();
+    let pairs = pricing.pairs(k);
+    if problem.person(k).base != base {
+        let none = Between {
+            must: Set::empty(),
+            may: Set::empty(),
+        };
+        let lines = lines_of_pairs(alloc, problem, k, pairs, &none, 1)?;
+        return Ok(lines);
+    }
+    let cheap = Cheap::new(alloc, problem, k, pricing.network(k), prices, limit)?;
+    let lines = lines_of_pairs(alloc, problem, k, pairs, &cheap, most)?;
+    Ok(lines)
 }
 
 /// What a reduced cost may be at most that is no further above the least one than so many units, rounded up.

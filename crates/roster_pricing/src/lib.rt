@@ -1,9 +1,10 @@
-//! What no roster costs less than, however many legal sets there are.
+//! What no roster of a base costs less than, however many legal sets there are.
 //!
-//! At any prices of pairings a roster costs the reduced costs of its lines, and the price or the penalty of
-//! each pairing. Each line of a person is a chain of pairings of which each is legal with the one before, so
-//! the cheapest chain costs no more than any line; and a table over pairings and the flight so far has it,
-//! whatever the number of lines. In reading order:
+//! In a roster of a base only its persons fly, so the pairings of other bases are open. At any prices of
+//! pairings it costs the reduced costs of its lines, and the price or the penalty of each pairing. Each line of
+//! a person is a chain of pairings of which each is legal with the one before, so the cheapest chain costs no
+//! more than any line; and a table over pairings and the flight so far has it, whatever the number of lines.
+//! In reading order:
 //!
 //! - `parts`: amounts in parts of a cost unit
 //! - `network`: which pairings may follow one another
@@ -12,8 +13,8 @@
 //! - `columns`: chains that are known
 //! - `listing`: how they are listed
 //! - `sets`: legal sets, listed
-//! - `persons`: looks at each person, shared among threads
-//! - `pricing`: what prices say of all rosters
+//! - `persons`: looks at each person of a base, shared among threads
+//! - `pricing`: what prices say of the rosters of a base
 //! - `master`: the best prices for the chains that are known
 //! - `softness`: weights and logarithms in whole numbers
 //! - `rising`: prices that say more and more
@@ -38,4 +39,5 @@ mod softness;
 mod terms;
 mod tuning;
 
+pub use pricing::Pricing;
 pub use rising::PricedBound;

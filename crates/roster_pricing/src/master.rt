@@ -10,6 +10,13 @@ use crate::tuning::{COLUMNS_FOR_A_THREAD, FIRST_SOFTNESS, LEAST_SOFTNESS, ONE, P
 use std::alloc::{AllocError, Global};
 use std::thread::{Threads, for_each_mut};
 
+/// A pairing that has a price, and what it costs to leave it open, in parts of a cost unit.
+#[derive(Clone, Copy, Debug)]
+pub(crate) struct Covered {
+    pub(crate) place: usize,
+    pub(crate) penalty: i64,
+}
+
 /// Prices on their way, how fast each moves, and the best ones so far.
 #[derive(Drop)]
 struct Way {
@@ -34,15 +41,16 @@ struct Portion {
 }
 
 /// Prices near the given ones, by no more than the stride, at which the columns of all persons cost the most,
-/// each pairing counting with its price, or its penalty if that is less: soft covers with momentum. So many
-/// threads at most share the persons; what covers and costs add up to is the same for any number of them.
+/// each covered pairing counting with its price, or its penalty if that is less: soft covers with momentum.
+/// Those of other pairings stay. So many threads at most share the persons; what covers and costs add up to is
+/// the same for any number of them.
 pub(crate) fn ascend<R: Threads + Sync>(
     rt: &R,
     alloc: Global,
     threads: usize,
     seen: &[Seen],
     center: &[i64],
-    penalties: &[i64],
+    covered: &[Covered],
     stride: i64,
 ) -> Result<Vec<i64>, AllocError>
     requires { 0 < threads }
@@ -53,9 +61,9 @@ pub(crate) fn ascend<R: Threads + Sync>(
         cover_all(rt, threads, seen, &way, &mut portions);
         let mut covers = vec![in alloc; 0; center.len()]?;
         let sum = added(&portions, &mut covers)?;
-        let terms = sum_of_terms(&way.prices, penalties);
+        let terms = sum_of_terms(&way.prices, covered);
         judge(alloc, &mut way, sum.wrapping_add(terms))?;
-        advance(&mut way, &covers, center, penalties, stride);
+        advance(&mut way, &covers, center, covered, stride);
     }
     Ok(way.best)
 }
@@ -168,11 +176,10 @@ fn copied(alloc: Global, list: &[i64]) -> Result<Vec<i64>, AllocError> {
 }
 
 // The sum of the lesser of each price and penalty.
-fn sum_of_terms(prices: &[i64], penalties: &[i64]) -> i64 {
+fn sum_of_terms(prices: &[i64], covered: &[Covered]) -> i64 {
     let mut sum: i64 = 0;
-    for (p, price) in prices.iter().enumerate() {
-        let penalty = amount_at(penalties, p);
-        sum = sum.wrapping_add(if *price < penalty { *price } else { penalty });
+    for pairing in covered {
+        sum = sum.wrapping_add(amount_at(prices, pairing.place).min(pairing.penalty));
     }
     sum
 }
@@ -194,25 +201,31 @@ fn judge(alloc: Global, way: &mut Way, sum: i64) -> Result<(), AllocError> {
 }
 
 // Moves each price by how far its cover is from one, with what is left of its speed.
-fn advance(way: &mut Way, covers: &[i64], center: &[i64], penalties: &[i64], stride: i64) {
-    if turns_back(way, covers) {
+fn advance(way: &mut Way, covers: &[i64], center: &[i64], covered: &[Covered], stride: i64) {
+    if turns_back(way, covers, covered) {
         way.turns = 0;
     }
     let turns = way.turns;
     way.turns = turns.wrapping_add(1);
-    for p in 0..way.prices.len() {
+    for pairing in covered {
+        let p = pairing.place;
         let kept = slowed(amount_at(&way.speeds, p), turns);
         let speed = kept.wrapping_add(push_of(amount_at(covers, p), way.softness));
         let near = amount_at(center, p);
-        let price = way.prices[p]
+        let price = amount_at(&way.prices, p)
             .wrapping_add(speed)
             .min(near.wrapping_add(stride))
             .max(near.wrapping_sub(stride))
-            .min(amount_at(penalties, p));
-        way.prices[p] = price;
-        if p < way.speeds.len() {
-            way.speeds[p] = speed;
-        }
+            .min(pairing.penalty);
+        put(&mut way.prices, p, price);
+        put(&mut way.speeds, p, speed);
+    }
+}
+
+// Sets the number at a place of a list.
+fn put(amounts: &mut [i64], i: usize, amount: i64) {
+    if i < amounts.len() {
+        amounts[i] = amount;
     }
 }
 
@@ -227,11 +240,12 @@ fn push_of(cover: i64, softness: i64) -> i64 {
 }
 
 // Whether the prices move against what covers say.
-fn turns_back(way: &Way, covers: &[i64]) -> bool {
+fn turns_back(way: &Way, covers: &[i64], covered: &[Covered]) -> bool {
     let mut along: i64 = 0;
-    for (p, speed) in way.speeds.iter().enumerate() {
-        let push = push_of(amount_at(covers, p), way.softness);
-        along = along.wrapping_add((push / 16).wrapping_mul(*speed / 16));
+    for pairing in covered {
+        let push = push_of(amount_at(covers, pairing.place), way.softness);
+        let speed = amount_at(&way.speeds, pairing.place);
+        along = along.wrapping_add((push / 16).wrapping_mul(speed / 16));
     }
     along < 0
 }

@@ -1,12 +1,11 @@
 //! The network of a person: which pairings may follow one another, and what flight costs at the end.
 
 ghost use Rattle.std.specs.Prelude.{◌≡◌, ◌<◌, ◌≤◌, ◌/◌, ◌*◌, ℕ, All, IfOk, IsTrue, length, slice_index};
-ghost use Rattle.roster_lines.specs.Listing.{ArePartsLegal};
+ghost use Rattle.roster_lines.specs.Listing.{ArePairs};
 ghost use Rattle.roster_pricing.specs.Networks.{IsNetwork};
 
 use crate::terms::terms_of;
-use roster_legal::{Judge, part_of_legal_is_legal};
-use roster_lines::{Pairs, pairs_of};
+use roster_lines::Pairs;
 use roster_problem::{Problem, Set};
 use std::alloc::{AllocError, Global};
 
@@ -21,38 +20,38 @@ pub(crate) struct Network {
     pub(crate) followers: Vec<Set>,
     pub(crate) steps: Vec<usize>,
     pub(crate) terms: Vec<i64>,
-    /// What the first two are from.
-    pub(crate) pairs: Pairs,
 }
 
-/// The network of person `k`.
-pub(crate) fn network_of(alloc: Global, problem: &Problem, k: usize) -> Result<Network, AllocError>
-    requires { k < length problem.now.persons }
+/// The network of person `k`, whose pairs are known.
+pub(crate) fn network_of(
+    alloc: Global,
+    problem: &Problem,
+    k: usize,
+    pairs: &Pairs,
+) -> Result<Network, AllocError>
+    requires person { k < length problem.now.persons }
+    requires pairs { ArePairs problem.now k pairs.now }
     ensures { IfOk result (IsNetwork problem.now k) }
 {
-    parts_are_legal(problem);
-    let mut judge = Judge::new(alloc, problem);
-    let pairs = pairs_of(alloc, &mut judge, problem, k)?;
     let step = step_of(&pairs.flights);
     let terms = terms_of(alloc, problem, k, step)?;
     let steps = steps_of(alloc, &pairs.flights, step)?;
-    let mut followers = Vec::new(alloc);
-    followers.extend_from_slice(&pairs.rows)?;
+    let followers = copied(alloc, &pairs.rows)?;
     Ok(Network {
         first: pairs.alone,
         followers,
         steps,
         terms,
-        pairs,
     })
 }
 
-/// What is part of a legal set is legal.
-fn parts_are_legal(problem: &Problem)
-    ensures { (k : ℕ) → ArePartsLegal problem.now k }
+/// The same sets.
+fn copied(alloc: Global, sets: &[Set]) -> Result<Vec<Set>, AllocError>
+    ensures { IfOk result (λ copy. copy.items ≡ sets.now) }
 {
-    part_of_legal_is_legal();
-    problem.is_sound();
+    let mut copy = Vec::new(alloc);
+    copy.extend_from_slice(sets)?;
+    Ok(copy)
 }
 
 /// The minutes of a step: each flight is so many steps.

@@ -1,11 +1,13 @@
 //! Lower bounds by dual prices.
 
 ghost use Rattle.std.specs.Prelude.{◌≡◌, ◌<◌, ◌*◌, ◌≤ℤ◌, ◌+ℤ◌, ◌-ℤ◌, ◌*ℤ◌, ℕ, ℤ, pos, IfOk, List, length};
+ghost use Rattle.roster_lines.specs.Listing.{AreAllPairs, ArePairs};
 ghost use Rattle.roster_model.specs.Problem.{units_of};
 ghost use Rattle.roster_model.specs.Rosters.{IsLegalRoster};
 ghost use Rattle.roster_cost.specs.Amounts.{IsWithin};
 ghost use Rattle.roster_pricing.specs.Networks.{AreRows, AreValues, IsNetwork};
-ghost use Rattle.roster_pricing.specs.Looks.{AreLeasts, IsLook};
+ghost use Rattle.roster_pricing.specs.Homes.{IsHome};
+ghost use Rattle.roster_pricing.specs.Looks.{AreLeasts, ArePersonsOf, IsLook};
 ghost use Rattle.roster_pricing.specs.Reduced.{shares_behind, ArePrices, IsLeastOf, IsTermOf};
 
 use crate::columns::Columns;
@@ -19,20 +21,21 @@ use crate::sets::least_set;
 use roster_cost::{cost_without_pairings, priced_shares_add_up, shares_add_up};
 use roster_cumulative::flight_of_set;
 use roster_legal::part_of_legal_is_legal;
+use roster_lines::Pairs;
 use roster_model::limits::{MOST_PAIRINGS, MOST_PERSONS};
 use roster_problem::Problem;
 use std::alloc::{AllocError, Global};
 use std::marker::Model;
 use std::thread::Threads;
 
-/// What prices say of all rosters.
+/// What prices say of the rosters of a base: those in which nobody else flies.
 #[derive(Debug, Drop)]
 pub(crate) struct Look {
-    /// No legal roster costs less, in cost units.
+    /// No legal roster of the base costs less, in cost units.
     pub(crate) bound: i64,
     /// The same in parts of a cost unit, above what it costs that nobody has a pairing.
     pub(crate) parts: i64,
-    /// What the reduced cost of each person is at least, in parts of a cost unit.
+    /// What the reduced cost of each person is at least in such a roster, in parts of a cost unit.
     pub(crate) leasts: Vec<i64>,
 }
 
@@ -43,57 +46,77 @@ pub(crate) struct Leasts {
     each: Vec<i64>,
 }
 
-/// The networks of all persons. Contracts see the problem.
+/// The pairs and the network of each person, made once for the bounds of all bases. Contracts see the problem.
 #[derive(Debug, Drop)]
-pub(crate) struct Pricing<'a> {
+pub struct Pricing<'a> {
     problem: &'a Problem,
+    pairs: &'a [Pairs],
     networks: Vec<Network>,
 }
 
 impl<'a> Model for Pricing<'a> {
     ghost use Rattle.roster_model.specs.Problem.{Problem};
-    ghost use Rattle.roster_pricing.specs.Networks.{AreNetworks};
+    ghost use Rattle.roster_pricing.specs.Networks.{IsPricing};
 
     ghost Value = { Problem };
 
     ghost view = { λ p. p.problem.now };
 
-    ghost invariant = { λ p. AreNetworks p.problem.now p.networks.items };
+    ghost invariant = { λ p. IsPricing p.problem.now p.pairs.now p.networks.items };
 }
 
 impl<'a> Pricing<'a> {
-    /// The networks of all persons of the problem.
-    pub(crate) fn new(alloc: Global, problem: &'a Problem) -> Result<Pricing<'a>, AllocError>
+    /// The networks of all persons. Their pairs are known, as `all_pairs` of `roster_lines` has them.
+    pub fn new(
+        alloc: Global,
+        problem: &'a Problem,
+        pairs: &'a [Pairs],
+    ) -> Result<Pricing<'a>, AllocError>
+        requires { AreAllPairs problem.now pairs.now }
         ensures { IfOk result (λ pricing. pricing ≡ problem.now) }
     {
         let mut networks = Vec::new(alloc);
         for k in 0..problem.persons().len() {
-            networks.push(network_of(alloc, problem, k)?)?;
+            networks.push(network_of(alloc, problem, k, &pairs[k])?)?;
         }
-        Ok(Pricing { problem, networks })
+        Ok(Pricing {
+            problem,
+            pairs,
+            networks,
+        })
     }
 
-    /// What the prices say of all rosters. The columns of persons are renewed. So many threads at most share
-    /// the persons.
+    /// The problem.
+    pub(crate) fn problem(&self) -> &'a Problem
+        ensures { result.now ≡ self.now }
+    {
+        self.problem
+    }
+
+    /// What the prices say of all rosters of the base, whose persons are given. The columns of these are
+    /// renewed. So many threads at most share them.
     pub(crate) fn look<R: Threads + Sync>(
         &self,
         rt: &R,
         alloc: Global,
         threads: usize,
+        base: usize,
+        persons: &[usize],
         prices: &[i64],
         seen: &mut [Seen],
     ) -> Result<Look, AllocError>
         requires threads { 0 < threads }
+        requires persons { ArePersonsOf self.now base persons.now }
         requires prices { ArePrices self.now prices.now }
-        requires covers { length seen.old ≡ length self.now.persons }
+        requires covers { length seen.old ≡ length persons.now }
         ensures look { IfOk result
-            (λ look. IsLook self.now prices.now look.bound look.leasts.items) }
+            (λ look. IsLook self.now prices.now base look.bound look.leasts.items) }
         ensures covers { length seen.new ≡ length seen.old }
     {
         priced_shares_add_up();
         shares_add_up();
-        let leasts = self.leasts(rt, alloc, threads, prices, seen)?;
-        let terms = sum_of_terms(self.problem, prices);
+        let leasts = self.leasts(rt, alloc, threads, base, persons, prices, seen)?;
+        let terms = sum_of_terms(self.problem, base, prices);
         let parts = leasts.sum + terms;
         let bound = cost_without_pairings(self.problem) + in_units(parts);
         Ok(Look {
@@ -123,49 +146,78 @@ impl<'a> Pricing<'a> {
         requires prices { ArePrices self.now prices.now }
         ensures { IfOk result (IsLeastOf self.now prices.now k) }
     {
-        least_of(alloc, self.problem, k, &self.networks[k], prices, columns)
+        least_of(
+            alloc,
+            self.problem,
+            k,
+            self.pairs(k),
+            &self.networks[k],
+            prices,
+            columns,
+        )
     }
 
-    /// What each person's reduced costs are at least, and the sum.
+    /// The pairs of person `k`.
+    pub(crate) fn pairs(&self, k: usize) -> &Pairs
+        requires { k < length self.now.persons }
+        ensures { ArePairs self.now k result.now }
+    {
+        self.problem.is_sound();
+        &self.pairs[k]
+    }
+
+    /// What each person's reduced costs are at least in rosters of the base, and the sum. Those of another
+    /// base fly nothing.
     fn leasts<R: Threads + Sync>(
         &self,
         rt: &R,
         alloc: Global,
         threads: usize,
+        base: usize,
+        persons: &[usize],
         prices: &[i64],
         seen: &mut [Seen],
     ) -> Result<Leasts, AllocError>
         requires threads { 0 < threads }
+        requires persons { ArePersonsOf self.now base persons.now }
         requires prices { ArePrices self.now prices.now }
-        requires covers { length seen.old ≡ length self.now.persons }
-        ensures are { IfOk result (λ leasts. AreLeasts self.now prices.now
+        requires covers { length seen.old ≡ length persons.now }
+        ensures are { IfOk result (λ leasts. AreLeasts self.now prices.now base
             (length self.now.persons) leasts.sum leasts.each.items) }
         ensures within { IfOk result (λ leasts. IsWithin (MOST_PERSONS * MOST_LEAST) leasts.sum) }
         ensures covers { length seen.new ≡ length seen.old }
     {
         self.problem.is_sound();
-        look_at_all(rt, alloc, threads, self, prices, seen);
+        look_at_all(rt, alloc, threads, self, persons, prices, seen);
         let mut sum = 0;
         let mut each = Vec::new(alloc);
-        for k in 0..seen.len() {
-            let least = seen[k].least?;
+        let mut i = 0;
+        for k in 0..self.problem.persons().len() {
+            if self.problem.person(k).base != base {
+                each.push(0)?;
+                continue;
+            }
+            let least = seen[i].least?;
             each.push(least)?;
             sum += least;
+            i += 1;
         }
         Ok(Leasts { sum, each })
     }
 }
 
-/// No line of person `k`, whose network it is, has a lower reduced cost at the prices.
+/// No line of person `k`, whose pairs and network these are, has a lower reduced cost at the prices.
 fn least_of(
     alloc: Global,
     problem: &Problem,
     k: usize,
+    pairs: &Pairs,
     network: &Network,
     prices: &[i64],
     columns: &mut Columns,
 ) -> Result<i64, AllocError>
     requires person { k < length problem.now.persons }
+    requires pairs { ArePairs problem.now k pairs.now }
     requires network { IsNetwork problem.now k network.now }
     requires prices { ArePrices problem.now prices.now }
     ensures { IfOk result (IsLeastOf problem.now prices.now k) }
@@ -175,9 +227,7 @@ fn least_of(
     let chain = least_chain(alloc, problem, k, network, prices, &values, &rows)?;
     if columns.sets {
         let mut cheap = Cheap::of_rows(problem, k, network, prices, values, rows, chain);
-        let least = least_set(
-            alloc, problem, k, network, prices, &mut cheap, chain, columns,
-        )?;
+        let least = least_set(alloc, problem, k, pairs, prices, &mut cheap, chain, columns)?;
         return Ok(least);
     }
     renew_at(alloc, network, prices, &values, &rows, chain, columns)?;
@@ -235,10 +285,11 @@ fn value_of(problem: &Problem, k: usize, p: usize, price: i64) -> i64
     PARTS as i64 * problem.units(k, p) - price
 }
 
-/// The sum of the lesser of each pairing's price and penalty.
-fn sum_of_terms(problem: &Problem, prices: &[i64]) -> i64
+/// What all pairings bring at least to a roster of the base.
+fn sum_of_terms(problem: &Problem, base: usize, prices: &[i64]) -> i64
     requires { ArePrices problem.now prices.now }
     ensures least { (places : List ℕ) → IsLegalRoster problem.now places
+        → IsHome problem.now base places
         → result ≤ℤ shares_behind problem.now prices.now 0 places }
     ensures within { IsWithin (MOST_PAIRINGS * MOST_PRICE) result }
 {
@@ -246,20 +297,24 @@ fn sum_of_terms(problem: &Problem, prices: &[i64]) -> i64
     let count = problem.pairings().len();
     let mut sum = 0;
     for back in 0..count {
-        sum += term_of(problem, count - 1 - back, prices[count - 1 - back]);
+        sum += term_of(problem, base, count - 1 - back, prices[count - 1 - back]);
     }
     sum
 }
 
-/// The lesser of a pairing's price and penalty.
-fn term_of(problem: &Problem, p: usize, price: i64) -> i64
+/// The lesser of a pairing's price and penalty. One of another base is open: its penalty.
+fn term_of(problem: &Problem, base: usize, p: usize, price: i64) -> i64
     requires pairing { p < length problem.now.pairings }
     requires price { IsWithin MOST_PRICE price }
-    ensures term { IsTermOf problem.now p price result }
+    ensures term { IsTermOf problem.now base p price result }
     ensures within { IsWithin MOST_PRICE result }
 {
     problem.is_sound();
-    let penalty = (PARTS * u64::from(problem.pairing(p).penalty)) as i64;
+    let pairing = problem.pairing(p);
+    let penalty = (PARTS * u64::from(pairing.penalty)) as i64;
+    if pairing.base != base {
+        return penalty;
+    }
     if price < penalty { price } else { penalty }
 }
 

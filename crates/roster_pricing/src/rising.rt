@@ -1,20 +1,20 @@
 //! Prices on their rise: a bound that gets better round by round.
 
-ghost use Rattle.std.specs.Prelude.{◌≡◌, ◌<◌, ◌≤◌, ◌≤ℤ◌, ◌+ℤ◌, ℕ, pos, IfOk, List, length};
+ghost use Rattle.std.specs.Prelude.{◌≡◌, ◌<◌, ◌≤◌, ◌≤ℤ◌, ◌+ℤ◌, ℕ, pos, IfOk, List};
 ghost use Rattle.roster_model.specs.Costs.{cost_of};
 ghost use Rattle.roster_model.specs.Rosters.{IsLegalRoster};
-ghost use Rattle.roster_model.specs.Settled.{IsLowerBound};
 ghost use Rattle.roster_cost.specs.Amounts.{IsWithin};
 ghost use Rattle.roster_lines.specs.Person.{AreListed, IsOfTable};
+ghost use Rattle.roster_pricing.specs.Homes.{IsHome, IsHomeBound};
 ghost use Rattle.roster_pricing.specs.Looks.{IsLook};
 ghost use Rattle.roster_pricing.specs.Reduced.{ArePrices};
 
 use crate::gap::lines_of_gap;
 use crate::lists::amount_at;
-use crate::master::ascend;
+use crate::master::{Covered, ascend};
 use crate::parts::{MOST_PRICE, PARTS};
-use crate::persons::{Seen, unseen};
-use crate::pricing::Pricing;
+use crate::persons::{Seen, persons_of, unseen};
+use crate::pricing::{Look, Pricing};
 use crate::sets::turn_to_sets;
 use crate::tuning::{FIRST_STRIDE, LEAST_STRIDE, MOST_IDLE, MOST_STRIDE};
 use roster_lines::{Table, TableFault};
@@ -24,12 +24,15 @@ use std::alloc::{AllocError, Global};
 use std::marker::Model;
 use std::thread::Threads;
 
-/// A number that no legal roster costs less than, and the prices that say so: the best so far. Contracts see
-/// the problem and the number.
+/// For the rosters in which only persons of one base fly: what no legal one costs less than, and the prices that
+/// say so, the best so far. Each roster falls apart into such ones, since nobody flies a pairing of another base.
+/// Contracts see the problem, the base and that number.
 #[derive(Drop)]
 pub struct PricedBound<'a> {
-    problem: &'a Problem,
-    pricing: Pricing<'a>,
+    pricing: &'a Pricing<'a>,
+    base: usize,
+    // The persons of the base, and what looks know of each.
+    persons: Vec<usize>,
     seen: Vec<Seen>,
     prices: Vec<i64>,
     leasts: Vec<i64>,
@@ -49,30 +52,34 @@ impl<'a> Model for PricedBound<'a> {
 
     ghost Value = { Bounded };
 
-    ghost view = { λ b. record { problem = b.problem.now; bound = b.bound } };
+    ghost view = { λ b. record { problem = b.pricing.now; base = b.base; bound = b.bound } };
 
-    ghost invariant = { λ b. IsPricedBound b.problem.now b.pricing (vec_len b.seen)
-        b.prices.items b.leasts.items b.bound };
+    ghost invariant = { λ b. IsPricedBound b.pricing.now b.base b.persons.items
+        (vec_len b.seen) b.prices.items b.leasts.items b.bound };
 }
 
 impl<'a> PricedBound<'a> {
-    /// What no prices at all say. So many threads at most share the persons.
+    /// What no prices at all say of the base at this place. So many threads at most share its persons.
     pub fn new<R: Threads + Sync>(
         rt: &R,
         alloc: Global,
         threads: usize,
-        problem: &'a Problem,
+        pricing: &'a Pricing<'a>,
+        base: usize,
     ) -> Result<PricedBound<'a>, AllocError>
         requires { 0 < threads }
-        ensures { IfOk result (λ bound. bound.problem ≡ problem.now) }
+        ensures problem { IfOk result (λ bound. bound.problem ≡ pricing.now) }
+        ensures base { IfOk result (λ bound. bound.base ≡ base) }
     {
-        let pricing = Pricing::new(alloc, problem)?;
-        let mut seen = unseen(alloc, problem.persons().len())?;
+        let problem = pricing.problem();
+        let persons = persons_of(alloc, problem, base)?;
+        let mut seen = unseen(alloc, persons.len())?;
         let prices = no_prices(alloc, problem)?;
-        let look = pricing.look(rt, alloc, threads, &prices, &mut seen)?;
+        let look = pricing.look(rt, alloc, threads, base, &persons, &prices, &mut seen)?;
         Ok(PricedBound {
-            problem,
             pricing,
+            base,
+            persons,
             seen,
             prices,
             leasts: look.leasts,
@@ -84,10 +91,10 @@ impl<'a> PricedBound<'a> {
         })
     }
 
-    /// No legal roster costs less, in cost units.
+    /// No legal roster in which only persons of the base fly costs less, in cost units.
     pub fn bound(&self) -> i64
         ensures value { result ≡ self.now.bound }
-        ensures bound { IsLowerBound self.now.problem result }
+        ensures bound { IsHomeBound self.now.problem self.now.base result }
     {
         self.bound
     }
@@ -106,41 +113,62 @@ impl<'a> PricedBound<'a> {
         looks: u32,
     ) -> Result<(), AllocError>
         requires { 0 < threads }
-        ensures { self.new.problem ≡ self.old.problem }
+        ensures problem { self.new.problem ≡ self.old.problem }
+        ensures base { self.new.base ≡ self.old.base }
+        ensures raised { self.old.bound ≤ℤ self.new.bound }
     {
         for _ in 0..looks {
             if self.bound >= known || (self.sets && self.idle >= MOST_IDLE) {
                 break;
             }
-            if self.idle >= MOST_IDLE {
-                self.turn(rt, alloc, threads)?;
-            } else {
-                self.step(rt, alloc, threads)?;
-            }
+            self.look_on(rt, alloc, threads)?;
         }
         Ok(())
     }
 
-    /// For each person the lines that a legal roster may have which costs at most so many units more than the
-    /// bound, if no person's are more than `most`.
+    /// For the rosters in which only persons of the base fly: the lines that each of them may have in a legal one
+    /// that costs at most so many units more than the bound, if nobody has more than `most`. Other persons have
+    /// the empty line.
     pub fn lines_within(&self, alloc: Global, gap: u32, most: usize) -> Result<Table, TableFault>
         requires { (0 < most) × (most ≤ MOST_LINES) }
         ensures listed { IfOk result (AreListed self.now.problem) }
         ensures all { IfOk result (λ table. (places : List ℕ)
             → IsLegalRoster self.now.problem places
+            → IsHome self.now.problem self.now.base places
             → cost_of self.now.problem places ≤ℤ (self.now.bound +ℤ pos gap)
             → IsOfTable table places) }
+        ensures home { IfOk result (λ table. (places : List ℕ)
+            → IsOfTable table places → IsHome self.now.problem self.now.base places) }
     {
         lines_of_gap(
             alloc,
-            self.problem,
-            &self.pricing,
+            self.pricing,
+            self.base,
             &self.prices,
             &self.leasts,
             self.bound,
             gap,
             most,
         )
+    }
+
+    /// Looks once more: by lines from now on, if many looks in a row have said no more.
+    fn look_on<R: Threads + Sync>(
+        &mut self,
+        rt: &R,
+        alloc: Global,
+        threads: usize,
+    ) -> Result<(), AllocError>
+        requires { 0 < threads }
+        ensures problem { self.new.problem ≡ self.old.problem }
+        ensures base { self.new.base ≡ self.old.base }
+        ensures raised { self.old.bound ≤ℤ self.new.bound }
+    {
+        if self.idle >= MOST_IDLE {
+            self.turn(rt, alloc, threads)
+        } else {
+            self.step(rt, alloc, threads)
+        }
     }
 
     /// Looks at the next prices, and takes them if they say more.
@@ -151,17 +179,19 @@ impl<'a> PricedBound<'a> {
         threads: usize,
     ) -> Result<(), AllocError>
         requires { 0 < threads }
-        ensures { self.new.problem ≡ self.old.problem }
+        ensures problem { self.new.problem ≡ self.old.problem }
+        ensures base { self.new.base ≡ self.old.base }
+        ensures raised { self.old.bound ≤ℤ self.new.bound }
     {
-        let problem = self.problem;
-        let penalties = penalties(alloc, problem)?;
+        let problem = self.pricing.problem();
+        let covered = covered_of(alloc, problem, self.base)?;
         let wanted = ascend(
             rt,
             alloc,
             threads,
             &self.seen,
             &self.prices,
-            &penalties,
+            &covered,
             self.stride,
         )?;
         let prices = limited(alloc, problem, &wanted)?;
@@ -176,7 +206,9 @@ impl<'a> PricedBound<'a> {
         threads: usize,
     ) -> Result<(), AllocError>
         requires { 0 < threads }
-        ensures { self.new.problem ≡ self.old.problem }
+        ensures problem { self.new.problem ≡ self.old.problem }
+        ensures base { self.new.base ≡ self.old.base }
+        ensures raised { self.old.bound ≤ℤ self.new.bound }
     {
         turn_to_sets(alloc, &mut self.seen);
         self.sets = true;
@@ -198,27 +230,46 @@ impl<'a> PricedBound<'a> {
     ) -> Result<(), AllocError>
         requires threads { 0 < threads }
         requires prices { ArePrices self.old.problem prices.items }
-        ensures { self.new.problem ≡ self.old.problem }
+        ensures problem { self.new.problem ≡ self.old.problem }
+        ensures base { self.new.base ≡ self.old.base }
+        ensures raised { self.old.bound ≤ℤ self.new.bound }
     {
-        let look = self
-            .pricing
-            .look(rt, alloc, threads, &prices, &mut self.seen)?;
-        if look.parts > self.parts {
-            self.idle = if look.bound > self.bound {
-                0
-            } else {
-                self.idle.wrapping_add(1)
-            };
-            self.stride = wider(self.stride);
-            self.parts = look.parts;
-            self.prices = prices;
-            self.leasts = look.leasts;
-            self.bound = look.bound;
-        } else {
+        let look = self.pricing.look(
+            rt,
+            alloc,
+            threads,
+            self.base,
+            &self.persons,
+            &prices,
+            &mut self.seen,
+        )?;
+        self.take(prices, look);
+        Ok(())
+    }
+
+    /// Takes the prices if the look at them says more.
+    fn take(&mut self, prices: Vec<i64>, look: Look)
+        requires prices { ArePrices self.old.problem prices.items }
+        requires look { IsLook self.old.problem prices.items self.old.base look.bound look.leasts.items }
+        ensures problem { self.new.problem ≡ self.old.problem }
+        ensures base { self.new.base ≡ self.old.base }
+        ensures raised { self.old.bound ≤ℤ self.new.bound }
+    {
+        if look.bound < self.bound || look.parts <= self.parts {
             self.idle = self.idle.wrapping_add(1);
             self.stride = narrower(self.stride);
+            return;
         }
-        Ok(())
+        self.idle = if look.bound > self.bound {
+            0
+        } else {
+            self.idle.wrapping_add(1)
+        };
+        self.stride = wider(self.stride);
+        self.parts = look.parts;
+        self.prices = prices;
+        self.leasts = look.leasts;
+        self.bound = look.bound;
     }
 }
 
@@ -240,13 +291,16 @@ fn no_prices(alloc: Global, problem: &Problem) -> Result<Vec<i64>, AllocError>
     Ok(prices)
 }
 
-/// What it costs to leave each pairing open, in parts of a cost unit.
-fn penalties(alloc: Global, problem: &Problem) -> Result<Vec<i64>, AllocError> {
-    let mut penalties = Vec::new(alloc);
-    for pairing in problem.pairings() {
-        penalties.push(i64::from(pairing.penalty).wrapping_mul(PARTS as i64))?;
+/// The pairings of the base.
+fn covered_of(alloc: Global, problem: &Problem, base: usize) -> Result<Vec<Covered>, AllocError> {
+    let mut covered = Vec::new(alloc);
+    for (place, pairing) in problem.pairings().iter().enumerate() {
+        if pairing.base == base {
+            let penalty = i64::from(pairing.penalty).wrapping_mul(PARTS as i64);
+            covered.push(Covered { place, penalty })?;
+        }
     }
-    Ok(penalties)
+    Ok(covered)
 }
 
 /// For each pairing the price that is wanted, within the limits of prices.

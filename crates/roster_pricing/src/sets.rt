@@ -8,14 +8,13 @@ ghost use Rattle.std.specs.Prelude.{◌≡◌, ◌<◌, ◌*◌, ◌-ℤ◌, ◌
 ghost use Rattle.roster_model.specs.Costs.{line_cost, total};
 ghost use Rattle.roster_cost.specs.Amounts.{IsWithin};
 ghost use Rattle.roster_lines.specs.Entries.{set_at, sets_of};
+ghost use Rattle.roster_lines.specs.Listing.{ArePairs};
 ghost use Rattle.roster_lines.specs.Person.{AreListedOf};
 ghost use Rattle.roster_pricing.specs.Gaps.{IsOf};
-ghost use Rattle.roster_pricing.specs.Networks.{IsNetwork};
 ghost use Rattle.roster_pricing.specs.Reduced.{price_at, reduced, ArePrices, IsLeastListed, IsLeastOf};
 
 use crate::columns::Columns;
 use crate::gap::Cheap;
-use crate::network::Network;
 use crate::parts::{MOST_LEAST, MOST_PRICE, MOST_TERM, PARTS};
 use crate::persons::Seen;
 use crate::tuning::{
@@ -23,7 +22,7 @@ use crate::tuning::{
     MOST_REACH,
 };
 use roster_cost::lines_are_near;
-use roster_lines::{Lines, LinesFault, lines_of_pairs};
+use roster_lines::{Lines, LinesFault, Pairs, lines_of_pairs};
 use roster_model::limits::MOST_PAIRINGS;
 use roster_problem::{Problem, Set};
 use std::alloc::{AllocError, Global};
@@ -45,20 +44,20 @@ pub(crate) fn turn_to_sets(alloc: Global, seen: &mut [Seen])
     }
 }
 
-/// No line of person `k`, whose network it is, has a lower reduced cost at the prices; none has a lower one
+/// No line of person `k`, whose pairs these are, has a lower reduced cost at the prices; none has a lower one
 /// than `chain`. The columns become lines that cost little, and known ones that cost more.
 pub(crate) fn least_set(
     alloc: Global,
     problem: &Problem,
     k: usize,
-    network: &Network,
+    pairs: &Pairs,
     prices: &[i64],
     cheap: &mut Cheap<'_>,
     chain: i64,
     columns: &mut Columns,
 ) -> Result<i64, AllocError>
     requires person { k < length problem.now.persons }
-    requires network { IsNetwork problem.now k network.now }
+    requires pairs { ArePairs problem.now k pairs.now }
     requires prices { ArePrices problem.now prices.now }
     requires cheap { IsOf problem.now k prices.now cheap.old }
     requires chain { IsLeastOf problem.now prices.now k chain }
@@ -70,7 +69,7 @@ pub(crate) fn least_set(
         alloc,
         problem,
         k,
-        network,
+        pairs,
         prices,
         cheap,
         chain,
@@ -89,7 +88,7 @@ fn least_in_lists(
     alloc: Global,
     problem: &Problem,
     k: usize,
-    network: &Network,
+    pairs: &Pairs,
     prices: &[i64],
     cheap: &mut Cheap<'_>,
     chain: i64,
@@ -97,7 +96,7 @@ fn least_in_lists(
     columns: &mut Columns,
 ) -> Result<i64, AllocError>
     requires person { k < length problem.now.persons }
-    requires network { IsNetwork problem.now k network.now }
+    requires pairs { ArePairs problem.now k pairs.now }
     requires prices { ArePrices problem.now prices.now }
     requires cheap { IsOf problem.now k prices.now cheap.old }
     requires chain { IsLeastOf problem.now prices.now k chain }
@@ -107,7 +106,7 @@ fn least_in_lists(
     let mut least = chain;
     for _ in 0..MOST_LISTS {
         let found = list(
-            alloc, problem, k, network, prices, cheap, chain, reach, columns,
+            alloc, problem, k, pairs, prices, cheap, chain, reach, columns,
         )?;
         least = better(least, found);
         let many = match found {
@@ -162,7 +161,7 @@ fn list(
     alloc: Global,
     problem: &Problem,
     k: usize,
-    network: &Network,
+    pairs: &Pairs,
     prices: &[i64],
     cheap: &mut Cheap<'_>,
     chain: i64,
@@ -170,7 +169,7 @@ fn list(
     columns: &mut Columns,
 ) -> Result<Option<i64>, AllocError>
     requires person { k < length problem.now.persons }
-    requires network { IsNetwork problem.now k network.now }
+    requires pairs { ArePairs problem.now k pairs.now }
     requires prices { ArePrices problem.now prices.now }
     requires cheap { IsOf problem.now k prices.now cheap.old }
     ensures least { IfOk result (λ found. IfSome found (IsLeastOf problem.now prices.now k)) }
@@ -178,7 +177,7 @@ fn list(
 {
     let limit = limit_at(chain, reach);
     cheap.limit_to(limit);
-    match lines_of_pairs(alloc, problem, k, &network.pairs, &*cheap, MOST_LISTED) {
+    match lines_of_pairs(alloc, problem, k, pairs, &*cheap, MOST_LISTED) {
         Ok(lines) => {
             let mut listed = Columns::of_sets(alloc, reach);
             let least = least_listed(problem, k, &lines, prices, limit, &mut listed)?;

@@ -37,7 +37,7 @@ pub nobody_flies : (problem : Problem) (k : ℕ) → k < length problem.persons 
 nobody_flies problem k person = nowhere k 0 (length problem.pairings) (length problem.persons) person
 
 -- there is no base before the first
-none_before : (base : ℕ) → before 0 base ≡ false
+pub none_before : (base : ℕ) → before 0 base ≡ false
 none_before base = le-ltb base 0 (omega arith)
 
 pub least_of_none : (problem : Problem) (table : List (List Entry)) (ranges : List (ℕ × ℕ)) (places : List ℕ) → places ≡ all_open problem → IsLeast problem (IsInPart problem table ranges (before 0)) (key_of problem places)
@@ -58,7 +58,7 @@ least_of_none problem table ranges places same =
 
 -- ---- one base more
 
-next_base : (base : ℕ) → AreParts (λ b. eqb b base) (before base) (before (base + 1))
+pub next_base : (base : ℕ) → AreParts (λ b. eqb b base) (before base) (before (base + 1))
 next_base base = record {
   either = λ b. grind (arith, nat_tests);
   apart = λ b here. grind (arith, nat_tests);
@@ -103,7 +103,7 @@ settled_by_none problem table ranges base known covers held none fits = record {
 
 -- ---- after the last base
 
-every_base : (problem : Problem) (n k : ℕ) → IsSound problem → n ≡ MOST_BASES → k < length problem.persons → before n (base_of_person problem k) ≡ true
+pub every_base : (problem : Problem) (n k : ℕ) → IsSound problem → n ≡ MOST_BASES → k < length problem.persons → before n (base_of_person problem k) ≡ true
 every_base problem n k sound all person =
     let who = found_at problem.persons k person in
     let number : base_of_person problem k ≡ who.0.base = ap (λ (found : Option Person). unwrap_or (option_map (λ (x : Person). x.base) found) 0) who.1 in

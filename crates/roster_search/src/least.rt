@@ -142,7 +142,7 @@ pub(crate) fn first_of_all<F: Finder>(
 }
 
 /// What a legal roster costs fits an `i64`, and is less than the greatest.
-pub(crate) fn costs_fit(problem: &Problem)
+pub fn costs_fit(problem: &Problem)
     ensures low { (places : List ℕ) → IsLegalRoster problem.now places
         → neg_ℤ (pos (2 ^ 63)) ≤ℤ cost_of problem.now places }
     ensures high { (places : List ℕ) → IsLegalRoster problem.now places

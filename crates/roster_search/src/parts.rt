@@ -128,7 +128,7 @@ fn own_ranges(
 }
 
 /// The places of the roster that leaves all open.
-pub(crate) fn all_open(alloc: Global, problem: &Problem) -> Result<Vec<u16>, AllocError>
+pub fn all_open(alloc: Global, problem: &Problem) -> Result<Vec<u16>, AllocError>
     ensures { IfOk result (λ places. places.items
         ≡ replicate (length problem.now.pairings) (length problem.now.persons)) }
 {
@@ -137,7 +137,7 @@ pub(crate) fn all_open(alloc: Global, problem: &Problem) -> Result<Vec<u16>, All
 }
 
 /// The places with the numbers of the part at the pairings of the base.
-pub(crate) fn merged(
+pub fn merged(
     alloc: Global,
     problem: &Problem,
     base: usize,

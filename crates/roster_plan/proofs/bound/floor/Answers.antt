@@ -8,9 +8,6 @@ pub loop-k-preserved : goal.loop-k-preserved
 loop-k-preserved c =
     let problem = c.args.problem.now in
     let k = c.loop-k.k in
-    let least : ℤ = c.in_ok-least.least in
+    let least : ℤ = c.lower-least.result in
     let fits : FitsSigned w64 least = search rules in
-    record {
-      judge = c.lower.ensures.judge;
-      floor = subst (IsFloorAmong problem (k + 1) c.args.p) (sym (to_z-of_z w64 least fits)) (one_person_more problem k c.args.p (to_z w64 c.loop-k.least-bits) least c.loop-k.invariant.floor c.in_ok-least.ensures.lower);
-    }
+    subst (IsFloorAmong problem c.args.base (k + 1) c.args.p) (sym (to_z-of_z w64 least fits)) (one_person_more problem c.args.base k c.args.p (to_z w64 c.loop-k.least-bits) least c.loop-k.invariant c.lower-least.ensures)

@@ -1,6 +1,6 @@
-use Rattle.roster_plan.specs.Planned.{IsPlannedFrom}
+use Rattle.roster_plan.specs.Months.{IsMonthFrom}
 use Rattle.roster_plan.proofs.exact.close.Given as goal
 
--- the plan goes on from the one at the start
+-- the month goes on from the one at the start
 abbrev pub invariant-loop : goal.invariant-loop
-invariant-loop g l = IsPlannedFrom l.problem l.fn.start.roster l.planned
+invariant-loop g l = IsMonthFrom l.problem l.fn.start.planned.roster l.month

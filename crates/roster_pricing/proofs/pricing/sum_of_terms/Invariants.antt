@@ -2,6 +2,7 @@ use Rattle.std.proofs.Common.{ℕ, ◌-◌, ◌*◌, ◌≤◌, List, ◌≤ℤ�
 use Rattle.roster_model.specs.Rosters.{IsLegalRoster}
 use Rattle.roster_cost.specs.Amounts.{IsWithin}
 use Rattle.roster_pricing.specs.declared.parts.TheConstants.{MOST_PRICE}
+use Rattle.roster_pricing.specs.Homes.{IsHome}
 use Rattle.roster_pricing.specs.Reduced.{shares_behind}
 use Rattle.roster_pricing.proofs.pricing.sum_of_terms.Given as goal
 
@@ -9,6 +10,6 @@ use Rattle.roster_pricing.proofs.pricing.sum_of_terms.Given as goal
 abbrev pub invariant-loop-back : goal.invariant-loop-back
 invariant-loop-back l = record {
   few : l.back ≤ l.count;
-  below : (places : List ℕ) → IsLegalRoster l.problem places → l.sum ≤ℤ shares_behind l.problem l.prices (l.count - l.back) places;
+  below : (places : List ℕ) → IsLegalRoster l.problem places → IsHome l.problem l.base places → l.sum ≤ℤ shares_behind l.problem l.prices (l.count - l.back) places;
   within : IsWithin (l.back * MOST_PRICE) l.sum;
 }

@@ -2,6 +2,7 @@ use Rattle.std.proofs.Common.{◌≡◌, ℕ, List, subst, ap, ◌∙◌, arith,
 use Rattle.std.proofs.lemmas.Int.{ints, to_z-of_z}
 use Rattle.roster_model.specs.Rosters.{IsLegalRoster}
 use Rattle.roster_cost.specs.Amounts.{cost_without_pairings}
+use Rattle.roster_pricing.specs.Homes.{IsHome}
 use Rattle.roster_pricing.specs.Looks.{IsLook}
 use Rattle.roster_pricing.specs.Reduced.{price_at, shares_behind}
 use Rattle.roster_pricing.proofs.GapLemmas.{look_is}
@@ -35,15 +36,15 @@ returns-clause-look g c =
     let whole : ℤ = to_z w64 (of_z w64 idle) +ℤ to_z w64 (of_z w64 units) in
     let whole_fits : FitsSigned w64 whole = search rules in
     let whole_told : to_z w64 (of_z w64 whole) ≡ whole = to_z-of_z w64 whole whole_fits in
-    let below : (places : List ℕ) → IsLegalRoster problem places → terms ≤ℤ shares_behind problem prices 0 places =
-    subst (λ p. (places : List ℕ) → IsLegalRoster p places → terms ≤ℤ shares_behind p prices 0 places) same c.sum_of_terms-terms.ensures.least in
+    let below : (places : List ℕ) → IsLegalRoster problem places → IsHome problem c.args.base places → terms ≤ℤ shares_behind problem prices 0 places =
+    subst (λ p. (places : List ℕ) → IsLegalRoster p places → IsHome p c.args.base places → terms ≤ℤ shares_behind p prices 0 places) same c.sum_of_terms-terms.ensures.least in
     let idle_is : idle ≡ cost_without_pairings problem = c.cost_without_pairings.ensures.value ∙ ap cost_without_pairings same in
     let near = c.in_units.ensures.near in
-    let look = look_is problem prices leasts terms units c.in_ok-leasts.leasts.each.items
+    let look = look_is problem prices c.args.base leasts terms units c.in_ok-leasts.leasts.each.items
     (λ places roster. c.shares_add_up.ensures problem places)
     (λ places roster. c.priced_shares_add_up.ensures problem (price_at prices) places roster.covers roster.numbers)
     c.in_ok-leasts.ensures.are below
     (λ more least. c.in_units.ensures.least more (omega (arith, ints, least, leasts_told, terms_told, sum_told)))
     (omega (arith, ints, near, leasts_told, terms_told, sum_told)) in
     let bound : cost_without_pairings problem +ℤ units ≡ to_z w64 (of_z w64 whole) = omega (arith, ints, idle_is, idle_told, units_told, whole_told) in
-    subst (λ z. IsLook problem prices z c.in_ok-leasts.leasts.each.items) bound look
+    subst (λ z. IsLook problem prices c.args.base z c.in_ok-leasts.leasts.each.items) bound look

@@ -19,6 +19,9 @@ pub invariant_of-result : goal.invariant_of-result
 invariant_of-result c =
     let inv = c.loop-k.invariant in
     record {
-      covers = omega (arith, inv.long, c.loop-k-test.false, c.loop-k.auto.k-end, ap length c.persons-k-end.ensures.value);
-      each = inv.each;
+      judged = c.requires;
+      are = record {
+        covers = omega (arith, inv.long, c.loop-k-test.false, c.loop-k.auto.k-end, ap length c.persons-k-end.ensures.value);
+        each = inv.each;
+      };
     }

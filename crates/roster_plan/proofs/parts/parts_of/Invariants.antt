@@ -1,0 +1,6 @@
+use Rattle.roster_plan.specs.Parts.{ArePartsOf}
+use Rattle.roster_plan.proofs.parts.parts_of.Given as goal
+
+-- the parts of the bases so far
+abbrev pub invariant-loop-base : goal.invariant-loop-base
+invariant-loop-base l = ArePartsOf l.problem l.base l.parts.items

@@ -1,0 +1,264 @@
+//! What is known of each base apart, and of the whole month that they make.
+//!
+//! No person flies a pairing of another base. So what a month costs is what its bases do, each apart, and the best
+//! roster is put together from the best one of each base.
+
+ghost use Rattle.std.specs.Prelude.{◌≡◌, ◌⊎◌, ◌<◌, ◌+◌, ◌*◌, ◌^◌, ◌&&◌, ◌+ℤ◌, ◌-ℤ◌, ◌≤ℤ◌, true, false, All, IfOk, IfSome, neg_ℤ, pos};
+ghost use Rattle.roster_cost.specs.Amounts.{IsWithin};
+ghost use Rattle.roster_model.specs.declared.limits.TheConstants.{MOST_BASES as most_bases};
+ghost use Rattle.roster_model.specs.Settled.{IsHeld, IsLowerBound, IsNotAfter};
+ghost use Rattle.roster_pricing.specs.Homes.{IsHome};
+ghost use Rattle.roster_lines.specs.Listing.{AreAllPairs};
+ghost use Rattle.roster_plan.specs.Parts.{AreParts, HasNoCrew, IsPart};
+ghost use Rattle.roster_plan.specs.Planned.{IsKnown, IsPlannedFrom};
+
+use crate::bound::lower_bound;
+use crate::known::{Planned, best_plan, costed, earlier, so_far};
+use roster_cost::{comes_before, roster_cost, shares_add_up};
+use roster_lines::Pairs;
+use roster_model::limits::MOST_BASES;
+use roster_problem::{Problem, Roster};
+use roster_search::{all_open, costs_fit, merged};
+use std::alloc::{AllocError, Global};
+
+/// What is known of a base: of the rosters in which only its persons fly.
+#[derive(Debug, Drop)]
+pub(crate) struct Part {
+    /// Such a roster, which is legal, with its cost.
+    pub(crate) roster: Roster,
+    /// No legal one costs less, in cost units.
+    pub(crate) bound: i64,
+    /// Whether the roster is known to be the best one of them.
+    pub(crate) is_best: bool,
+}
+
+/// What each base has of a known roster, with a first bound.
+pub(crate) fn parts_of(
+    alloc: Global,
+    problem: &Problem,
+    pairs: &[Pairs],
+    known: &Roster,
+) -> Result<Vec<Part>, AllocError>
+    requires pairs { AreAllPairs problem.now pairs.now }
+    requires known { IsHeld problem.now known.now }
+    ensures { IfOk result (λ parts. AreParts problem.now parts.items) }
+{
+    let mut parts = Vec::new(alloc);
+    for base in 0..MOST_BASES {
+        parts.push(first_part(alloc, problem, pairs, base, known)?)?;
+    }
+    Ok(parts)
+}
+
+/// Whether the best roster of the base isn't known.
+pub(crate) fn is_open(parts: &[Part], base: usize) -> bool {
+    match parts.get(base) {
+        Some(part) => !part.is_best,
+        None => true,
+    }
+}
+
+/// What the base has of a known roster, with a first bound.
+fn first_part(
+    alloc: Global,
+    problem: &Problem,
+    pairs: &[Pairs],
+    base: usize,
+    known: &Roster,
+) -> Result<Part, AllocError>
+    requires pairs { AreAllPairs problem.now pairs.now }
+    requires known { IsHeld problem.now known.now }
+    ensures { IfOk result (IsPart problem.now base) }
+{
+    if !has_crew(problem, base) {
+        return part_of_nobody(alloc, problem, base);
+    }
+    Ok(Part {
+        roster: roster_of(alloc, problem, base, known)?,
+        bound: lower_bound(problem, pairs, base),
+        is_best: false,
+    })
+}
+
+/// Whether somebody is of the base.
+fn has_crew(problem: &Problem, base: usize) -> bool
+    ensures { result ≡ false → HasNoCrew problem.now base }
+{
+    problem.persons().iter().any(|person| person.base == base)
+}
+
+/// The part of a base of which nobody is: its only roster leaves all open.
+fn part_of_nobody(alloc: Global, problem: &Problem, base: usize) -> Result<Part, AllocError>
+    requires { HasNoCrew problem.now base }
+    ensures { IfOk result (IsPart problem.now base) }
+{
+    let roster = costed(problem, all_open(alloc, problem)?);
+    let bound = roster.cost;
+    Ok(Part {
+        roster,
+        bound,
+        is_best: true,
+    })
+}
+
+/// What the base has of a roster: nobody else flies.
+fn roster_of(
+    alloc: Global,
+    problem: &Problem,
+    base: usize,
+    known: &Roster,
+) -> Result<Roster, AllocError>
+    requires { IsHeld problem.now known.now }
+    ensures held { IfOk result (IsHeld problem.now) }
+    ensures home { IfOk result (λ own. IsHome problem.now base own.places) }
+{
+    problem.is_sound();
+    let open = all_open(alloc, problem)?;
+    let places = merged(alloc, problem, base, known, &open)?;
+    Ok(costed(problem, places))
+}
+
+impl Part {
+    /// The part with what its base has of a known roster, if that comes before its own.
+    pub(crate) fn renewed(
+        &self,
+        alloc: Global,
+        problem: &Problem,
+        base: usize,
+        known: &Roster,
+    ) -> Result<Part, AllocError>
+        requires part { IsPart problem.now base self.now }
+        requires held { IsHeld problem.now known.now }
+        ensures { IfOk result (IsPart problem.now base) }
+    {
+        let own = roster_of(alloc, problem, base, known)?;
+        let roster = earlier(own, self.roster.copy(alloc)?);
+        Ok(Part {
+            roster,
+            bound: self.bound,
+            is_best: self.is_best,
+        })
+    }
+
+    /// The part of a base whose best roster was found: no roster of the base comes before the one that is given.
+    /// If others fly in that one, what the base has of it may come later, and then there is no part.
+    pub(crate) fn best(
+        alloc: Global,
+        problem: &Problem,
+        base: usize,
+        found: &Roster,
+    ) -> Result<Option<Part>, AllocError>
+        requires held { IsHeld problem.now found.now }
+        requires best { IsNotAfter problem.now (IsHome problem.now base) found.now }
+        ensures part { IfOk result (λ part. IfSome part (IsPart problem.now base)) }
+        ensures best { IfOk result (λ part. IfSome part (λ part. part.is_best ≡ true)) }
+    {
+        let own = roster_of(alloc, problem, base, found)?;
+        if comes_before(found, &own) {
+            return Ok(None);
+        }
+        let bound = own.cost;
+        Ok(Some(Part {
+            roster: own,
+            bound,
+            is_best: true,
+        }))
+    }
+}
+
+/// The plan that the parts make, unless the known one is earlier.
+pub(crate) fn joined(
+    alloc: Global,
+    problem: &Problem,
+    parts: &[Part],
+    known: Planned,
+) -> Result<Planned, AllocError>
+    requires parts { AreParts problem.now parts.now }
+    requires known { IsKnown problem.now known }
+    ensures planned { IfOk result (IsPlannedFrom problem.now known.roster) }
+    ensures best { IfOk result
+        (λ planned. All (λ part. part.is_best ≡ true) parts.now → planned.is_best ≡ true) }
+{
+    let whole = assembled(alloc, problem, parts)?;
+    if whole.is_best {
+        return Ok(whole);
+    }
+    let bound = greater(problem, whole.bound, known.bound);
+    let roster = earlier(whole.roster, known.roster);
+    Ok(so_far(problem, roster, bound))
+}
+
+/// The greater of two bounds.
+fn greater(problem: &Problem, first: i64, second: i64) -> i64
+    requires first { IsLowerBound problem.now first }
+    requires second { IsLowerBound problem.now second }
+    ensures { IsLowerBound problem.now result }
+{
+    if first < second { second } else { first }
+}
+
+/// The plan that the parts make: a month costs as much more than no pairings at all as its bases do together.
+fn assembled(alloc: Global, problem: &Problem, parts: &[Part]) -> Result<Planned, AllocError>
+    requires { AreParts problem.now parts.now }
+    ensures known { IfOk result (IsKnown problem.now) }
+    ensures best { IfOk result
+        (λ planned. All (λ part. part.is_best ≡ true) parts.now → planned.is_best ≡ true) }
+{
+    shares_add_up();
+    problem.is_sound();
+    costs_fit(problem);
+    let mut places = all_open(alloc, problem)?;
+    let idle = roster_cost(problem, &places);
+    let mut bound = i128::from(idle);
+    let mut is_best = true;
+    for base in 0..parts.len() {
+        let part = &parts[base];
+        places = merged(alloc, problem, base, &part.roster, &places)?;
+        bound = with_more(bound, above(part.bound, idle), base);
+        is_best = are_both(is_best, part.is_best);
+    }
+    let roster = costed(problem, places);
+    if is_best {
+        return Ok(best_plan(problem, roster));
+    }
+    Ok(so_far(problem, roster, word_of(bound)))
+}
+
+/// How much more a bound is than what no pairings at all cost.
+fn above(bound: i64, idle: i64) -> i128
+    ensures value { result ≡ bound -ℤ idle }
+    ensures within { IsWithin (2 ^ 64) result }
+{
+    i128::from(bound) - i128::from(idle)
+}
+
+/// The bound of the bases before this one with so much more for it.
+fn with_more(bound: i128, more: i128, base: usize) -> i128
+    requires base { base < most_bases }
+    requires within { IsWithin ((base + 1) * (2 ^ 64)) bound }
+    requires more { IsWithin (2 ^ 64) more }
+    ensures value { result ≡ bound +ℤ more }
+    ensures within { IsWithin ((base + 2) * (2 ^ 64)) result }
+{
+    bound + more
+}
+
+/// Whether both are true.
+fn are_both(first: bool, second: bool) -> bool
+    ensures { result ≡ (first && second) }
+{
+    first && second
+}
+
+/// The number, or the nearest one of a word of 64 bits.
+fn word_of(number: i128) -> i64
+    ensures { (result ≤ℤ number) ⊎ (result ≡ neg_ℤ (pos (2 ^ 63))) }
+{
+    if number > i128::from(i64::MAX) {
+        return i64::MAX;
+    }
+    if number < i128::from(i64::MIN) {
+        return i64::MIN;
+    }
+    number as i64
+}
