@@ -149,7 +149,7 @@ fn looks_of(problem: &Problem, parts: &[Part], effort: u32) -> u32 {
     } else {
         MOST_EFFORT
     };
-    let looks = FEWEST_LOOKS + effort * (effort + 2);
+    let looks = FEWEST_LOOKS + 2 * effort * (effort + 2);
     let in_time = (FEWEST_STEPS << effort) / steps_of(problem, parts).max(1);
     in_time.min(u64::from(looks)) as u32
 }

@@ -1,6 +1,6 @@
 //! What no roster of a base costs less than.
 
-ghost use Rattle.std.specs.Prelude.{◌≡◌, ◌<◌, ◌≤ℤ◌, ◌^◌, List, ℕ, length, pos};
+ghost use Rattle.std.specs.Prelude.{◌<◌, ◌≤ℤ◌, ◌^◌, List, ℕ, length, pos};
 ghost use Rattle.roster_model.specs.Costs.{missed_target, missed_targets};
 ghost use Rattle.roster_model.specs.Places.{set_of};
 ghost use Rattle.roster_cost.specs.Amounts.{most_line_cost};
