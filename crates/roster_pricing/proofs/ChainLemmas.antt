@@ -84,11 +84,11 @@ chain_adds network values f (p ∷ rest) inside =
 
 -- ---- lines are chains
 
-IsChain-nil : (followers : List (List ℕ)) (first : List ℕ) → IsChain followers first []
+pub IsChain-nil : (followers : List (List ℕ)) (first : List ℕ) → IsChain followers first []
 unfolding IsChain
 IsChain-nil followers first = tt
 
-IsChain-cons : (followers : List (List ℕ)) (first : List ℕ) (p : ℕ) (rest : List ℕ) → is_among first p ≡ true → IsChain followers (followers_of followers p) rest → IsChain followers first (p ∷ rest)
+pub IsChain-cons : (followers : List (List ℕ)) (first : List ℕ) (p : ℕ) (rest : List ℕ) → is_among first p ≡ true → IsChain followers (followers_of followers p) rest → IsChain followers first (p ∷ rest)
 unfolding IsChain
 IsChain-cons followers first p rest begins chain = (begins, chain)
 
@@ -159,7 +159,7 @@ reduced_below problem prices k network values set is are adds line =
     omega (arith, ints, chain, brought, end, there, none)
 
 -- what a list of one has, or of two
-single_among : (set : List ℕ) (p : ℕ) → is_among set p ≡ true → (q : ℕ) → is_among (p ∷ []) q ≡ true → is_among set q ≡ true
+pub single_among : (set : List ℕ) (p : ℕ) → is_among set p ≡ true → (q : ℕ) → is_among (p ∷ []) q ≡ true → is_among set q ≡ true
 single_among set p there q among =
     elim (cases_eq q p) [
       | inl same ↦ subst (λ i. is_among set i ≡ true) (sym same) there

@@ -1,20 +1,21 @@
 -- Lists that grow, and rows that say what chains bring at least.
-use Rattle.std.proofs.Common.{◌≡◌, ℕ, ◌+◌, ◌-◌, ◌*◌, ◌<◌, ◌≤◌, true, List, [], ◌∷◌, ◌++◌, length, get_or, Some, refl, sym, ap, ◌∙◌, subst, inl, inr, arith, ℤ, ◌+ℤ◌, ◌≤ℤ◌}
+use Rattle.std.proofs.Common.{◌≡◌, ℕ, ◌+◌, ◌-◌, ◌*◌, ◌<◌, ◌≤◌, true, false, List, [], ◌∷◌, ◌++◌, length, get_or, Some, refl, sym, ap, ◌∙◌, subst, inl, inr, arith, ℤ, ◌+ℤ◌, ◌≤ℤ◌}
 use Rattle.std.specs.Prelude.{All, slice_get}
-use Rattle.std.proofs.lemmas.Bool.{cases_eq}
+use Rattle.std.proofs.lemmas.Bool.{cases_eq, cases_lt, false≢true}
 use Rattle.std.proofs.lemmas.Int.{ints}
 use Rattle.std.proofs.lemmas.List.{get_or_append_left, get_or_push, length_push}
 use Rattle.std.proofs.lemmas.List.Elements.{All-nil, All-push, All-weaker}
 use Rattle.std.proofs.lemmas.Option.{slice_get-get_or, slice_get_within}
 use Rattle.roster_model.specs.Problem.{Problem}
-use Rattle.roster_model.specs.Rules.{is_among}
+use Rattle.roster_model.specs.Rules.{is_among, IsLegal}
+use Rattle.roster_model.proofs.SetLemmas.{is_among-here}
 use Rattle.roster_model.proofs.PushLemmas.{each-push}
 use Rattle.roster_cost.specs.Amounts.{IsWithin}
 use Rattle.roster_pricing.specs.declared.network.Network.{Network}
 use Rattle.roster_pricing.specs.declared.parts.TheConstants.{MOST_TERM, MOST_VALUE}
-use Rattle.roster_pricing.specs.Chains.{chain_value, followers_of, next_state, value_at, IsChain, IsRow}
-use Rattle.roster_pricing.specs.Networks.{AreRows}
-use Rattle.roster_pricing.proofs.ChainLemmas.{chain-cons, chain-nil, next_inside}
+use Rattle.roster_pricing.specs.Chains.{chain_value, followers_of, next_state, value_at, IsBehind, IsChain, IsRow, IsTail}
+use Rattle.roster_pricing.specs.Networks.{AreRows, AreTails, IsNetwork}
+use Rattle.roster_pricing.proofs.ChainLemmas.{chain-cons, chain-nil, is_among-more, next_inside, single_among, IsChain-cons, IsChain-nil}
 
 -- what is so of each by its place, with one more
 pub each_more : {X : Type 0} (P : ℕ → X → Type 0) (d : X) (n : ℕ) (old new : List X) (x : X) → new ≡ old ++ x ∷ [] → length old ≡ n → ((i : ℕ) → i < n → P i (get_or old i d)) → P n x → (i : ℕ) → i < n + 1 → P i (get_or new i d)
@@ -38,27 +39,139 @@ chain_first : (followers : List (List ℕ)) (first : List ℕ) (p : ℕ) (rest :
 unfolding IsChain
 chain_first followers first p rest chain = chain
 
--- a row is no more than chains bring if it is no more than the end, and than each first pairing with what is behind it
-pub row_is : (problem : Problem) (network : Network) (values : List ℤ) (rows : List (List ℤ)) (first : List ℕ) (row : List ℤ)
-    → 0 < length network.terms.items → AreRows problem network values rows → length row ≡ length network.terms.items
-    → ((f : ℕ) → f < length network.terms.items → value_at row f ≤ℤ value_at network.terms.items f)
-    → ((q : ℕ) (behind : List ℤ) → is_among first q ≡ true → slice_get rows (length problem.pairings - 1 - q) ≡ Some behind
+-- ---- tails
+
+none_behind : (from : ℕ) → IsBehind from []
+none_behind from p rest same = absurd (omega (arith, ap length same))
+
+first_behind : (from q : ℕ) (rest : List ℕ) → from ≤ q → IsBehind from (q ∷ rest)
+first_behind from q rest l p later same = let here : q ≡ p = ap (λ xs. get_or xs 0 q) same in omega (arith, here, l)
+
+-- behind all pairings there is only the end
+pub tail_none : (problem : Problem) (k : ℕ) (network : Network) (values : List ℤ) → IsNetwork problem k network → IsTail network values (length problem.pairings) network.terms.items
+tail_none problem k network values is = record { covers = refl; below = below }
+  where
+    below : (f : ℕ) → f < length network.terms.items → (rest : List ℕ) → IsChain network.followers.items network.first rest → IsBehind (length problem.pairings) rest
+        → value_at network.terms.items f ≤ℤ chain_value network values f rest
+    below f inside [] chain behind = subst (λ z. value_at network.terms.items f ≤ℤ z) (sym (chain-nil network values f)) (omega (arith, ints))
+    below f inside (q ∷ rest) chain behind =
+        let place = ((is.alone q).0 (chain_first network.followers.items network.first q rest chain).0).0 in
+        let far = behind q rest refl in
+        absurd (omega (arith, place, far))
+
+-- a tail from one place before, where no chain begins
+pub tail_same : (network : Network) (values tail : List ℤ) (p : ℕ) → is_among network.first p ≡ false → IsTail network values (p + 1) tail → IsTail network values p tail
+tail_same network values tail p none is = record { covers = is.covers; below = below }
+  where
+    below : (f : ℕ) → f < length network.terms.items → (rest : List ℕ) → IsChain network.followers.items network.first rest → IsBehind p rest
+        → value_at tail f ≤ℤ chain_value network values f rest
+    below f inside [] chain behind = is.below f inside [] chain (none_behind (p + 1))
+    below f inside (q ∷ rest) chain behind =
+        let begins = (chain_first network.followers.items network.first q rest chain).0 in
+        elim (cases_eq q p) [
+          | inl here ↦ absurd (false≢true (sym none ∙ subst (λ i. is_among network.first i ≡ true) here begins))
+          | inr other ↦ is.below f inside (q ∷ rest) chain (first_behind (p + 1) q rest (let far = behind q rest refl in omega (arith, other, far)))
+        ]
+
+-- or where one begins, if no state is more than what that pairing leads to
+pub tail_more : (network : Network) (values tail longer row : List ℤ) (p : ℕ) → 0 < length network.terms.items → IsTail network values (p + 1) tail → IsRow network values (followers_of network.followers.items p) row
+    → length longer ≡ length network.terms.items → ((f : ℕ) → f < length network.terms.items → value_at longer f ≤ℤ value_at tail f)
+    → ((f : ℕ) → f < length network.terms.items → value_at longer f ≤ℤ (value_at values p +ℤ value_at row (next_state (length network.terms.items) f (get_or network.steps.items p 0))))
+    → IsTail network values p longer
+tail_more network values tail longer row p some is row_is covers kept through = record { covers = covers; below = below }
+  where
+    below : (f : ℕ) → f < length network.terms.items → (rest : List ℕ) → IsChain network.followers.items network.first rest → IsBehind p rest
+        → value_at longer f ≤ℤ chain_value network values f rest
+    below f inside [] chain behind = let before = is.below f inside [] chain (none_behind (p + 1)) in let now = kept f inside in omega (arith, ints, before, now)
+    below f inside (q ∷ rest) chain behind =
+        elim (cases_eq q p) [
+          | inl here ↦
+              let onward = subst (λ i. IsChain network.followers.items (followers_of network.followers.items i) rest) here (chain_first network.followers.items network.first q rest chain).1 in
+              let next : ℕ = next_state (length network.terms.items) f (get_or network.steps.items p 0) in
+              let later = row_is.below next (next_inside (length network.terms.items) f (get_or network.steps.items p 0) some) rest onward in
+              let now = through f inside in
+              subst (λ i. value_at longer f ≤ℤ chain_value network values f (i ∷ rest)) (sym here) (omega (arith, ints, later, now, chain-cons network values f p rest))
+          | inr other ↦
+              let far = behind q rest refl in
+              let before = is.below f inside (q ∷ rest) chain (first_behind (p + 1) q rest (omega (arith, other, far))) in
+              let now = kept f inside in
+              omega (arith, ints, before, now)
+        ]
+
+-- what may follow a pairing may begin a chain
+pub follower_alone : (problem : Problem) (k : ℕ) (network : Network)
+    → ((whole part : List ℕ) → ((p : ℕ) → is_among part p ≡ true → is_among whole p ≡ true) → IsLegal problem k whole → IsLegal problem k part)
+    → IsNetwork problem k network → (p q : ℕ) → p < length problem.pairings → is_among (followers_of network.followers.items p) q ≡ true
+    → (p < q) × (q < length problem.pairings) × (is_among network.first q ≡ true)
+follower_alone problem k network parts is p q inside among =
+    let row : List ℕ = followers_of network.followers.items p in
+    let together = (is.followers p row (slice_get-get_or network.followers.items p [] (omega (arith, is.covers, inside))) q).0 among in
+    let alone = (is.alone q).1 (together.1, parts (p ∷ q ∷ []) (q ∷ []) (single_among (p ∷ q ∷ []) q (is_among-more p q (q ∷ []) (is_among-here q []))) together.2) in
+    (together.0, together.1, alone)
+
+-- one tail more
+IsTailOf : Problem → Network → List ℤ → ℕ → List ℤ → Type 0
+IsTailOf problem network values i tail = i ≤ length problem.pairings → IsTail network values (length problem.pairings - i) tail
+
+pub tails_more : (problem : Problem) (network : Network) (values : List ℤ) (old new : List (List ℤ)) (tail : List ℤ)
+    → AreTails problem network values old → new ≡ old ++ tail ∷ [] → (length old ≤ length problem.pairings → IsTail network values (length problem.pairings - length old) tail)
+    → All (IsWithin (MOST_TERM + (length old + 1) * MOST_VALUE)) tail → AreTails problem network values new
+unfolding IsTailOf
+tails_more problem network values old new tail are pushed is within =
+    let count : length (old ++ tail ∷ []) ≡ length old + 1 = length_push old tail in
+    let each = each-push (IsTailOf problem network values) old tail (λ i t at l. are.each i t l at) is in
+    let most : ℕ = MOST_TERM + length (old ++ tail ∷ []) * MOST_VALUE in
+    let here : MOST_TERM + (length old + 1) * MOST_VALUE ≤ most = omega (arith, count) in
+    let before : MOST_TERM + length old * MOST_VALUE ≤ most = omega (arith, count) in
+    subst (AreTails problem network values) (sym pushed) (record {
+      each = λ i t l at. each i t at l;
+      within = All-push (λ t. All (IsWithin most) t) old tail
+          (All-weaker (λ t. All (IsWithin (MOST_TERM + length old * MOST_VALUE)) t) (λ t. All (IsWithin most) t) (λ t w. All-within-more _ most t before w) old are.within)
+          (All-within-more _ most tail here within);
+    })
+
+-- no tails yet
+pub tails_none : (problem : Problem) (network : Network) (values : List ℤ) → AreTails problem network values []
+tails_none problem network values = record {
+  each = λ i tail l at. absurd (let inside = slice_get_within [] i tail at in omega arith);
+  within = All-nil (λ t. All (IsWithin (MOST_TERM + 0 * MOST_VALUE)) t);
+}
+
+-- ---- rows
+
+-- A row is no more than chains bring if it is no more than the tail from some place on, and than each first pairing
+-- before that with what is behind it.
+pub row_is : (problem : Problem) (network : Network) (values : List ℤ) (rows : List (List ℤ)) (first : List ℕ) (row tail : List ℤ) (until : ℕ)
+    → 0 < length network.terms.items → AreRows problem network values rows → IsTail network values until tail → length row ≡ length network.terms.items
+    → ((f : ℕ) → f < length network.terms.items → value_at row f ≤ℤ value_at tail f)
+    → ((q : ℕ) (behind : List ℤ) → is_among first q ≡ true → q < until → slice_get rows (length problem.pairings - 1 - q) ≡ Some behind
     → (f : ℕ) → f < length network.terms.items → value_at row f ≤ℤ (value_at values q +ℤ value_at behind (next_state (length network.terms.items) f (get_or network.steps.items q 0))))
-    → ((q : ℕ) → is_among first q ≡ true → (q < length problem.pairings) × (length problem.pairings - 1 - q < length rows))
+    → ((q : ℕ) → is_among first q ≡ true → (q < length problem.pairings) × (is_among network.first q ≡ true))
+    → ((q : ℕ) → is_among first q ≡ true → q < until → length problem.pairings - 1 - q < length rows)
     → IsRow network values first row
-row_is problem network values rows first row some are covers ended led there = record { covers = covers; below = below }
+row_is problem network values rows first row tail until some are is covers kept led there done = record { covers = covers; below = below }
   where
     below : (f : ℕ) → f < length network.terms.items → (rest : List ℕ) → IsChain network.followers.items first rest → value_at row f ≤ℤ chain_value network values f rest
-    below f inside [] chain = subst (λ z. value_at row f ≤ℤ z) (sym (chain-nil network values f)) (ended f inside)
+    below f inside [] chain =
+        let end = is.below f inside [] (IsChain-nil network.followers.items network.first) (none_behind until) in
+        let now = kept f inside in
+        omega (arith, ints, end, now)
     below f inside (q ∷ rest) chain =
         let begins = chain_first network.followers.items first q rest chain in
         let place = there q begins.0 in
-        let behind : List ℤ = get_or rows (length problem.pairings - 1 - q) [] in
-        let at : slice_get rows (length problem.pairings - 1 - q) ≡ Some behind = slice_get-get_or rows (length problem.pairings - 1 - q) [] place.1 in
-        let next : ℕ = next_state (length network.terms.items) f (get_or network.steps.items q 0) in
-        let later = (are.each q behind place.0 at).below next (next_inside (length network.terms.items) f (get_or network.steps.items q 0) some) rest begins.1 in
-        let here = led q behind begins.0 at f inside in
-        omega (arith, ints, later, here, chain-cons network values f q rest)
+        elim (cases_lt q until) [
+          | inl near ↦
+              let behind : List ℤ = get_or rows (length problem.pairings - 1 - q) [] in
+              let at : slice_get rows (length problem.pairings - 1 - q) ≡ Some behind = slice_get-get_or rows (length problem.pairings - 1 - q) [] (done q begins.0 near) in
+              let next : ℕ = next_state (length network.terms.items) f (get_or network.steps.items q 0) in
+              let later = (are.each q behind place.0 at).below next (next_inside (length network.terms.items) f (get_or network.steps.items q 0) some) rest begins.1 in
+              let here = led q behind begins.0 near at f inside in
+              omega (arith, ints, later, here, chain-cons network values f q rest)
+          | inr far ↦
+              let later = is.below f inside (q ∷ rest) (IsChain-cons network.followers.items network.first q rest place.1 begins.1) (first_behind until q rest far) in
+              let now = kept f inside in
+              omega (arith, ints, later, now)
+        ]
 
 -- the row of pairing q
 IsRowOf : Problem → Network → List ℤ → ℕ → List ℤ → Type 0

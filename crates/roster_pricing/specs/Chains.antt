@@ -1,6 +1,6 @@
 -- Chains of pairings: each may follow the one before. What a chain brings depends on the flight before it,
 -- which is counted in steps up to a last state.
-use Rattle.std.specs.Prelude.{◌≡◌, ℕ, ◌+◌, ◌-◌, ◌<◌, nat_lt, if◌then◌else◌, true, List, [], ◌∷◌, length, slice_index, slice_index_or, ℤ, pos, ◌+ℤ◌, ◌≤ℤ◌}
+use Rattle.std.specs.Prelude.{◌≡◌, ℕ, ◌+◌, ◌-◌, ◌<◌, ◌≤◌, nat_lt, if◌then◌else◌, true, List, [], ◌∷◌, length, slice_index, slice_index_or, ℤ, pos, ◌+ℤ◌, ◌≤ℤ◌}
 use Rattle.roster_model.specs.Rules.{is_among}
 use Rattle.roster_pricing.specs.declared.network.Network.{Network}
 
@@ -33,3 +33,14 @@ pub record IsRow (network : Network) (values : List ℤ) (first : List ℕ) (row
   pub covers : length row ≡ length network.terms.items
   pub below : (f : ℕ) → f < length network.terms.items → (rest : List ℕ) → IsChain network.followers.items first rest
       → value_at row f ≤ℤ chain_value network values f rest
+
+-- no pairing of the chain is before that place, if its pairings ascend
+abbrev pub IsBehind : ℕ → List ℕ → Type 0
+IsBehind from chain = (p : ℕ) (rest : List ℕ) → chain ≡ p ∷ rest → from ≤ p
+
+-- the tail from a place on: for each state no more than any chain brings from there whose first pairing is at
+-- that place or behind it
+pub record IsTail (network : Network) (values : List ℤ) (from : ℕ) (tail : List ℤ) : Type 0 where
+  pub covers : length tail ≡ length network.terms.items
+  pub below : (f : ℕ) → f < length network.terms.items → (rest : List ℕ) → IsChain network.followers.items network.first rest
+      → IsBehind from rest → value_at tail f ≤ℤ chain_value network values f rest

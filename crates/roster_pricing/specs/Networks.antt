@@ -7,7 +7,7 @@ use Rattle.roster_lines.specs.declared.pairs.Pairs.{Pairs}
 use Rattle.roster_lines.specs.Listing.{AreAllPairs, AreAlone, IsRow as AreFollowers}
 use Rattle.roster_pricing.specs.declared.network.Network.{Network}
 use Rattle.roster_pricing.specs.declared.parts.TheConstants.{MOST_TERM, MOST_VALUE, PARTS}
-use Rattle.roster_pricing.specs.Chains.{followers_of, next_state, value_at, IsRow}
+use Rattle.roster_pricing.specs.Chains.{followers_of, next_state, value_at, IsRow, IsTail}
 use Rattle.roster_pricing.specs.Reduced.{price_at}
 
 -- what it costs that person k has so much flight, targets as they are, in parts of a cost unit
@@ -52,6 +52,12 @@ pub record AreRows (problem : Problem) (network : Network) (values : List ℤ) (
       → slice_get rows (length problem.pairings - 1 - p) ≡ Some row
       → IsRow network values (followers_of network.followers.items p) row
   pub within : All (λ row. All (IsWithin (MOST_TERM + length rows * MOST_VALUE)) row) rows
+
+-- the tails, the shortest one first, which is that behind the problem's last pairing
+pub record AreTails (problem : Problem) (network : Network) (values : List ℤ) (tails : List (List ℤ)) : Type 0 where
+  pub each : (i : ℕ) (tail : List ℤ) → i ≤ length problem.pairings → slice_get tails i ≡ Some tail
+      → IsTail network values (length problem.pairings - i) tail
+  pub within : All (λ tail. All (IsWithin (MOST_TERM + length tails * MOST_VALUE)) tail) tails
 
 -- the network of each person
 pub record AreNetworks (problem : Problem) (networks : List Network) : Type 0 where

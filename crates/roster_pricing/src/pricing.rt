@@ -16,7 +16,7 @@ use crate::listing::renew_at;
 use crate::network::{Network, network_of};
 use crate::parts::{MOST_LEAST, MOST_PRICE, MOST_SUM, MOST_VALUE, PARTS};
 use crate::persons::{Seen, look_at_all};
-use crate::rows::{Row, row_behind, rows_of};
+use crate::rows::{Row, end_of_all, row_behind, rows_of};
 use crate::sets::least_set;
 use roster_cost::{cost_without_pairings, priced_shares_add_up, shares_add_up};
 use roster_cumulative::flight_of_set;
@@ -255,7 +255,19 @@ fn least_chain(
     part_of_legal_is_legal();
     flight_of_set();
     problem.is_sound();
-    let row = row_behind(alloc, problem, k, network, values, rows, &network.first)?;
+    let count = problem.pairings().len();
+    let end = end_of_all(alloc, problem, k, network, values)?;
+    let row = row_behind(
+        alloc,
+        problem,
+        k,
+        network,
+        values,
+        rows,
+        &network.first,
+        &end,
+        count,
+    )?;
     Ok(row.first())
 }
 

@@ -1,13 +1,15 @@
 //! Rows of least values of chains, for each state of flight.
 
-ghost use Rattle.std.specs.Prelude.{◌≡◌, ◌≢◌, ◌<◌, ◌+◌, ◌-◌, ◌*◌, ◌+ℤ◌, ◌≤ℤ◌, ℕ, true, All, IfOk, List, length};
+ghost use Rattle.std.specs.Prelude.{◌≡◌, ◌≢◌, ◌⊎◌, ◌<◌, ◌≤◌, ◌+◌, ◌-◌, ◌*◌, ◌+ℤ◌, ◌≤ℤ◌, ℕ, true, false, All, IfOk, IfSome, List, MatchOption, length};
 ghost use Rattle.roster_model.specs.Rules.{is_among};
 ghost use Rattle.roster_cost.specs.Amounts.{IsWithin};
-ghost use Rattle.roster_pricing.specs.Chains.{next_state as plain_next_state, value_at, IsRow};
+ghost use Rattle.roster_pricing.specs.Chains.{followers_of, next_state as plain_next_state, value_at, IsRow, IsTail};
 ghost use Rattle.roster_pricing.specs.Networks.{AreRows, IsNetwork};
 
 use crate::network::Network;
 use crate::parts::{MOST_AMOUNT, MOST_TERM, MOST_VALUE};
+use roster_legal::part_of_legal_is_legal;
+use roster_model::limits::MOST_PAIRINGS;
 use roster_problem::{Problem, Set};
 use std::alloc::{AllocError, Global};
 use std::marker::Model;
@@ -151,6 +153,9 @@ pub(crate) fn led(after: &[i64], value: i64, f: usize) -> i64
 }
 
 /// The row of each pairing, that of the last one first: the least that chains bring which may follow it.
+///
+/// From some place on all pairings may follow a pairing that any chain may begin with. What these bring at least
+/// is one row, the tail from that place, for all pairings before it.
 pub(crate) fn rows_of(
     alloc: Global,
     problem: &Problem,
@@ -164,18 +169,97 @@ pub(crate) fn rows_of(
     ensures rows { IfOk result (λ rows. AreRows problem.now network.now values.now rows.items) }
     ensures all { IfOk result (λ rows. length rows.items ≡ length problem.now.pairings) }
 {
+    part_of_legal_is_legal();
     problem.is_sound();
     let count = problem.pairings().len();
     let mut rows = Vec::new(alloc);
+    let mut tails = Vec::new(alloc);
+    tails.push(end_of_all(alloc, problem, k, network, values)?)?;
     for back in 0..count {
-        let followers = network.followers[count - 1 - back];
-        let row = row_behind(alloc, problem, k, network, values, &rows, &followers)?;
+        let p = count - 1 - back;
+        let followers = network.followers[p];
+        let from = all_from(&network.first, &followers, p, count);
+        let tail = &tails[count - from];
+        let row = row_behind(
+            alloc, problem, k, network, values, &rows, &followers, tail, from,
+        )?;
+        let longer = longer_tail(alloc, problem, k, network, values, &tails[back], &row, p)?;
         rows.push(row)?;
+        tails.push(longer)?;
     }
     Ok(rows)
 }
 
-/// The row of chains whose first pairing is one of the set, which have rows.
+/// The place behind the last pairing after `p` that a chain may begin with and that may not follow `p`.
+fn all_from(first: &Set, followers: &Set, p: usize, count: usize) -> usize
+    requires inside { p < count }
+    requires places { (q : ℕ) → is_among first.now q ≡ true → q < count }
+    ensures { (p < result) × (result ≤ count) }
+{
+    let mut from = p + 1;
+    let mut next = p + 1;
+    while let Some(q) = first.first_from(next) {
+        from = from_behind(followers, q, from);
+        next = q + 1;
+    }
+    from
+}
+
+/// The place behind `q`, or the one from before if `q` may follow.
+fn from_behind(followers: &Set, q: usize, from: usize) -> usize
+    requires { q < MOST_PAIRINGS }
+    ensures { (result ≡ from) ⊎ (result ≡ q + 1) }
+{
+    if followers.has(q) { from } else { q + 1 }
+}
+
+/// The tail behind all pairings: what each state brings at the end.
+pub(crate) fn end_of_all(
+    alloc: Global,
+    problem: &Problem,
+    k: usize,
+    network: &Network,
+    values: &[i64],
+) -> Result<Row, AllocError>
+    requires network { IsNetwork problem.now k network.now }
+    ensures tail { IfOk result (IsTail network.now values.now (length problem.now.pairings)) }
+    ensures within { IfOk result (All (IsWithin MOST_TERM)) }
+{
+    let end = Row::of(alloc, &network.terms)?;
+    Ok(end)
+}
+
+/// The tail from pairing `p` on, whose row is known, as is the tail behind it.
+fn longer_tail(
+    alloc: Global,
+    problem: &Problem,
+    k: usize,
+    network: &Network,
+    values: &[i64],
+    tail: &Row,
+    row: &Row,
+    p: usize,
+) -> Result<Row, AllocError>
+    requires network { IsNetwork problem.now k network.now }
+    requires place { p < length problem.now.pairings }
+    requires covers { length values.now ≡ length problem.now.pairings }
+    requires values { All (IsWithin MOST_VALUE) values.now }
+    requires tail { IsTail network.now values.now (p + 1) tail.now }
+    requires row { IsRow network.now values.now (followers_of network.now.followers.items p) row.now }
+    requires few { All (IsWithin MOST_AMOUNT) row.now }
+    ensures tail { IfOk result (IsTail network.now values.now p) }
+    ensures within { IfOk result (λ longer. (most : ℕ) → All (IsWithin most) row.now
+        → All (IsWithin (most + MOST_VALUE)) tail.now → All (IsWithin (most + MOST_VALUE)) longer) }
+{
+    let mut longer = Row::of(alloc, tail.all())?;
+    if network.first.has(p) {
+        longer.relax(row, values[p], network.steps[p]);
+    }
+    Ok(longer)
+}
+
+/// The row of chains whose first pairing is one of the set. Those before a place have rows; the tail is that from
+/// there on.
 pub(crate) fn row_behind(
     alloc: Global,
     problem: &Problem,
@@ -184,25 +268,43 @@ pub(crate) fn row_behind(
     values: &[i64],
     rows: &[Row],
     first: &Set,
+    tail: &Row,
+    until: usize,
 ) -> Result<Row, AllocError>
     requires network { IsNetwork problem.now k network.now }
     requires covers { length values.now ≡ length problem.now.pairings }
     requires values { All (IsWithin MOST_VALUE) values.now }
     requires rows { AreRows problem.now network.now values.now rows.now }
-    requires places { (q : ℕ) → is_among first.now q ≡ true → q < length problem.now.pairings }
-    requires done { (q : ℕ) → is_among first.now q ≡ true
+    requires alone { (q : ℕ) → is_among first.now q ≡ true → is_among network.now.first q ≡ true }
+    requires done { (q : ℕ) → is_among first.now q ≡ true → q < until
         → length problem.now.pairings - 1 - q < length rows.now }
+    requires tail { IsTail network.now values.now until tail.now }
+    requires near { All (IsWithin (MOST_TERM + (length rows.now + 1) * MOST_VALUE)) tail.now }
     ensures row { IfOk result (IsRow network.now values.now first.now) }
     ensures within { IfOk result (λ row.
         All (IsWithin (MOST_TERM + (length rows.now + 1) * MOST_VALUE)) row) }
 {
     problem.is_sound();
     let count = problem.pairings().len();
-    let mut row = Row::of(alloc, &network.terms)?;
+    let mut row = Row::of(alloc, tail.all())?;
     let mut from = 0;
-    while let Some(q) = first.first_from(from) {
+    while let Some(q) = first_between(first, from, until) {
         row.relax(&rows[count - 1 - q], values[q], network.steps[q]);
         from = q + 1;
     }
     Ok(row)
+}
+
+/// The least place of the set from a place on and before another one.
+fn first_between(set: &Set, from: usize, until: usize) -> Option<usize>
+    ensures place { IfSome result
+        (λ p. (from ≤ p) × (p < until) × (is_among set.now p ≡ true)) }
+    ensures least { MatchOption result
+        ((q : ℕ) → from ≤ q → q < until → is_among set.now q ≡ false)
+        (λ p. (q : ℕ) → from ≤ q → q < p → is_among set.now q ≡ false) }
+{
+    match set.first_from(from) {
+        Some(p) if p < until => Some(p),
+        _ => None,
+    }
 }

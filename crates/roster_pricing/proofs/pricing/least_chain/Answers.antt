@@ -1,27 +1,32 @@
-use Rattle.std.proofs.Common.{◌≡◌, ℕ, ◌+◌, ◌*◌, ◌<◌, ◌≤◌, List, [], length, subst, sym, arith, ℤ, pos, ◌≤ℤ◌, w64, to_z, of_z, FitsSigned, rules}
+use Rattle.std.proofs.Common.{◌≡◌, ℕ, ◌+◌, ◌*◌, ◌<◌, ◌≤◌, List, [], length, ap, subst, sym, arith, ℤ, pos, ◌≤ℤ◌, w64, to_z, of_z, FitsSigned, rules}
 use Rattle.std.specs.List.Sorted.{IsStrictlyIncreasing}
 use Rattle.std.proofs.lemmas.Int.{to_z-of_z}
 use Rattle.roster_model.specs.Problem.{home_of}
 use Rattle.roster_cost.specs.Amounts.{IsWithin}
 use Rattle.roster_pricing.specs.declared.parts.TheConstants.{MOST_LEAST, MOST_TERM, MOST_VALUE}
+use Rattle.roster_pricing.specs.Chains.{IsTail}
 use Rattle.roster_pricing.specs.Reduced.{reduced, IsLeastOf}
 use Rattle.roster_pricing.proofs.ChainLemmas.{least_is, AddsFlight}
-use Rattle.roster_pricing.proofs.RowLemmas.{within-more}
+use Rattle.roster_pricing.proofs.RowLemmas.{within-more, All-within-more}
 use Rattle.roster_pricing.proofs.pricing.least_chain.Goals as goal
 
-pub row_behind-requires-clause-places : goal.row_behind-requires-clause-places
-row_behind-requires-clause-places c q among = ((c.requires.network.alone q).0 among).0
-
 pub row_behind-requires-clause-done : goal.row_behind-requires-clause-done
-row_behind-requires-clause-done c q among =
+row_behind-requires-clause-done c q among near =
     let inside = ((c.requires.network.alone q).0 among).0 in
     omega (arith, inside, c.requires.all)
+
+pub row_behind-requires-clause-tail : goal.row_behind-requires-clause-tail
+row_behind-requires-clause-tail c =
+    subst (λ n. IsTail c.args.network.now c.args.values.now n c.in_ok-end.end) (sym (ap length c.pairings-count.ensures.value)) c.in_ok-end.ensures.tail
+
+pub row_behind-requires-clause-near : goal.row_behind-requires-clause-near
+row_behind-requires-clause-near c = All-within-more MOST_TERM (MOST_TERM + (length c.args.rows.now + 1) * MOST_VALUE) c.in_ok-end.end (omega arith) c.in_ok-end.ensures.within
 
 pub first-requires : goal.first-requires
 first-requires c = omega (arith, c.in_ok-row.ensures.row.covers, c.requires.network.some)
 
 -- the law of flight, of this person
-adds : (c : goal.After-drop-row-inside) (set : List ℕ) → IsStrictlyIncreasing set → AddsFlight c.args.problem.now c.args.k set
+adds : (c : goal.After-drop-end-inside-2) (set : List ℕ) → IsStrictlyIncreasing set → AddsFlight c.args.problem.now c.args.k set
 adds c set rising =
     let days = (home_of c.args.problem.now c.args.k).days in
     let whole = c.flight_of_set.ensures c.args.problem.now days c.args.k set rising in

@@ -9,6 +9,10 @@ use Rattle.roster_pricing.specs.Chains.{next_state, value_at}
 use Rattle.roster_pricing.proofs.RowLemmas.{All-within-more, row_is}
 use Rattle.roster_pricing.proofs.rows.row_behind.Goals as goal
 
+-- the place of the pairing
+inside_place : (c : goal.After-relax) → c.in-Some.q < length c.args.problem.now.pairings
+inside_place c = ((c.requires.network.alone c.in-Some.q).0 (c.requires.alone c.in-Some.q c.in-Some.ensures.place.2)).0
+
 -- the row that the pairing leads to
 row_found : (c : goal.After-relax) (row : List ℤ) → slice_get c.args.rows.now (length c.args.problem.now.pairings - 1 - c.in-Some.q) ≡ Some row → c.index-rows-count.result ≡ row
 row_found c row at =
@@ -19,13 +23,13 @@ row_found c row at =
 row_within : (c : goal.After-relax) → All (IsWithin (MOST_TERM + length c.args.rows.now * MOST_VALUE)) c.index-rows-count.result
 row_within c =
     let count = ap length c.pairings-count.ensures.value in
-    let done = c.requires.done c.in-Some.q c.in-Some.ensures.place.2 in
+    let done = c.requires.done c.in-Some.q c.in-Some.ensures.place.2 c.in-Some.ensures.place.1 in
     subst (All (IsWithin (MOST_TERM + length c.args.rows.now * MOST_VALUE))) (sym c.index-rows-count.is)
     (c.requires.rows.within (length c.pairings-count.result.now - 1 - c.in-Some.q) c.index-rows-count.result (omega (arith, count, done)))
 
 value_told : (c : goal.After-relax) → to_z w64 (of_z w64 (value_at c.args.values.now c.in-Some.q)) ≡ value_at c.args.values.now c.in-Some.q
 value_told c =
-    let within : IsWithin MOST_VALUE (value_at c.args.values.now c.in-Some.q) = c.requires.values c.in-Some.q (pos 0) (omega (arith, c.requires.covers, c.requires.places c.in-Some.q c.in-Some.ensures.place.2)) in
+    let within : IsWithin MOST_VALUE (value_at c.args.values.now c.in-Some.q) = c.requires.values c.in-Some.q (pos 0) (omega (arith, c.requires.covers, inside_place c)) in
     let fits : FitsSigned w64 (value_at c.args.values.now c.in-Some.q) = search rules in
     to_z-of_z w64 (value_at c.args.values.now c.in-Some.q) fits
 
@@ -37,13 +41,13 @@ loop-q-preserved c =
     let inv = c.loop-q.invariant in
     record {
       covers = c.relax.ensures.same ∙ inv.covers;
-      ended = λ f inside. let before = inv.ended f inside in let now = c.relax.ensures.kept f (omega (arith, inv.covers, inside)) in omega (arith, ints, before, now);
+      kept = λ f inside. let before = inv.kept f inside in let now = c.relax.ensures.kept f (omega (arith, inv.covers, inside)) in omega (arith, ints, before, now);
       led = λ q row below among at f inside. elim (cases_eq q c.in-Some.q) [
         | inl here ↦
             let bits : value_at c.relax.new.self f ≤ℤ (to_z w64 (of_z w64 (value_at c.args.values.now c.in-Some.q)) +ℤ value_at c.index-rows-count.result (next_state (length c.loop-q.row) f c.index.result.now)) = c.relax.ensures.through f (omega (arith, inv.covers, inside)) in
             let through = subst (λ v. value_at c.relax.new.self f ≤ℤ (v +ℤ value_at c.index-rows-count.result (next_state (length c.loop-q.row) f c.index.result.now))) (value_told c) bits in
             let behind = row_found c row (subst (λ i. slice_get c.args.rows.now (length c.args.problem.now.pairings - 1 - i) ≡ Some row) here at) in
-            let steps : c.index.result.now ≡ slice_index c.args.network.now.steps.items c.in-Some.q = c.index.ensures ∙ slice_index_any c.args.network.now.steps.items c.in-Some.q c.index.result.now (omega (arith, c.requires.network.steps.covers, c.requires.places c.in-Some.q c.in-Some.ensures.place.2)) in
+            let steps : c.index.result.now ≡ slice_index c.args.network.now.steps.items c.in-Some.q = c.index.ensures ∙ slice_index_any c.args.network.now.steps.items c.in-Some.q c.index.result.now (omega (arith, c.requires.network.steps.covers, inside_place c)) in
             let told = subst (λ r. value_at c.relax.new.self f ≤ℤ (value_at c.args.values.now c.in-Some.q +ℤ value_at r (next_state (length c.loop-q.row) f c.index.result.now))) behind through in
             let stepped = subst (λ n. value_at c.relax.new.self f ≤ℤ (value_at c.args.values.now c.in-Some.q +ℤ value_at row (next_state (length c.loop-q.row) f n))) steps told in
             let counted = subst (λ n. value_at c.relax.new.self f ≤ℤ (value_at c.args.values.now c.in-Some.q +ℤ value_at row (next_state n f (slice_index c.args.network.now.steps.items c.in-Some.q)))) inv.covers stepped in
@@ -66,9 +70,10 @@ loop-q-preserved c =
 pub returns-clause-row : goal.returns-clause-row
 returns-clause-row c =
     let inv = c.loop-q.invariant in
-    row_is c.args.problem.now c.args.network.now c.args.values.now c.args.rows.now c.args.first.now c.loop-q.row c.requires.network.some c.requires.rows inv.covers inv.ended
-    (λ q behind among at f inside. inv.led q behind (elim (cases_lt q c.loop-q.from) [
+    row_is c.args.problem.now c.args.network.now c.args.values.now c.args.rows.now c.args.first.now c.loop-q.row c.args.tail.now c.args.until c.requires.network.some c.requires.rows c.requires.tail inv.covers inv.kept
+    (λ q behind among near at f inside. inv.led q behind (elim (cases_lt q c.loop-q.from) [
       | inl old ↦ old
-      | inr new ↦ absurd (false≢true (sym (c.in_default.ensures.least q new) ∙ among))
+      | inr new ↦ absurd (false≢true (sym (c.in_default.ensures.least q new near) ∙ among))
     ]) among at f inside)
-    (λ q among. (c.requires.places q among, c.requires.done q among))
+    (λ q among. (((c.requires.network.alone q).0 (c.requires.alone q among)).0, c.requires.alone q among))
+    c.requires.done

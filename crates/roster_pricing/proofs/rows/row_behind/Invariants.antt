@@ -7,11 +7,11 @@ use Rattle.roster_pricing.specs.declared.parts.TheConstants.{MOST_TERM, MOST_VAL
 use Rattle.roster_pricing.specs.Chains.{next_state, value_at}
 use Rattle.roster_pricing.proofs.rows.row_behind.Given as goal
 
--- the row is no more than the end, and than what the pairings so far lead to
+-- the row is no more than the tail, and than what the pairings so far lead to
 abbrev pub invariant-loop-q : goal.invariant-loop-q
 invariant-loop-q l = record {
   covers : length l.row ≡ length l.network.terms.items;
-  ended : (f : ℕ) → f < length l.network.terms.items → value_at l.row f ≤ℤ value_at l.network.terms.items f;
+  kept : (f : ℕ) → f < length l.network.terms.items → value_at l.row f ≤ℤ value_at l.tail f;
   led : (q : ℕ) (row : List ℤ) → q < l.from → is_among l.first q ≡ true → slice_get l.rows (length l.problem.pairings - 1 - q) ≡ Some row
       → (f : ℕ) → f < length l.network.terms.items → value_at l.row f ≤ℤ (value_at l.values q +ℤ value_at row (next_state (length l.network.terms.items) f (slice_index l.network.steps.items q)));
   within : All (IsWithin (MOST_TERM + (length l.rows + 1) * MOST_VALUE)) l.row;

@@ -1,36 +1,109 @@
-use Rattle.std.proofs.Common.{◌≡◌, ℕ, ◌+◌, ◌-◌, ◌*◌, ◌<◌, [], length, get_or, subst, sym, ap, ◌∙◌, arith}
-use Rattle.std.specs.Prelude.{All}
+use Rattle.std.proofs.Common.{◌≡◌, ℕ, ◌+◌, ◌-◌, ◌*◌, ◌<◌, true, List, [], length, get_or, Some, refl, subst, sym, ap, ◌∙◌, arith}
+use Rattle.std.specs.Prelude.{All, slice_get}
 use Rattle.std.proofs.lemmas.List.{length_push}
 use Rattle.std.proofs.lemmas.Option.{get_or_from_slice_get, slice_get-get_or}
+use Rattle.roster_model.specs.Rules.{is_among}
 use Rattle.roster_cost.specs.Amounts.{IsWithin}
+use Rattle.roster_pricing.specs.declared.network.Network.{Network}
 use Rattle.roster_pricing.specs.declared.parts.TheConstants.{MOST_TERM, MOST_VALUE}
-use Rattle.roster_pricing.specs.Chains.{followers_of, IsRow}
-use Rattle.roster_pricing.specs.Networks.{AreRows}
-use Rattle.roster_pricing.proofs.RowLemmas.{rows_more, rows_none}
+use Rattle.roster_pricing.specs.Chains.{followers_of, IsRow, IsTail}
+use Rattle.roster_pricing.specs.Networks.{AreRows, AreTails}
+use Rattle.roster_pricing.proofs.RowLemmas.{follower_alone, rows_more, rows_none, tails_more, tails_none, All-within-more}
 use Rattle.roster_pricing.proofs.rows.rows_of.Goals as goal
 
+-- what is found at a place of a list
+found_at : {X : Type 0} (xs : List X) (i j : ℕ) (found : X) → found ≡ get_or xs i found → i ≡ j → j < length xs → slice_get xs j ≡ Some found
+found_at xs i j found is same inside = slice_get-get_or xs j found inside ∙ ap Some (sym (is ∙ ap (λ n. get_or xs n found) same))
+
+followers_found : (network : Network) (i p : ℕ) (found : List ℕ) → found ≡ get_or network.followers.items i found → i ≡ p → p < length network.followers.items
+    → found ≡ followers_of network.followers.items p
+followers_found network i p found is same inside = sym (get_or_from_slice_get network.followers.items p found [] (found_at network.followers.items i p found is same inside))
+
 pub loop-back-init : goal.loop-back-init
-loop-back-init c = record {
-  rows = subst (AreRows c.args.problem.now c.args.network.now c.args.values.now) (sym c.new-rows.ensures.items) (rows_none c.args.problem.now c.args.network.now c.args.values.now);
-  long = ap length c.new-rows.ensures.items;
-}
+loop-back-init c =
+    let problem = c.args.problem.now in
+    let network = c.args.network.now in
+    let values = c.args.values.now in
+    let none : AreTails problem network values c.new-tails.result.items = subst (AreTails problem network values) (sym c.new-tails.ensures.items) (tails_none problem network values) in
+    let zero : length c.new-tails.result.items ≡ 0 = ap length c.new-tails.ensures.items in
+    record {
+      rows = subst (AreRows problem network values) (sym c.new-rows.ensures.items) (rows_none problem network values);
+      long = ap length c.new-rows.ensures.items;
+      tails = tails_more problem network values c.new-tails.result.items c.push.new.self.items c.in_ok-end_of_all.field-0 none c.in_ok-push.ensures.items
+          (λ few. subst (λ n. IsTail network values n c.in_ok-end_of_all.field-0) (omega (arith, zero)) c.in_ok-end_of_all.ensures.tail)
+          (All-within-more MOST_TERM (MOST_TERM + (length c.new-tails.result.items + 1) * MOST_VALUE) c.in_ok-end_of_all.field-0 (omega arith) c.in_ok-end_of_all.ensures.within);
+      longer = ap length c.in_ok-push.ensures.items ∙ length_push c.new-tails.result.items c.in_ok-end_of_all.field-0 ∙ ap (λ n. n + 1) zero;
+    }
+
+pub row_behind-requires-clause-alone : goal.row_behind-requires-clause-alone
+row_behind-requires-clause-alone c q among =
+    let problem = c.args.problem.now in
+    let network = c.args.network.now in
+    let count = ap length c.pairings-count.ensures.value in
+    let p : ℕ = length problem.pairings - 1 - c.loop-back.back in
+    let below : c.loop-back.back < length problem.pairings = omega (arith, count, c.loop-back-test.true) in
+    let followers = followers_found network (length c.pairings-count.result.now - 1 - c.loop-back.back) p c.index.result.now c.index.ensures (omega (arith, count)) (omega (arith, c.requires.network.covers, below)) in
+    (follower_alone problem c.args.k network
+    (λ whole part parts legal. c.part_of_legal_is_legal.ensures problem c.args.k whole part c.is_sound.ensures.ordered c.is_sound.ensures.timed parts legal)
+    c.requires.network p q (omega (arith, below)) (subst (λ row. is_among row q ≡ true) followers among)).2
+
+pub row_behind-requires-clause-done : goal.row_behind-requires-clause-done
+row_behind-requires-clause-done c q among near =
+    let problem = c.args.problem.now in
+    let network = c.args.network.now in
+    let count = ap length c.pairings-count.ensures.value in
+    let p : ℕ = length problem.pairings - 1 - c.loop-back.back in
+    let below : c.loop-back.back < length problem.pairings = omega (arith, count, c.loop-back-test.true) in
+    let followers = followers_found network (length c.pairings-count.result.now - 1 - c.loop-back.back) p c.index.result.now c.index.ensures (omega (arith, count)) (omega (arith, c.requires.network.covers, below)) in
+    let after = follower_alone problem c.args.k network
+    (λ whole part parts legal. c.part_of_legal_is_legal.ensures problem c.args.k whole part c.is_sound.ensures.ordered c.is_sound.ensures.timed parts legal)
+    c.requires.network p q (omega (arith, below)) (subst (λ row. is_among row q ≡ true) followers among) in
+    let long = ap length c.deref.ensures.value ∙ c.loop-back.invariant.long in
+    omega (arith, after.0, after.1, long, below)
+
+pub row_behind-requires-clause-tail : goal.row_behind-requires-clause-tail
+row_behind-requires-clause-tail c =
+    let problem = c.args.problem.now in
+    let network = c.args.network.now in
+    let inv = c.loop-back.invariant in
+    let count = ap length c.pairings-count.ensures.value in
+    let from : ℕ = c.all_from-from.result in
+    let at = found_at c.loop-back.tails.items (length c.pairings-count.result.now - from) (length problem.pairings - from) c.index-tail.result.now c.index-tail.ensures (omega (arith, count)) (omega (arith, count, inv.longer, c.loop-back-test.true, c.all_from-from.ensures)) in
+    subst (λ n. IsTail network c.args.values.now n c.index-tail.result.now) (omega (arith, count, c.all_from-from.ensures))
+    (inv.tails.each (length problem.pairings - from) c.index-tail.result.now (omega arith) at)
+
+pub longer_tail-requires-clause-tail : goal.longer_tail-requires-clause-tail
+longer_tail-requires-clause-tail c =
+    let problem = c.args.problem.now in
+    let network = c.args.network.now in
+    let inv = c.loop-back.invariant in
+    let count = ap length c.pairings-count.ensures.value in
+    let at = found_at c.loop-back.tails.items c.loop-back.back c.loop-back.back c.index-in-loop-back.result.now c.index-in-loop-back.ensures refl (omega (arith, inv.longer)) in
+    subst (λ n. IsTail network c.args.values.now n c.index-in-loop-back.result.now) (omega (arith, count, c.loop-back-test.true))
+    (inv.tails.each c.loop-back.back c.index-in-loop-back.result.now (omega (arith, count, c.loop-back-test.true)) at)
 
 pub loop-back-preserved : goal.loop-back-preserved
 loop-back-preserved c =
     let problem = c.args.problem.now in
     let network = c.args.network.now in
+    let values = c.args.values.now in
     let inv = c.loop-back.invariant in
     let count = ap length c.pairings-count.ensures.value in
     let p : ℕ = length problem.pairings - 1 - c.loop-back.back in
     let below : c.loop-back.back < length problem.pairings = omega (arith, count, c.loop-back-test.true) in
-    let inside : p < length problem.pairings = omega arith in
     let is_p : length c.pairings-count.result.now - 1 - c.loop-back.back ≡ p = omega (arith, count) in
-    let covers = c.requires.network.covers in
-    let followers : c.index.result.now ≡ followers_of network.followers.items p =
-    c.index.ensures ∙ ap (λ i. get_or network.followers.items i c.index.result.now) is_p
-    ∙ sym (get_or_from_slice_get network.followers.items p (get_or network.followers.items p c.index.result.now) [] (slice_get-get_or network.followers.items p c.index.result.now (omega (arith, covers, inside)))) in
-    let row = subst (λ first. IsRow network c.args.values.now first c.in_ok-row.row) followers c.in_ok-row.ensures.row in
+    let followers = followers_found network (length c.pairings-count.result.now - 1 - c.loop-back.back) p c.index.result.now c.index.ensures is_p (omega (arith, c.requires.network.covers, below)) in
+    let row = subst (λ first. IsRow network values first c.in_ok-row.row) followers c.in_ok-row.ensures.row in
+    let most : ℕ = MOST_TERM + (length c.loop-back.rows.items + 1) * MOST_VALUE in
+    let within : All (IsWithin most) c.in_ok-row.row = subst (λ rs. All (IsWithin (MOST_TERM + (length rs + 1) * MOST_VALUE)) c.in_ok-row.row) c.deref.ensures.value c.in_ok-row.ensures.within in
+    let tail : All (IsWithin (MOST_TERM + length c.loop-back.tails.items * MOST_VALUE)) c.index-in-loop-back.result.now =
+    subst (All (IsWithin (MOST_TERM + length c.loop-back.tails.items * MOST_VALUE))) (sym c.index-in-loop-back.ensures) (inv.tails.within c.loop-back.back c.index-in-loop-back.result.now (omega (arith, inv.longer))) in
     record {
-      rows = rows_more problem network c.args.values.now c.loop-back.rows.items c.push.new.self.items c.in_ok-row.row p inv.rows c.in_ok-push.ensures.items inside (omega (arith, inv.long, below)) row (subst (λ rs. All (IsWithin (MOST_TERM + (length rs + 1) * MOST_VALUE)) c.in_ok-row.row) c.deref.ensures.value c.in_ok-row.ensures.within);
-      long = ap length c.in_ok-push.ensures.items ∙ length_push c.loop-back.rows.items c.in_ok-row.row ∙ ap (λ n. n + 1) inv.long;
+      rows = rows_more problem network values c.loop-back.rows.items c.push-in-loop-back.new.self.items c.in_ok-row.row p inv.rows c.in_ok-push-2.ensures.items (omega (arith, below)) (omega (arith, inv.long, below)) row within;
+      long = ap length c.in_ok-push-2.ensures.items ∙ length_push c.loop-back.rows.items c.in_ok-row.row ∙ ap (λ n. n + 1) inv.long;
+      tails = tails_more problem network values c.loop-back.tails.items c.push-in-loop-back-2.new.self.items c.in_ok-longer.longer inv.tails c.in_ok-push-3.ensures.items
+          (λ few. subst (λ n. IsTail network values n c.in_ok-longer.longer) (omega (arith, count, inv.longer, below)) c.in_ok-longer.ensures.tail)
+          (All-within-more (most + MOST_VALUE) (MOST_TERM + (length c.loop-back.tails.items + 1) * MOST_VALUE) c.in_ok-longer.longer (omega (arith, inv.long, inv.longer))
+          (c.in_ok-longer.ensures.within most within (All-within-more (MOST_TERM + length c.loop-back.tails.items * MOST_VALUE) (most + MOST_VALUE) c.index-in-loop-back.result.now (omega (arith, inv.long, inv.longer)) tail)));
+      longer = ap length c.in_ok-push-3.ensures.items ∙ length_push c.loop-back.tails.items c.in_ok-longer.longer ∙ ap (λ n. n + 1) inv.longer;
     }
