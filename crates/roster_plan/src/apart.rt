@@ -26,6 +26,9 @@ const FEWEST_STEPS: u64 = 1 << 28;
 /// How many states of flight a person has, about.
 const USUAL_STATES: u64 = 1000;
 
+/// How many pairings may follow one before all do, about.
+const USUAL_FOLLOWERS: u64 = 16;
+
 /// How often prices of a base are looked at, at most, at effort 0.
 const FEWEST_LOOKS: u32 = 4;
 
@@ -154,17 +157,16 @@ fn looks_of(problem: &Problem, parts: &[Part], effort: u32) -> u32 {
     in_time.min(u64::from(looks)) as u32
 }
 
-/// How many steps a look takes, about: for each person of those bases one for each two pairings of the same
-/// base, and each state of flight.
+/// How many steps a look takes, about: for each person of those bases and each pairing of the same base so many
+/// that may follow it before all do, and each state of flight.
 fn steps_of(problem: &Problem, parts: &[Part]) -> u64 {
     let mut steps: u64 = 0;
     for person in problem.persons() {
         if is_open(parts, person.base) {
-            let pairings = pairings_of(problem, person.base);
-            steps = steps.wrapping_add(pairings.wrapping_mul(pairings) / 2);
+            steps = steps.wrapping_add(pairings_of(problem, person.base));
         }
     }
-    steps.wrapping_mul(USUAL_STATES)
+    steps.wrapping_mul(USUAL_FOLLOWERS * USUAL_STATES)
 }
 
 /// How many pairings the base has.

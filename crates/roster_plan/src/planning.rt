@@ -27,7 +27,7 @@ use std::alloc::{AllocError, Global};
 use std::thread::Threads;
 
 /// How many changes are tried at effort 0. Each effort more doubles them.
-const FEWEST_TRIES: u32 = 20_000;
+const FEWEST_TRIES: u32 = 80_000;
 
 /// How many changes are looked at to learn what changes cost.
 const SAMPLES: u32 = 500;
