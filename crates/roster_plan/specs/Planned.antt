@@ -11,6 +11,7 @@ pub record IsKnown (problem : Problem) (planned : Planned) : Type 0 where
   pub held : IsHeld problem planned.roster
   pub bounded : IsLowerBound problem planned.bound
   pub best : planned.is_best ≡ true → IsNotAfter problem Anywhere planned.roster
+  pub tight : planned.is_best ≡ true → planned.bound ≡ planned.roster.cost
 
 -- the same, and the roster isn't after the one that was known before
 pub record IsPlannedFrom (problem : Problem) (before : Key) (planned : Planned) : Type 0 where

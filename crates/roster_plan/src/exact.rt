@@ -4,7 +4,7 @@
 //! these are few they are listed, and searched whole: the least of their rosters is then the best of the base,
 //! or none costs so little.
 
-ghost use Rattle.std.specs.Prelude.{◌≡◌, ◌<◌, ◌≤ℤ◌, ◌+ℤ◌, pos, IfOk, IfSome};
+ghost use Rattle.std.specs.Prelude.{◌≡◌, ◌⊎◌, ◌<◌, ◌^◌, ◌≤ℤ◌, ◌+ℤ◌, ◌-ℤ◌, pos, IfOk, IfSome};
 ghost use Rattle.roster_model.specs.declared.limits.TheConstants.{MOST_BASES as most_bases};
 ghost use Rattle.roster_plan.specs.Exact.{IsExact};
 ghost use Rattle.roster_plan.specs.Months.{IsMonth, IsMonthFrom};
@@ -101,7 +101,8 @@ fn within(
 
 /// What costs at most so many units more than the bound costs less than this.
 fn limit_of(bound: i64, gap: u32) -> i64
-    ensures { result ≤ℤ ((bound +ℤ pos gap) +ℤ pos 1) }
+    ensures most { result ≤ℤ ((bound +ℤ pos gap) +ℤ pos 1) }
+    ensures least { (((bound +ℤ pos gap) +ℤ pos 1) ≤ℤ result) ⊎ (result ≡ (pos (2 ^ 63) -ℤ pos 1)) }
 {
     bound.saturating_add(i64::from(gap)).saturating_add(1)
 }

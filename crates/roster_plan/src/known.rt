@@ -60,6 +60,7 @@ pub(crate) fn so_far(problem: &Problem, roster: Roster, bound: i64) -> Planned
     requires bound { IsLowerBound problem.now bound }
     ensures known { IsKnown problem.now result }
     ensures roster { result.roster ≡ roster }
+    ensures bound { result.bound ≡ bound }
 {
     Planned {
         roster,

@@ -3,12 +3,14 @@
 //! No person flies a pairing of another base. So what a month costs is what its bases do, each apart, and the best
 //! roster is put together from the best one of each base.
 
-ghost use Rattle.std.specs.Prelude.{◌≡◌, ◌⊎◌, ◌<◌, ◌+◌, ◌*◌, ◌^◌, ◌&&◌, ◌+ℤ◌, ◌-ℤ◌, ◌≤ℤ◌, true, false, All, IfOk, IfSome, neg_ℤ, pos};
+ghost use Rattle.std.specs.Prelude.{◌≡◌, ◌⊎◌, ◌<◌, ◌+◌, ◌*◌, ◌^◌, ◌==◌, ◌&&◌, ◌+ℤ◌, ◌-ℤ◌, ◌≤ℤ◌, true, false, not, All, IfOk, IfSome, MatchOption, neg_ℤ, pos, replicate, length, slice_get};
 ghost use Rattle.roster_cost.specs.Amounts.{IsWithin};
 ghost use Rattle.roster_model.specs.declared.limits.TheConstants.{MOST_BASES as most_bases};
+ghost use Rattle.roster_model.specs.Rosters.{key_le};
 ghost use Rattle.roster_model.specs.Settled.{IsHeld, IsLowerBound, IsNotAfter};
 ghost use Rattle.roster_pricing.specs.Homes.{IsHome};
 ghost use Rattle.roster_lines.specs.Listing.{AreAllPairs};
+ghost use Rattle.roster_search.specs.Parts.{merge};
 ghost use Rattle.roster_plan.specs.Parts.{AreParts, HasNoCrew, IsPart};
 ghost use Rattle.roster_plan.specs.Planned.{IsKnown, IsPlannedFrom};
 
@@ -51,7 +53,9 @@ pub(crate) fn parts_of(
 }
 
 /// Whether the best roster of the base isn't known.
-pub(crate) fn is_open(parts: &[Part], base: usize) -> bool {
+pub(crate) fn is_open(parts: &[Part], base: usize) -> bool
+    ensures { MatchOption (slice_get parts.now base) (result ≡ true) (λ part. result ≡ not part.is_best) }
+{
     match parts.get(base) {
         Some(part) => !part.is_best,
         None => true,
@@ -111,6 +115,8 @@ fn roster_of(
     requires { IsHeld problem.now known.now }
     ensures held { IfOk result (IsHeld problem.now) }
     ensures home { IfOk result (λ own. IsHome problem.now base own.places) }
+    ensures own { IfOk result (λ own. own.places ≡ merge problem.now (λ b. b == base) known.now.places
+        (replicate (length problem.now.pairings) (length problem.now.persons))) }
 {
     problem.is_sound();
     let open = all_open(alloc, problem)?;
@@ -129,7 +135,9 @@ impl Part {
     ) -> Result<Part, AllocError>
         requires part { IsPart problem.now base self.now }
         requires held { IsHeld problem.now known.now }
-        ensures { IfOk result (IsPart problem.now base) }
+        ensures part { IfOk result (IsPart problem.now base) }
+        ensures kept { IfOk result (λ part. key_le part.roster self.now.roster ≡ true) }
+        ensures same { IfOk result (λ part. (part.bound ≡ self.now.bound) × (part.is_best ≡ self.now.is_best)) }
     {
         let own = roster_of(alloc, problem, base, known)?;
         let roster = earlier(own, self.roster.copy(alloc)?);
@@ -176,6 +184,7 @@ pub(crate) fn joined(
     requires parts { AreParts problem.now parts.now }
     requires known { IsKnown problem.now known }
     ensures planned { IfOk result (IsPlannedFrom problem.now known.roster) }
+    ensures bound { IfOk result (λ planned. known.bound ≤ℤ planned.bound) }
     ensures best { IfOk result
         (λ planned. All (λ part. part.is_best ≡ true) parts.now → planned.is_best ≡ true) }
 {
@@ -192,7 +201,9 @@ pub(crate) fn joined(
 fn greater(problem: &Problem, first: i64, second: i64) -> i64
     requires first { IsLowerBound problem.now first }
     requires second { IsLowerBound problem.now second }
-    ensures { IsLowerBound problem.now result }
+    ensures bound { IsLowerBound problem.now result }
+    ensures first { first ≤ℤ result }
+    ensures second { second ≤ℤ result }
 {
     if first < second { second } else { first }
 }
@@ -252,7 +263,8 @@ fn are_both(first: bool, second: bool) -> bool
 
 /// The number, or the nearest one of a word of 64 bits.
 fn word_of(number: i128) -> i64
-    ensures { (result ≤ℤ number) ⊎ (result ≡ neg_ℤ (pos (2 ^ 63))) }
+    ensures low { (result ≤ℤ number) ⊎ (result ≡ neg_ℤ (pos (2 ^ 63))) }
+    ensures high { (number ≤ℤ result) ⊎ (result ≡ (pos (2 ^ 63) -ℤ pos 1)) }
 {
     if number > i128::from(i64::MAX) {
         return i64::MAX;

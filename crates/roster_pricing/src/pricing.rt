@@ -1,8 +1,9 @@
 //! Lower bounds by dual prices.
 
-ghost use Rattle.std.specs.Prelude.{◌≡◌, ◌<◌, ◌*◌, ◌≤ℤ◌, ◌+ℤ◌, ◌-ℤ◌, ◌*ℤ◌, ℕ, ℤ, pos, IfOk, List, length};
+ghost use Rattle.std.specs.Prelude.{◌≡◌, ◌⊎◌, ◌<◌, ◌*◌, ◌≤ℤ◌, ◌+ℤ◌, ◌-ℤ◌, ◌*ℤ◌, ℕ, ℤ, pos, IfOk, List, Some, length, slice_get};
 ghost use Rattle.roster_lines.specs.Listing.{AreAllPairs, ArePairs};
 ghost use Rattle.roster_model.specs.Problem.{units_of};
+ghost use Rattle.roster_model.specs.records.Pairing.{Pairing};
 ghost use Rattle.roster_model.specs.Rosters.{IsLegalRoster};
 ghost use Rattle.roster_cost.specs.Amounts.{IsWithin};
 ghost use Rattle.roster_pricing.specs.Networks.{AreRows, AreValues, IsNetwork};
@@ -319,6 +320,8 @@ fn term_of(problem: &Problem, base: usize, p: usize, price: i64) -> i64
     requires pairing { p < length problem.now.pairings }
     requires price { IsWithin MOST_PRICE price }
     ensures term { IsTermOf problem.now base p price result }
+    ensures one { (pairing : Pairing) → slice_get problem.now.pairings p ≡ Some pairing
+        → (result ≡ price) ⊎ (result ≡ pos (PARTS * pairing.penalty)) }
     ensures within { IsWithin MOST_PRICE result }
 {
     problem.is_sound();
@@ -334,6 +337,7 @@ fn term_of(problem: &Problem, base: usize, p: usize, price: i64) -> i64
 fn in_units(parts: i64) -> i64
     requires { IsWithin MOST_SUM parts }
     ensures least { (units : ℤ) → parts ≤ℤ (pos PARTS *ℤ units) → result ≤ℤ units }
+    ensures whole { parts ≤ℤ (pos PARTS *ℤ result) }
     ensures near { (pos PARTS *ℤ result) ≤ℤ (parts +ℤ pos PARTS) }
     ensures within { IsWithin MOST_SUM result }
 {

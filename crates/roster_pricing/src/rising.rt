@@ -254,8 +254,9 @@ impl<'a> PricedBound<'a> {
         ensures problem { self.new.problem ≡ self.old.problem }
         ensures base { self.new.base ≡ self.old.base }
         ensures raised { self.old.bound ≤ℤ self.new.bound }
+        ensures taken { look.bound ≤ℤ self.new.bound }
     {
-        if look.bound < self.bound || look.parts <= self.parts {
+        if look.bound < self.bound || (look.bound == self.bound && look.parts <= self.parts) {
             self.idle = self.idle.wrapping_add(1);
             self.stride = narrower(self.stride);
             return;

@@ -123,7 +123,8 @@ fn least_in_lists(
 
 /// The greater one of the two, if there is a second one.
 fn better(least: i64, found: Option<i64>) -> i64
-    ensures { MatchOption found (result ≡ least) (λ other. (result ≡ least) ⊎ (result ≡ other)) }
+    ensures one { MatchOption found (result ≡ least) (λ other. (result ≡ least) ⊎ (result ≡ other)) }
+    ensures greater { IfSome found (λ other. (least ≤ℤ result) × (other ≤ℤ result)) }
 {
     match found {
         Some(other) if other > least => other,

@@ -19,7 +19,7 @@ returns-in-Settled-Some c =
     let bound_told : to_z w64 (of_z w64 c.bound.result) ≡ c.bound.result = to_z-of_z w64 c.bound.result bound_fits in
     let limit_fits : FitsSigned w64 c.limit_of-limit.result = search rules in
     let limit_told : limit ≡ c.limit_of-limit.result = to_z-of_z w64 c.limit_of-limit.result limit_fits in
-    let near : limit ≤ℤ (most +ℤ pos 1) = omega (arith, ints, c.limit_of-limit.ensures, bound_told, limit_told, c.bound.ensures.value) in
+    let near : limit ≤ℤ (most +ℤ pos 1) = omega (arith, ints, c.limit_of-limit.ensures.most, bound_told, limit_told, c.bound.ensures.value) in
     let settled : IsLeastBelow problem (IsOfTable c.in-Ok.table) limit c.in-Settled-Some.field-0 = subst (IsSearched problem c.in-Ok.table limit) c.in-Settled-Some.is c.in_ok-roster.ensures in
     let least = subst (IsLeastBelow problem (IsOfTable c.in-Ok.table) limit) c.in-Settled-Some.field-0-is settled in
     best_of_base problem c.args.base c.in-Ok.table most limit c.in-Settled-Some.roster all near least.0 least.1
@@ -36,7 +36,7 @@ returns-in-Settled-None c =
     let bound_told : to_z w64 (of_z w64 c.bound.result) ≡ c.bound.result = to_z-of_z w64 c.bound.result bound_fits in
     let limit_fits : FitsSigned w64 c.limit_of-limit.result = search rules in
     let limit_told : limit ≡ c.limit_of-limit.result = to_z-of_z w64 c.limit_of-limit.result limit_fits in
-    let near : limit ≤ℤ (most +ℤ pos 1) = omega (arith, ints, c.limit_of-limit.ensures, bound_told, limit_told, c.bound.ensures.value) in
+    let near : limit ≤ℤ (most +ℤ pos 1) = omega (arith, ints, c.limit_of-limit.ensures.most, bound_told, limit_told, c.bound.ensures.value) in
     let settled : IsLeastBelow problem (IsOfTable c.in-Ok.table) limit c.in-Settled-None.field-0 = subst (IsSearched problem c.in-Ok.table limit) c.in-Settled-None.is c.in_ok-roster.ensures in
     let above = subst (IsLeastBelow problem (IsOfTable c.in-Ok.table) limit) c.in-Settled-None.field-0-is settled in
     none_below problem c.args.base c.in-Ok.table most limit all near above

@@ -14,4 +14,5 @@ returns-clause-known c =
       held = c.requires.held;
       bounded = subst (IsLowerBound problem) (sym told) (best_is_bound problem c.args.roster c.requires.best);
       best = λ _. c.requires.best;
+      tight = λ _. told;
     }

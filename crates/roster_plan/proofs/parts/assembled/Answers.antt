@@ -93,7 +93,7 @@ so_far-requires-clause-bound c places legal =
     let bound = all_bounded problem c.loop-base.base c.loop-base.places.items (to_z w128 c.loop-base.bound-bits) c.loop-base.is_best c.is_sound.ensures.sound
     (omega (arith, c.loop-base-test.false, c.loop-base.auto.base-end, c.requires.covers)) c.loop-base.invariant.together places legal in
     let low = c.costs_fit.ensures.low places legal in
-    elim c.word_of.ensures [
+    elim c.word_of.ensures.low [
       | inl below ↦ omega (arith, ints, told, bound, below)
       | inr least ↦ omega (arith, ints, told, low, least)
     ]

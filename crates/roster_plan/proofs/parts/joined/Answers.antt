@@ -27,7 +27,7 @@ pub so_far-requires-clause-bound : goal.so_far-requires-clause-bound
 so_far-requires-clause-bound c =
     let bound : ℤ = c.greater-bound.result in
     let fits : FitsSigned w64 bound = search rules in
-    subst (IsLowerBound c.args.problem.now) (sym (to_z-of_z w64 bound fits)) c.greater-bound.ensures
+    subst (IsLowerBound c.args.problem.now) (sym (to_z-of_z w64 bound fits)) c.greater-bound.ensures.bound
 
 pub returns-clause-planned : goal.returns-clause-planned
 returns-clause-planned c = roster_on c.args.problem.now c.args.known.roster c.earlier-roster.result c.so_far.result c.so_far.ensures.known c.so_far.ensures.roster c.earlier-roster.ensures.second

@@ -9,7 +9,7 @@ renewed-requires-clause-part g c = part_at c.args.problem.now MOST_BASES c.loop-
 
 pub loop-base-preserved : goal.loop-base-preserved
 loop-base-preserved g c =
-    parts_push c.args.problem.now c.loop-base.base c.loop-base.parts.items c.push.new.self.items c.in_ok-part.part c.in_ok-push.ensures.items c.loop-base.invariant c.in_ok-part.ensures
+    parts_push c.args.problem.now c.loop-base.base c.loop-base.parts.items c.push.new.self.items c.in_ok-part.part c.in_ok-push.ensures.items c.loop-base.invariant c.in_ok-part.ensures.part
 
 pub told-requires-clause-parts : goal.told-requires-clause-parts
 told-requires-clause-parts g c =

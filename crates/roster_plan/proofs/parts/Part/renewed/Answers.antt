@@ -7,8 +7,8 @@ use Rattle.roster_pricing.specs.Homes.{IsHome, IsHomeBound}
 use Rattle.roster_plan.proofs.PartLemmas.{either_part}
 use Rattle.roster_plan.proofs.parts.Part.renewed.Goals as goal
 
-pub returns : goal.returns
-returns c =
+pub returns-clause-part : goal.returns-clause-part
+returns-clause-part c =
     let problem = c.args.problem.now in
     let base = c.args.base in
     let bound : ℤ = c.args.self.now.bound in
