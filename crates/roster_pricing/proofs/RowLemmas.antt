@@ -1,11 +1,11 @@
 -- Lists that grow, and rows that say what chains bring at least.
-use Rattle.std.proofs.Common.{◌≡◌, ℕ, ◌+◌, ◌-◌, ◌*◌, ◌<◌, ◌≤◌, true, false, List, [], ◌∷◌, ◌++◌, length, get_or, Some, refl, sym, ap, ◌∙◌, subst, inl, inr, arith, ℤ, ◌+ℤ◌, ◌≤ℤ◌}
+use Rattle.std.proofs.Common.{◌≡◌, ℕ, ◌+◌, ◌-◌, ◌*◌, ◌<◌, ◌≤◌, true, false, List, [], ◌∷◌, ◌++◌, length, get_or, Some, refl, sym, ap, ◌∙◌, subst, inl, inr, arith, ℤ, pos, ◌+ℤ◌, ◌≤ℤ◌, w64, to_z, of_z, FitsSigned, rules}
 use Rattle.std.specs.Prelude.{All, slice_get}
 use Rattle.std.proofs.lemmas.Bool.{cases_eq, cases_lt, false≢true}
-use Rattle.std.proofs.lemmas.Int.{ints}
+use Rattle.std.proofs.lemmas.Int.{ints, to_z-of_z}
 use Rattle.std.proofs.lemmas.List.{get_or_append_left, get_or_push, length_push}
 use Rattle.std.proofs.lemmas.List.Elements.{All-nil, All-push, All-weaker}
-use Rattle.std.proofs.lemmas.Option.{slice_get-get_or, slice_get_within}
+use Rattle.std.proofs.lemmas.Option.{get_or_from_slice_get, slice_get-get_or, slice_get_within}
 use Rattle.roster_model.specs.Problem.{Problem}
 use Rattle.roster_model.specs.Rules.{is_among, IsLegal}
 use Rattle.roster_model.proofs.SetLemmas.{is_among-here}
@@ -38,6 +38,24 @@ All-within-more few many zs l = All-weaker (IsWithin few) (IsWithin many) (λ z 
 chain_first : (followers : List (List ℕ)) (first : List ℕ) (p : ℕ) (rest : List ℕ) → IsChain followers first (p ∷ rest) → (is_among first p ≡ true) × IsChain followers (followers_of followers p) rest
 unfolding IsChain
 chain_first followers first p rest chain = chain
+
+-- a value as a word has it
+value_told : (values : List ℤ) (p : ℕ) → All (IsWithin MOST_VALUE) values → p < length values → to_z w64 (of_z w64 (value_at values p)) ≡ value_at values p
+value_told values p within inside =
+    let here : IsWithin MOST_VALUE (value_at values p) = within p (pos 0) inside in
+    let fits : FitsSigned w64 (value_at values p) = search rules in
+    to_z-of_z w64 (value_at values p) fits
+
+-- what a row is lowered to by a pairing, in the words of the network
+pub lowered : (values after row : List ℤ) (steps : List ℕ) (long states f p step : ℕ) → All (IsWithin MOST_VALUE) values → p < length values → p < length steps
+    → step ≡ get_or steps p step → long ≡ states
+    → value_at row f ≤ℤ (to_z w64 (of_z w64 (value_at values p)) +ℤ value_at after (next_state long f step))
+    → value_at row f ≤ℤ (value_at values p +ℤ value_at after (next_state states f (get_or steps p 0)))
+lowered values after row steps long states f p step within inside counted is same bits =
+    let through = subst (λ v. value_at row f ≤ℤ (v +ℤ value_at after (next_state long f step))) (value_told values p within inside) bits in
+    let there : step ≡ get_or steps p 0 = is ∙ sym (get_or_from_slice_get steps p (get_or steps p step) 0 (slice_get-get_or steps p step counted)) in
+    subst (λ n. value_at row f ≤ℤ (value_at values p +ℤ value_at after (next_state n f (get_or steps p 0)))) same
+    (subst (λ n. value_at row f ≤ℤ (value_at values p +ℤ value_at after (next_state long f n))) there through)
 
 -- ---- tails
 

@@ -1,12 +1,12 @@
-use Rattle.std.proofs.Common.{◌≡◌, ℕ, ◌+◌, ◌-◌, ◌*◌, ◌<◌, List, length, get_or, Some, subst, sym, ap, ◌∙◌, inl, inr, arith, ℤ, pos, ◌+ℤ◌, ◌≤ℤ◌, w64, to_z, of_z, FitsSigned, rules}
-use Rattle.std.specs.Prelude.{All, slice_get, slice_index}
-use Rattle.std.proofs.lemmas.Option.{get_or_from_slice_get, slice_get-get_or}
+use Rattle.std.proofs.Common.{◌≡◌, ◌+◌, ◌-◌, ◌*◌, ◌<◌, List, length, get_or, Some, subst, sym, ap, ◌∙◌, inl, inr, arith, ℤ, ◌+ℤ◌, ◌≤ℤ◌}
+use Rattle.std.specs.Prelude.{All, slice_get}
+use Rattle.std.proofs.lemmas.Option.{get_or_from_slice_get}
 use Rattle.std.proofs.lemmas.Bool.{cases_eq, cases_lt, false≢true}
-use Rattle.std.proofs.lemmas.Int.{ints, to_z-of_z}
+use Rattle.std.proofs.lemmas.Int.{ints}
 use Rattle.roster_cost.specs.Amounts.{IsWithin}
 use Rattle.roster_pricing.specs.declared.parts.TheConstants.{MOST_TERM, MOST_VALUE}
 use Rattle.roster_pricing.specs.Chains.{next_state, value_at}
-use Rattle.roster_pricing.proofs.RowLemmas.{All-within-more, row_is}
+use Rattle.roster_pricing.proofs.RowLemmas.{lowered, row_is, All-within-more}
 use Rattle.roster_pricing.proofs.rows.row_behind.Goals as goal
 
 -- the place of the pairing
@@ -27,15 +27,6 @@ row_within c =
     subst (All (IsWithin (MOST_TERM + length c.args.rows.now * MOST_VALUE))) (sym c.index-rows-count.is)
     (c.requires.rows.within (length c.pairings-count.result.now - 1 - c.in-Some.q) c.index-rows-count.result (omega (arith, count, done)))
 
-value_told : (c : goal.After-relax) → to_z w64 (of_z w64 (value_at c.args.values.now c.in-Some.q)) ≡ value_at c.args.values.now c.in-Some.q
-value_told c =
-    let within : IsWithin MOST_VALUE (value_at c.args.values.now c.in-Some.q) = c.requires.values c.in-Some.q (pos 0) (omega (arith, c.requires.covers, inside_place c)) in
-    let fits : FitsSigned w64 (value_at c.args.values.now c.in-Some.q) = search rules in
-    to_z-of_z w64 (value_at c.args.values.now c.in-Some.q) fits
-
-slice_index_any : (xs : List ℕ) (i d : ℕ) → i < length xs → get_or xs i d ≡ slice_index xs i
-slice_index_any xs i d inside = sym (get_or_from_slice_get xs i (get_or xs i d) 0 (slice_get-get_or xs i d inside))
-
 pub loop-q-preserved : goal.loop-q-preserved
 loop-q-preserved c =
     let inv = c.loop-q.invariant in
@@ -44,14 +35,12 @@ loop-q-preserved c =
       kept = λ f inside. let before = inv.kept f inside in let now = c.relax.ensures.kept f (omega (arith, inv.covers, inside)) in omega (arith, ints, before, now);
       led = λ q row below among at f inside. elim (cases_eq q c.in-Some.q) [
         | inl here ↦
-            let bits : value_at c.relax.new.self f ≤ℤ (to_z w64 (of_z w64 (value_at c.args.values.now c.in-Some.q)) +ℤ value_at c.index-rows-count.result (next_state (length c.loop-q.row) f c.index.result.now)) = c.relax.ensures.through f (omega (arith, inv.covers, inside)) in
-            let through = subst (λ v. value_at c.relax.new.self f ≤ℤ (v +ℤ value_at c.index-rows-count.result (next_state (length c.loop-q.row) f c.index.result.now))) (value_told c) bits in
             let behind = row_found c row (subst (λ i. slice_get c.args.rows.now (length c.args.problem.now.pairings - 1 - i) ≡ Some row) here at) in
-            let steps : c.index.result.now ≡ slice_index c.args.network.now.steps.items c.in-Some.q = c.index.ensures ∙ slice_index_any c.args.network.now.steps.items c.in-Some.q c.index.result.now (omega (arith, c.requires.network.steps.covers, inside_place c)) in
-            let told = subst (λ r. value_at c.relax.new.self f ≤ℤ (value_at c.args.values.now c.in-Some.q +ℤ value_at r (next_state (length c.loop-q.row) f c.index.result.now))) behind through in
-            let stepped = subst (λ n. value_at c.relax.new.self f ≤ℤ (value_at c.args.values.now c.in-Some.q +ℤ value_at row (next_state (length c.loop-q.row) f n))) steps told in
-            let counted = subst (λ n. value_at c.relax.new.self f ≤ℤ (value_at c.args.values.now c.in-Some.q +ℤ value_at row (next_state n f (slice_index c.args.network.now.steps.items c.in-Some.q)))) inv.covers stepped in
-            subst (λ i. value_at c.relax.new.self f ≤ℤ (value_at c.args.values.now i +ℤ value_at row (next_state (length c.args.network.now.terms.items) f (slice_index c.args.network.now.steps.items i)))) (sym here) counted
+            let place = inside_place c in
+            let led = lowered c.args.values.now c.index-rows-count.result c.relax.new.self c.args.network.now.steps.items (length c.loop-q.row) (length c.args.network.now.terms.items) f c.in-Some.q c.index.result.now c.requires.values
+            (omega (arith, c.requires.covers, place)) (omega (arith, c.requires.network.steps.covers, place)) c.index.ensures inv.covers (c.relax.ensures.through f (omega (arith, inv.covers, inside))) in
+            let told = subst (λ r. value_at c.relax.new.self f ≤ℤ (value_at c.args.values.now c.in-Some.q +ℤ value_at r (next_state (length c.args.network.now.terms.items) f (get_or c.args.network.now.steps.items c.in-Some.q 0)))) behind led in
+            subst (λ i. value_at c.relax.new.self f ≤ℤ (value_at c.args.values.now i +ℤ value_at row (next_state (length c.args.network.now.terms.items) f (get_or c.args.network.now.steps.items i 0)))) (sym here) told
         | inr other ↦
             let before : q < c.loop-q.from = elim (cases_lt q c.loop-q.from) [
               | inl old ↦ old

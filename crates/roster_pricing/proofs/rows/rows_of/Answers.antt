@@ -35,29 +35,28 @@ loop-back-init c =
       longer = ap length c.in_ok-push.ensures.items ∙ length_push c.new-tails.result.items c.in_ok-end_of_all.field-0 ∙ ap (λ n. n + 1) zero;
     }
 
-pub row_behind-requires-clause-alone : goal.row_behind-requires-clause-alone
-row_behind-requires-clause-alone c q among =
+-- what follows the pairing lies behind it, and may begin a chain
+behind : (c : goal.After-followers-in-loop-back-2-1) (q : ℕ) → is_among c.index.result.now q ≡ true
+    → (length c.args.problem.now.pairings - 1 - c.loop-back.back < q) × (q < length c.args.problem.now.pairings) × (is_among c.args.network.now.first q ≡ true)
+behind c q among =
     let problem = c.args.problem.now in
     let network = c.args.network.now in
     let count = ap length c.pairings-count.ensures.value in
     let p : ℕ = length problem.pairings - 1 - c.loop-back.back in
     let below : c.loop-back.back < length problem.pairings = omega (arith, count, c.loop-back-test.true) in
     let followers = followers_found network (length c.pairings-count.result.now - 1 - c.loop-back.back) p c.index.result.now c.index.ensures (omega (arith, count)) (omega (arith, c.requires.network.covers, below)) in
-    (follower_alone problem c.args.k network
+    follower_alone problem c.args.k network
     (λ whole part parts legal. c.part_of_legal_is_legal.ensures problem c.args.k whole part c.is_sound.ensures.ordered c.is_sound.ensures.timed parts legal)
-    c.requires.network p q (omega (arith, below)) (subst (λ row. is_among row q ≡ true) followers among)).2
+    c.requires.network p q (omega (arith, below)) (subst (λ row. is_among row q ≡ true) followers among)
+
+pub row_behind-requires-clause-alone : goal.row_behind-requires-clause-alone
+row_behind-requires-clause-alone c q among = (behind c q among).2
 
 pub row_behind-requires-clause-done : goal.row_behind-requires-clause-done
 row_behind-requires-clause-done c q among near =
-    let problem = c.args.problem.now in
-    let network = c.args.network.now in
+    let after = behind c q among in
     let count = ap length c.pairings-count.ensures.value in
-    let p : ℕ = length problem.pairings - 1 - c.loop-back.back in
-    let below : c.loop-back.back < length problem.pairings = omega (arith, count, c.loop-back-test.true) in
-    let followers = followers_found network (length c.pairings-count.result.now - 1 - c.loop-back.back) p c.index.result.now c.index.ensures (omega (arith, count)) (omega (arith, c.requires.network.covers, below)) in
-    let after = follower_alone problem c.args.k network
-    (λ whole part parts legal. c.part_of_legal_is_legal.ensures problem c.args.k whole part c.is_sound.ensures.ordered c.is_sound.ensures.timed parts legal)
-    c.requires.network p q (omega (arith, below)) (subst (λ row. is_among row q ≡ true) followers among) in
+    let below : c.loop-back.back < length c.args.problem.now.pairings = omega (arith, count, c.loop-back-test.true) in
     let long = ap length c.deref.ensures.value ∙ c.loop-back.invariant.long in
     omega (arith, after.0, after.1, long, below)
 
