@@ -102,11 +102,12 @@ pub(crate) fn bounded<R: Threads + Sync, W: Watcher>(
         return Ok(start);
     }
     let pricing = Pricing::new(alloc, problem, pairs)?;
+    let work = means.work() / bases_of(&start.parts).max(1);
     let mut month = start;
     for base in 0..MOST_BASES {
         if is_open(&month.parts, base) {
             month = bounded_at(
-                rt, alloc, problem, &pricing, base, month, looks, means, watcher,
+                rt, alloc, problem, &pricing, base, month, looks, means, work, watcher,
             )?;
         }
     }
@@ -114,7 +115,7 @@ pub(crate) fn bounded<R: Threads + Sync, W: Watcher>(
 }
 
 /// The month with a greater bound of this base, if so many looks at prices give one, and with its best roster,
-/// if that is found.
+/// if searches of so much work find it.
 fn bounded_at<R: Threads + Sync, W: Watcher>(
     rt: &R,
     alloc: Global,
@@ -124,6 +125,7 @@ fn bounded_at<R: Threads + Sync, W: Watcher>(
     start: Month,
     looks: u32,
     means: &Means,
+    work: u64,
     watcher: &mut W,
 ) -> Result<Month, AllocError>
     requires pricing { pricing.now ≡ problem.now }
@@ -141,7 +143,18 @@ fn bounded_at<R: Threads + Sync, W: Watcher>(
         let bound = priced.bound();
         month = month.raised(alloc, problem, base, bound, Step::Prices, watcher)?;
     }
-    close(alloc, problem, &priced, base, month, means, watcher)
+    close(alloc, problem, &priced, base, month, means, work, watcher)
+}
+
+/// How many bases aren't settled.
+fn bases_of(parts: &[Part]) -> u64 {
+    let mut bases: u64 = 0;
+    for base in 0..MOST_BASES {
+        if is_open(parts, base) {
+            bases = bases.wrapping_add(1);
+        }
+    }
+    bases
 }
 
 /// How often an effort looks at the prices of each base that isn't settled: more often the greater it is, if

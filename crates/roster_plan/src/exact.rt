@@ -14,7 +14,7 @@ use crate::months::Month;
 use crate::watching::{Step, Watcher};
 use roster_cost::keys_are_in_order;
 use roster_lines::TableFault;
-use roster_pricing::PricedBound;
+use roster_pricing::{PARTS, PricedBound};
 use roster_problem::{Problem, Roster};
 use roster_search::{Searched, least_within};
 use std::alloc::{AllocError, Global};
@@ -35,7 +35,7 @@ pub(crate) enum Found {
 }
 
 /// The month with the best roster of the base, if that is found, or else with the greatest bound that is found
-/// on the way.
+/// on the way. Each search of a gap may take so much work.
 pub(crate) fn close<W: Watcher>(
     alloc: Global,
     problem: &Problem,
@@ -43,6 +43,7 @@ pub(crate) fn close<W: Watcher>(
     base: usize,
     start: Month,
     means: &Means,
+    work: u64,
     watcher: &mut W,
 ) -> Result<Month, AllocError>
     requires problem { priced.now.problem ≡ problem.now }
@@ -55,7 +56,7 @@ pub(crate) fn close<W: Watcher>(
     let mut gap = whole / FIRST_PART;
     let mut month = start;
     for _ in 0..MOST_GAPS {
-        match within(alloc, problem, priced, base, gap, means)? {
+        match within(alloc, problem, priced, base, gap, means, work)? {
             Some(Found::Best(roster)) => {
                 return month.settled(alloc, problem, base, &roster, Step::Gap, watcher);
             }
@@ -81,18 +82,21 @@ fn within(
     base: usize,
     gap: u32,
     means: &Means,
+    work: u64,
 ) -> Result<Option<Found>, AllocError>
     requires problem { priced.now.problem ≡ problem.now }
     requires base { priced.now.base ≡ base }
     ensures { IfOk result (λ found. IfSome found (IsExact problem.now base)) }
 {
     let limit = limit_of(priced.bound(), gap);
-    let table = match priced.lines_within(alloc, gap, means.lines()) {
+    let most = means.lines_in_gap(problem.persons().len());
+    let table = match priced.lines_within(alloc, gap, most) {
         Ok(table) => table,
         Err(TableFault::TooMany(_)) => return Ok(None),
         Err(TableFault::Memory) => return Err(AllocError),
     };
-    match least_within(alloc, problem, &table, limit, means.work())? {
+    let prices = priced.prices();
+    match least_within(alloc, problem, &table, prices, PARTS as u32, limit, work)? {
         Searched::Settled(Some(roster)) => Ok(Some(Found::Best(roster))),
         Searched::Settled(None) => Ok(Some(Found::AtLeast(limit))),
         Searched::GivenUp => Ok(None),

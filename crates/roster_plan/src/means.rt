@@ -13,6 +13,12 @@ const LINES_AN_EFFORT: usize = 4096;
 /// How many lines a person may have in a neighbourhood.
 const LINES_NEARBY: usize = 4096;
 
+/// How many times as many lines a person may have in a gap.
+const TIMES_IN_A_GAP: usize = 8;
+
+/// How many lines all persons may have in a gap.
+const LINES_IN_A_GAP: usize = 6_000_000;
+
 /// How many lines nodes may have to look at in one search at effort 0. Each effort more doubles them.
 const FEWEST_WORK: u64 = 1 << 19;
 
@@ -24,8 +30,8 @@ pub struct Means {
     /// So many threads at most, and one at least, share searches and looks at prices.
     pub workers: usize,
     /// So many legal sets at most a person may have in one step, from 1 to 200000; less counts as 1, and more
-    /// as 200000. If somebody has more, that base, gap or neighbourhood isn't searched. In a neighbourhood it
-    /// is 4096 at most.
+    /// as 200000. If somebody has more, that base, gap or neighbourhood isn't searched. In a gap it is eight
+    /// times as many, but no more than 200000, nor six million of all persons; in a neighbourhood 4096 at most.
     pub most_sets: usize,
 }
 
@@ -44,11 +50,21 @@ impl Means {
         }
     }
 
-    /// How many lines a person may have where all are listed, or those of a gap.
+    /// How many lines a person may have where all are listed.
     pub(crate) fn lines(&self) -> usize
         ensures { (0 < result) × (result ≤ MOST_LINES) }
     {
         self.most_sets.clamp(1, MOST_LINES)
+    }
+
+    /// How many lines a person may have where those of a gap are listed, of so many persons.
+    pub(crate) fn lines_in_gap(&self, persons: usize) -> usize
+        ensures { (0 < result) × (result ≤ MOST_LINES) }
+    {
+        self.most_sets
+            .saturating_mul(TIMES_IN_A_GAP)
+            .min(LINES_IN_A_GAP / persons.max(1))
+            .clamp(1, MOST_LINES)
     }
 
     /// How many lines a person may have in a neighbourhood.
@@ -58,7 +74,8 @@ impl Means {
         self.most_sets.clamp(1, LINES_NEARBY)
     }
 
-    /// How many lines nodes may have to look at in one search of all lines of a base, or of those of its gap.
+    /// How many lines nodes may have to look at in one search of all lines of a base, or of those of the gaps of
+    /// all bases.
     pub(crate) fn work(&self) -> u64 {
         FEWEST_WORK << self.effort.min(MOST_EFFORT)
     }

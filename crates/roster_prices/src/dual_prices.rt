@@ -90,6 +90,24 @@ impl DualPrices {
         Ok(dual)
     }
 
+    /// These prices, each in so many parts of a cost unit, or one if that is 0. A pairing that has none there
+    /// has price 0.
+    pub fn of_parts(
+        alloc: Global,
+        problem: &Problem,
+        region: &Region,
+        prices: &[i64],
+        parts: u32,
+    ) -> Result<DualPrices, AllocError> {
+        let mut dual = DualPrices::of_penalties(alloc, problem, region)?;
+        let scale = i64::from(region.scale());
+        for p in 0..problem.pairings().len() {
+            let price = number_at(prices, p).saturating_mul(scale);
+            dual.put(p, price / i64::from(parts).max(1));
+        }
+        Ok(dual)
+    }
+
     // Sets the price of the pairing at place `p`.
     fn put(&mut self, p: usize, amount: i64) {
         if p < self.prices.len() {

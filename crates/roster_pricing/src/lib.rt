@@ -39,5 +39,6 @@ mod softness;
 mod terms;
 mod tuning;
 
+pub use parts::PARTS;
 pub use pricing::Pricing;
 pub use rising::PricedBound;

@@ -1,7 +1,7 @@
 //! Amounts in parts of a cost unit.
 
 /// How many parts a cost unit is counted in.
-pub(crate) const PARTS: u64 = 64;
+pub const PARTS: u64 = 64;
 
 /// A price, at most, and below 0, in parts of a cost unit.
 pub(crate) const MOST_PRICE: u64 = 1 << 38;

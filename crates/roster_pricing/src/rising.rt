@@ -91,6 +91,11 @@ impl<'a> PricedBound<'a> {
         })
     }
 
+    /// The prices that say so, one for each pairing, in `PARTS` parts of a cost unit.
+    pub fn prices(&self) -> &[i64] {
+        &self.prices
+    }
+
     /// No legal roster in which only persons of the base fly costs less, in cost units.
     pub fn bound(&self) -> i64
         ensures value { result ≡ self.now.bound }

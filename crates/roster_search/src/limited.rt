@@ -27,14 +27,17 @@ pub enum Searched {
 }
 
 /// The least roster in which each person has a line of the table, with its cost, if one costs less than the
-/// limit. It is given up once nodes have had so many lines to look at: work is counted, never time, so each
-/// run comes to the same.
+/// limit. It begins with these prices of the pairings, in so many parts of a cost unit: any will do, and good
+/// ones make it short. It is given up once nodes have had so many lines to look at: work is counted, never
+/// time, so each run comes to the same.
 ///
 /// Bases aren't searched apart here, since the limit is one of them all; `least_by_bases` has no limit.
 pub fn least_within(
     alloc: Global,
     problem: &Problem,
     table: &Table,
+    prices: &[i64],
+    parts: u32,
     limit: i64,
     work: u64,
 ) -> Result<Searched, AllocError>
@@ -43,7 +46,8 @@ pub fn least_within(
 {
     let ranges = whole(alloc, problem, table)?;
     let region = Region::of_ranges(alloc, problem, table, &ranges)?;
-    let root = root_prices(alloc, problem, &region)?;
+    let first = DualPrices::of_parts(alloc, problem, &region, prices, parts)?;
+    let root = root_prices(alloc, problem, &region, &first, limit)?;
     let mut patience = Patience::new(work);
     let found = least(alloc, problem, region, root, limit, &mut patience);
     match found {

@@ -10,6 +10,7 @@ use crate::finder::Finder;
 use crate::least::least;
 use crate::root::{RootPrices, root_prices, root_prices_by_threads};
 use roster_lines::Table;
+use roster_prices::DualPrices;
 use roster_problem::{Problem, Roster, open_number};
 use roster_regions::Region;
 use std::alloc::{AllocError, Global};
@@ -34,7 +35,8 @@ pub(crate) fn least_of_base<F: Finder>(
     ensures goes_on { F.goes_on finder.old finder.new }
 {
     let region = region_of_base(alloc, problem, table, ranges, base)?;
-    let root = root_prices(alloc, problem, &region)?;
+    let first = DualPrices::of_penalties(alloc, problem, &region)?;
+    let root = root_prices(alloc, problem, &region, &first, i64::MAX)?;
     least_in(alloc, problem, table, ranges, base, region, root, finder)
 }
 
@@ -57,7 +59,8 @@ pub(crate) fn least_of_base_by_threads<R: Threads + Sync>(
         (IsInPart problem.now table.now ranges.now (λ b. b == base)) (pos (2 ^ 63 - 1))) }
 {
     let region = region_of_base(alloc, problem, table, ranges, base)?;
-    let root = root_prices_by_threads(rt, alloc, threads, problem, &region)?;
+    let first = DualPrices::of_penalties(alloc, problem, &region)?;
+    let root = root_prices_by_threads(rt, alloc, threads, problem, &region, &first, i64::MAX)?;
     least_in(
         alloc,
         problem,

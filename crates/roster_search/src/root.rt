@@ -20,16 +20,18 @@ pub(crate) struct RootPrices {
     pub(crate) rounded: Option<Vec<u16>>,
 }
 
-/// Raises prices from the penalties on. A roster that is rounded on the way says how much may be paid; what
-/// costs more is left out of a copy of the region.
+/// Raises prices from the given ones on, for rosters that cost less than the limit. One that is rounded on the
+/// way lowers it; what costs more is left out of a copy of the region.
 pub(crate) fn root_prices(
     alloc: Global,
     problem: &Problem,
     region: &Region,
+    first: &DualPrices,
+    limit: i64,
 ) -> Result<RootPrices, AllocError>
     requires { IsRegion problem.now region.now }
 {
-    let mut rise = Rise::from_penalties(alloc, problem, region)?;
+    let mut rise = Rise::new(alloc, problem, region, first, limit)?;
     for step in 0..ROOT_STEPS {
         let room = rise.room(region);
         let is_worth = rise.ascent.look(alloc, problem, &rise.part, room)?;
@@ -47,11 +49,13 @@ pub(crate) fn root_prices_by_threads<R: Threads + Sync>(
     threads: usize,
     problem: &Problem,
     region: &Region,
+    first: &DualPrices,
+    limit: i64,
 ) -> Result<RootPrices, AllocError>
     requires region { IsRegion problem.now region.now }
     requires threads { 0 < threads }
 {
-    let mut rise = Rise::from_penalties(alloc, problem, region)?;
+    let mut rise = Rise::new(alloc, problem, region, first, limit)?;
     for step in 0..ROOT_STEPS {
         let room = rise.room(region);
         let is_worth = rise
@@ -70,23 +74,29 @@ struct Rise {
     ascent: Ascent,
     // What is left of the region by the prices.
     part: Region,
-    // The cheapest roster that was rounded, and its cost.
+    // The cheapest roster that was rounded.
     rounded: Option<Vec<u16>>,
+    // What a roster must cost less than: the limit, or what that roster costs.
     most: i64,
 }
 
 impl Rise {
-    /// Begins with the penalties.
-    fn from_penalties(alloc: Global, problem: &Problem, region: &Region) -> Result<Rise, AllocError>
+    /// Begins with these prices.
+    fn new(
+        alloc: Global,
+        problem: &Problem,
+        region: &Region,
+        first: &DualPrices,
+        limit: i64,
+    ) -> Result<Rise, AllocError>
         requires { IsRegion problem.now region.now }
         ensures { IfOk result (λ rise. IsRegion problem.now rise.part) }
     {
-        let penalties = DualPrices::of_penalties(alloc, problem, region)?;
         Ok(Rise {
-            ascent: Ascent::at_root(alloc, problem, region, &penalties)?,
+            ascent: Ascent::at_root(alloc, problem, region, first)?,
             part: region.copy(alloc)?,
             rounded: None,
-            most: i64::MAX,
+            most: limit,
         })
     }
 
