@@ -24,6 +24,7 @@
 //! - `nearby`: neighbourhoods of a roster, searched whole
 //! - `neighbourhoods`: which neighbourhood is searched next
 //! - `together`: neighbourhoods that several threads search at once
+//! - `runs`: runs of changes, which several threads do at once
 //! - `exact`: the best roster of a base, if its bound is near enough to what it costs
 //! - `apart`: each base searched whole, or bounded by prices
 //! - `planning`: the plan
@@ -44,6 +45,7 @@ mod neighbourhoods;
 mod parts;
 mod planning;
 mod random;
+mod runs;
 mod search;
 mod sets;
 mod tables;

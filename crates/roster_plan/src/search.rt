@@ -8,9 +8,6 @@ use crate::tables::Tables;
 use roster_problem::{Problem, Set, open_number};
 use std::alloc::{AllocError, Global};
 
-/// Where the random numbers begin.
-const SEED: u64 = 20_240_301;
-
 /// What a search thinks that its roster is, what it costs, and the changes that it tries next.
 #[derive(Drop)]
 pub(crate) struct Search<'a> {
@@ -29,12 +26,14 @@ pub(crate) struct Search<'a> {
 }
 
 impl<'a> Search<'a> {
-    /// A search that begins with this roster, in bases whose best roster isn't known.
+    /// A search that begins with this roster, in bases whose best roster isn't known, with the chances of a
+    /// seed.
     pub(crate) fn new(
         alloc: Global,
         problem: &'a Problem,
         places: &[u16],
         parts: &[Part],
+        seed: u64,
     ) -> Result<Search<'a>, AllocError> {
         let tables = Tables::new(alloc, problem)?;
         let mut sets = Vec::new(alloc);
@@ -55,7 +54,7 @@ impl<'a> Search<'a> {
         let open = set_of(places, usize::from(open_number(problem))).and(&sought);
         Ok(Search {
             tables,
-            random: Random::new(SEED),
+            random: Random::new(seed),
             changes: Changes::new(alloc),
             sets,
             lines,

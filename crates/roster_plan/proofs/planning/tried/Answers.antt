@@ -17,5 +17,5 @@ returns g c =
     let problem = c.args.problem.now in
     let start = c.args.start.planned.roster in
     let month = c.in_ok-month.month in
-    IfOk-weaker c.renewed-2.result (IsMonthFrom problem month.planned.roster) (IsMonthFrom problem start)
-    (λ last from. month_on problem start month last c.in_ok-month.ensures from) c.renewed-2.ensures
+    IfOk-weaker c.renewed.result (IsMonthFrom problem month.planned.roster) (IsMonthFrom problem start)
+    (λ last from. month_on problem start month last c.in_ok-month.ensures from) c.renewed.ensures

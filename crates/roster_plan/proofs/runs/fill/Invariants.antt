@@ -1,5 +1,5 @@
 use Rattle.std.proofs.Common.{◌≡◌}
-use Rattle.roster_plan.proofs.planning.fill.Given as goal
+use Rattle.roster_plan.proofs.runs.fill.Given as goal
 
 -- the draft is of the same problem
 abbrev pub invariant-loop-p : goal.invariant-loop-p

@@ -1,5 +1,5 @@
 use Rattle.std.proofs.Common.{◌≡◌}
-use Rattle.roster_plan.proofs.planning.assign_all.Given as goal
+use Rattle.roster_plan.proofs.runs.assign_all.Given as goal
 
 -- the draft is of the same problem
 abbrev pub invariant-loop-change : goal.invariant-loop-change

@@ -1,5 +1,5 @@
 use Rattle.std.proofs.Common.{◌≡◌}
-use Rattle.roster_plan.proofs.planning.improved.Given as goal
+use Rattle.roster_plan.proofs.runs.improved.Given as goal
 
 -- the draft is of the same problem
 abbrev pub invariant-loop-i : goal.invariant-loop-i
