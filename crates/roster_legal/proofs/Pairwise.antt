@@ -5,7 +5,7 @@ use Rattle.std.proofs.lemmas.Bool.{cases_order, eqb-true, or_cases, or_right, fa
 use Rattle.roster_model.specs.Calendar.{common}
 use Rattle.roster_model.specs.Problem.{Problem, home_of, leaves_of}
 use Rattle.roster_model.specs.records.Duty.{Duty, Holder, OfPairing, OfPerson}
-use Rattle.roster_model.specs.Rules.{Rule, BaseRule, OverlapRule, LeaveRule, RestRule, RecoveryRule, LimitRule, DaysOffRule, Holds, IsLegal, duty_list, is_among, is_listed, rank_of}
+use Rattle.roster_model.specs.Rules.{Rule, BaseRule, OverlapRule, LeaveRule, RestRule, RecoveryRule, Holds, IsLegal, duty_list, is_among, is_listed, rank_of}
 use Rattle.roster_model.specs.Rules.Leave.{IsOffLeave}
 use Rattle.roster_model.proofs.SetLemmas.{is_among-here, is_among-from_Contains, Contains-from_is_among}
 use Rattle.roster_legal.proofs.Covered.{all-covered, pairs-covered, rests-covered}
@@ -84,6 +84,4 @@ module _ (problem : Problem) (k : ℕ) (set : List ℕ) (some : ℕ) (has : is_a
   pairs-decide RestRule before =
       keeps_from (home_of problem k) (duty_list problem k set)
       (rests-covered listed (λ duty. is_listed k set duty.holder) inside both (home_of problem k) problem.duties (λ part. rests_from (home_of problem k) (duty_list problem k part.part) (part.holds RestRule)))
-  pairs-decide RecoveryRule before = absurd (omega arith)
-  pairs-decide (LimitRule limit) before = absurd (omega arith)
-  pairs-decide DaysOffRule before = absurd (omega arith)
+  pairs-decide rule before = absurd (omega arith)

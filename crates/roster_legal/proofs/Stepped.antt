@@ -12,7 +12,7 @@ use Rattle.roster_model.specs.Calendar.{Days}
 use Rattle.roster_model.specs.Problem.{Problem, home_of, year_of, eleven_of}
 use Rattle.roster_model.specs.records.Crew.{Person}
 use Rattle.roster_model.specs.records.Duty.{Duty, Holder, OfPairing, OfPerson, is_held_by_pairing}
-use Rattle.roster_model.specs.Rules.{Rule, BaseRule, OverlapRule, LeaveRule, RestRule, RecoveryRule, Limit, LimitRule, FlightYear, Flight12, DaysOffRule, Holds, HoldsLimit, IsLegal, duty_list, is_among, is_listed}
+use Rattle.roster_model.specs.Rules.{Rule, BaseRule, OverlapRule, LeaveRule, RestRule, RecoveryRule, Limit, LimitRule, FlightYear, Flight12, DaysOffRule, Holds, HoldsLimit, IsLegal, duty_list, is_among, is_listed, rank_of}
 use Rattle.roster_model.specs.Rules.Recovery.{KeepsRecovery}
 use Rattle.roster_model.specs.Rules.DaysOff.{KeepsDaysOff}
 use Rattle.roster_model.proofs.SetLemmas.{Ascends-from_rising, Ascends-push, rising_from_Ascends, All-is_among, is_among-append, is_among-here}
@@ -24,6 +24,10 @@ use Rattle.roster_legal.specs.Stepping.{AreBusyDaysOf, AreDutiesOf, AreRoomsOf, 
 use Rattle.roster_legal.proofs.Gathered.{either, is_of, neither, positions_within}
 use Rattle.roster_legal.proofs.Pairwise.{holds_of, pairs-decide}
 use Rattle.roster_legal.proofs.Parts.{IsLegal-part}
+
+-- what is judged from Recovery on says so of person k with the set
+abbrev pub HoldLater : Problem → ℕ → List ℕ → Type 0
+HoldLater problem k set = (rule : Rule) → rank_of RecoveryRule ≤ rank_of rule → Holds problem k set rule
 
 -- ---- the duties
 
@@ -117,17 +121,15 @@ module _ (stepped : Stepped) (p : ℕ) (ordered : IsInOrder stepped.loads.proble
   next-holds [] is rule = holds_of problem k p [] is rule
   next-holds (q ∷ front) is rule = holds_of problem k q (front ++ p ∷ []) is rule
 
-  by_rule : KeepsRecovery (home_of problem k).days (duty_list problem k (set ++ p ∷ [])) → ((limit : Limit) → HoldsLimit (home_of problem k).days (duty_list problem k (set ++ p ∷ [])) (year_of problem k) (eleven_of problem k) limit) → KeepsDaysOff (home_of problem k).days (duty_list problem k (set ++ p ∷ [])) → (rule : Rule) → Holds problem k (set ++ p ∷ []) rule
-  by_rule recovers limits off BaseRule = pairs-decide problem k (set ++ p ∷ []) p has_next alone_next pairs_next BaseRule (omega arith)
-  by_rule recovers limits off OverlapRule = pairs-decide problem k (set ++ p ∷ []) p has_next alone_next pairs_next OverlapRule (omega arith)
-  by_rule recovers limits off LeaveRule = pairs-decide problem k (set ++ p ∷ []) p has_next alone_next pairs_next LeaveRule (omega arith)
-  by_rule recovers limits off RestRule = pairs-decide problem k (set ++ p ∷ []) p has_next alone_next pairs_next RestRule (omega arith)
-  by_rule recovers limits off RecoveryRule = recovers
-  by_rule recovers limits off (LimitRule limit) = limits limit
-  by_rule recovers limits off DaysOffRule = off
+  by_rule : HoldLater problem k (set ++ p ∷ []) → (rule : Rule) → Holds problem k (set ++ p ∷ []) rule
+  by_rule later rule =
+      elim (cases_lt (rank_of rule) (rank_of RecoveryRule)) [
+        | inl early ↦ pairs-decide problem k (set ++ p ∷ []) p has_next alone_next pairs_next rule early
+        | inr late ↦ later rule late
+      ]
 
   -- what was flown before the month is not too much, since the pairing is legal alone
-  before : (year_of problem k ≤ MOST_FLIGHT_IN_A_YEAR) × (eleven_of problem k ≤ MOST_FLIGHT_IN_12_MONTHS)
+  pub before : (year_of problem k ≤ MOST_FLIGHT_IN_A_YEAR) × (eleven_of problem k ≤ MOST_FLIGHT_IN_12_MONTHS)
   before =
       let in_year = holds_of problem k p [] next.single (LimitRule FlightYear) in
       let in_twelve = holds_of problem k p [] next.single (LimitRule Flight12) in
@@ -139,12 +141,12 @@ module _ (stepped : Stepped) (p : ℕ) (ordered : IsInOrder stepped.loads.proble
       subst (λ s. IsLegal problem k (s ++ p ∷ [])) is (next.pairs q (subst (λ s. is_among s q ≡ true) is (is_among-here q [])))
   few_are_legal (q ∷ r ∷ front) is few = absurd (omega arith)
 
-  -- it is legal where it is a pair or less, or keeps recovery, the limits and the days off
-  pub next-legal : (2 ≤ length set → KeepsRecovery (home_of problem k).days (duty_list problem k (set ++ p ∷ []))) → (2 ≤ length set → AreWithin (home_of problem k).days (duty_list problem k (set ++ p ∷ [])) (year_of problem k) (eleven_of problem k)) → (2 ≤ length set → KeepsDaysOff (home_of problem k).days (duty_list problem k (set ++ p ∷ []))) → IsLegal problem k (set ++ p ∷ [])
-  next-legal recovers within off =
+  -- it is legal where it is a pair or less, or keeps what is judged from Recovery on
+  pub next-legal : (2 ≤ length set → HoldLater problem k (set ++ p ∷ [])) → IsLegal problem k (set ++ p ∷ [])
+  next-legal later =
       elim (cases_lt (length set) 2) [
         | inl few ↦ few_are_legal set refl few
-        | inr many ↦ inr (by_rule (recovers many) (limits-by_sums (home_of problem k).days (duty_list problem k (set ++ p ∷ [])) (year_of problem k) (eleven_of problem k) before.0 before.1 (within many)) (off many))
+        | inr many ↦ inr (by_rule (later many))
       ]
 
   some_hold : (set : List ℕ) → 2 ≤ length set → IsLegal problem k set → (rule : Rule) → Holds problem k set rule
@@ -249,13 +251,11 @@ pub stepped-next : (stepped : Stepped) (p depth busy word : ℕ) (old rooms posi
     → AreDutiesOf stepped.loads.problem stepped.loads.person (stepped.set ++ p ∷ []) positions
     → IsLoadOf stepped.loads.problem stepped.loads.person p loads → length left ≡ length rooms → ((j : ℕ) → slice_index left j ≡ slice_index rooms j - slice_index loads j)
     → AreBusyDaysOf stepped.loads.problem stepped.loads.person (stepped.set ++ p ∷ []) word
-    → (2 ≤ length stepped.set → KeepsRecovery (home_of stepped.loads.problem stepped.loads.person).days (duty_list stepped.loads.problem stepped.loads.person (stepped.set ++ p ∷ [])))
-    → (2 ≤ length stepped.set → AreWithin (home_of stepped.loads.problem stepped.loads.person).days (duty_list stepped.loads.problem stepped.loads.person (stepped.set ++ p ∷ [])) (year_of stepped.loads.problem stepped.loads.person) (eleven_of stepped.loads.problem stepped.loads.person))
-    → (2 ≤ length stepped.set → KeepsDaysOff (home_of stepped.loads.problem stepped.loads.person).days (duty_list stepped.loads.problem stepped.loads.person (stepped.set ++ p ∷ [])))
+    → (2 ≤ length stepped.set → HoldLater stepped.loads.problem stepped.loads.person (stepped.set ++ p ∷ []))
     → IsStepped stepped.loads (stepped.set ++ p ∷ []) (depth + 1) positions left word
-stepped-next stepped p depth busy word old rooms positions left loads placed known next duties load long each busy_now recovers within off = record {
+stepped-next stepped p depth busy word old rooms positions left loads placed known next duties load long each busy_now later = record {
   ascending = rising_from_Ascends _ (Ascends-push stepped.set p (Ascends-from_rising stepped.set known.ascending) next.behind);
-  legal = next-legal stepped p placed.ordered placed.timed known.legal next recovers within off;
+  legal = next-legal stepped p placed.ordered placed.timed known.legal next later;
   depth = ap (λ n. n + 1) known.depth ∙ sym (length_push stepped.set p);
   duties = duties;
   rooms = rooms-next stepped p placed.ordered placed.timed known.legal next rooms loads left known.rooms load long each;
