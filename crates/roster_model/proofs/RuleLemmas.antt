@@ -6,7 +6,7 @@ use Rattle.std.proofs.lemmas.Bool.{cases_eq}
 use Rattle.std.proofs.lemmas.List.{get_or-map, length-map}
 use Rattle.std.proofs.lemmas.List.FromFn.{get_or-range_with_len}
 use Rattle.std.proofs.lemmas.Option.{same_Some, slice_get_within}
-use Rattle.roster_model.specs.Rules.{Rule, BaseRule, OverlapRule, LeaveRule, RestRule, RecoveryRule, LimitRule, DaysOffRule, Limit, Duty7, Duty14, Duty28, Flight28, FlightYear, Flight12, rank_of, rank_of_limit, by_rank, limits_by_rank, AreByRank, IsFirstFailing}
+use Rattle.roster_model.specs.Rules.{Rule, LimitRule, Limit, Duty7, rank_of, rank_of_limit, by_rank, limits_by_rank, AreByRank, IsFirstFailing}
 
 -- the list has each of what is ranked, in the order of the ranks
 pub record IsRanking {R : Type 0} (rank : R → ℕ) (ranked : List R) : Type 0 where
@@ -15,28 +15,14 @@ pub record IsRanking {R : Type 0} (rank : R → ℕ) (ranked : List R) : Type 0 
 
 limit_at : (limit : Limit) → slice_get limits_by_rank (rank_of_limit limit) ≡ Some limit
 limit_at Duty7 = refl
-limit_at Duty14 = refl
-limit_at Duty28 = refl
-limit_at Flight28 = refl
-limit_at FlightYear = refl
-limit_at Flight12 = refl
+limit_at limit = refl
 
 pub limits-ranked : IsRanking rank_of_limit limits_by_rank
 limits-ranked = record { at = limit_at; counts = refl }
 
 rule_at : (rule : Rule) → slice_get by_rank (rank_of rule) ≡ Some rule
-rule_at BaseRule = refl
-rule_at OverlapRule = refl
-rule_at LeaveRule = refl
-rule_at RestRule = refl
-rule_at RecoveryRule = refl
 rule_at (LimitRule Duty7) = refl
-rule_at (LimitRule Duty14) = refl
-rule_at (LimitRule Duty28) = refl
-rule_at (LimitRule Flight28) = refl
-rule_at (LimitRule FlightYear) = refl
-rule_at (LimitRule Flight12) = refl
-rule_at DaysOffRule = refl
+rule_at rule = refl
 
 pub rules-ranked : IsRanking rank_of by_rank
 rules-ranked = record { at = rule_at; counts = refl }
