@@ -7,7 +7,7 @@ use Rattle.roster_model.specs.records.Duty.{Duty}
 use Rattle.roster_model.specs.Rules.{Limit, Duty7, Duty14, Duty28, Flight28, FlightYear, Flight12, LimitRule, duty_list, Holds, HoldsLimit}
 use Rattle.roster_reasons.specs.Bounds.{bound_of, KeepsBound}
 use Rattle.roster_reasons.specs.Reasons.{IsReasonOn}
-use Rattle.roster_reasons.specs.declared.value.Reason.{Reason}
+use Rattle.roster_reasons.specs.declared.rules.Reason.{Reason}
 
 -- a limit is what it looks at
 HoldsLimit-from_bound : (days : Days) (list : List Duty) (year eleven : ℕ) (limit : Limit) → KeepsBound days list (bound_of year eleven limit) → HoldsLimit days list year eleven limit

@@ -5,9 +5,9 @@ use Rattle.roster_model.specs.records.Duty.{Duty}
 use Rattle.roster_model.specs.Sums.{month_flight}
 use Rattle.roster_reasons.specs.declared.bounds.Bound.{Bound}
 use Rattle.roster_reasons.specs.declared.bounds.Bound.TheVariants as bounds
-use Rattle.roster_reasons.specs.declared.value.Amount.{Amount}
-use Rattle.roster_reasons.specs.declared.value.Amount.TheVariants as amounts
-use Rattle.roster_reasons.specs.declared.value.MonthFlight.{MonthFlight}
+use Rattle.roster_reasons.specs.declared.amounts.Amount.{Amount}
+use Rattle.roster_reasons.specs.declared.amounts.Amount.TheVariants as amounts
+use Rattle.roster_reasons.specs.declared.amounts.MonthFlight.{MonthFlight}
 use Rattle.roster_reasons.specs.Bounds.{minutes_by}
 use Rattle.roster_reasons.specs.Runs.{IsFirstRunOver, IsGreatestRun}
 

@@ -1,10 +1,4 @@
-pub mod Base
-pub mod Overlap
-pub mod Leave
-pub mod Rest
-pub mod Recovery
 pub mod Bounds
 pub mod Runs
 pub mod Amounts
-pub mod DaysOff
 pub mod Reasons

@@ -3,7 +3,7 @@ use Rattle.std.specs.Prelude.{◌≡◌, ℕ, ◌<◌, ◌≤◌, length}
 use Rattle.roster_model.specs.declared.limits.TheConstants.{DAYS_BEFORE}
 use Rattle.roster_model.specs.Calendar.{Days}
 use Rattle.roster_model.specs.Sums.{in_run}
-use Rattle.roster_reasons.specs.declared.value.RunOfDays.{RunOfDays}
+use Rattle.roster_reasons.specs.declared.runs.RunOfDays.{RunOfDays}
 
 -- What is told is a judged run of n days with its minutes, where each day has some, and the limit of them.
 pub record IsRun (on_day : ℕ → ℕ) (days : Days) (n limit : ℕ) (told : RunOfDays) : Type 0 where

@@ -4,16 +4,50 @@ ghost use Rattle.std.specs.Prelude.{◌≡◌, ◌+◌, ◌<◌, ◌≤◌, Matc
 ghost use Rattle.roster_model.specs.Problem.{home_of, year_of, eleven_of};
 ghost use Rattle.roster_model.specs.Sums as sums;
 ghost use Rattle.roster_problem.specs.View.{limit_of};
-ghost use Rattle.roster_reasons.specs.Amounts.{IsMonthFlight, IsMonthOver, IsOver, IsUse};
+ghost use Rattle.roster_reasons.specs.Amounts.{IsMonthFlight, IsMonthOver, IsOver, IsUse, left_of};
 ghost use Rattle.roster_reasons.specs.Bounds.{bound_of, IsSmall, KeepsBound};
 
 use crate::bounds::{Bound, bound_of};
-use crate::runs::{first_run_over, greatest_run};
-use crate::value::{Amount, MonthFlight};
+use crate::runs::{RunOfDays, first_run_over, greatest_run};
 use roster_cumulative::month_flight;
 use roster_instants::BaseDays;
 use roster_model::limits::MOST_DUTIES;
 use roster_problem::{DutyList, Limit, Problem};
+
+/// The flight of the month, with what was flown before it.
+#[derive(Clone, Copy, Debug, PartialEq, Eq)]
+pub struct MonthFlight {
+    /// The minutes flown before the month.
+    pub carried: u64,
+    /// The minutes of flight in the month.
+    pub flown: u64,
+    /// The minutes that there may be at most of both.
+    pub most: u64,
+}
+
+/// What a limit counts.
+#[derive(Clone, Copy, Debug, PartialEq, Eq)]
+pub enum Amount {
+    /// Duty or flight in days in a row.
+    Run(RunOfDays),
+    /// The month's flight and what was carried into it.
+    Month(MonthFlight),
+}
+
+impl Amount {
+    /// The minutes that are left of the limit, from 0.
+    pub fn left(self) -> u64
+        ensures { result ≡ left_of self }
+    {
+        match self {
+            Amount::Run(run) => run.most.saturating_sub(run.minutes),
+            Amount::Month(month) => month
+                .most
+                .saturating_sub(month.carried)
+                .saturating_sub(month.flown),
+        }
+    }
+}
 
 /// The flight of the month, with so many minutes before it, of which there may be so many.
 fn month_of(days: &BaseDays, list: &DutyList, carried: u32, most: u64) -> MonthFlight

@@ -5,31 +5,20 @@
 //! locked. `standing` tells how much of a limit is used. Each number is that of the definitions, and of all
 //! that breaks a rule the earliest is told. In reading order:
 //!
-//! - `value`: what is told
-//! - `base`, `overlap`, `leave`, `rest`, `recovery`, `days_off`: what first breaks one of these rules
 //! - `bounds`: what each limit looks at
 //! - `runs`: runs of days with too many minutes, or with the most
 //! - `amounts`: what breaks a limit, and how much of it is used
-//! - `rules`: what breaks each rule, as a reason
+//! - `rules`: what breaks each rule, as a reason; a file for each rule but the limits
 //! - `telling`: the reason for a set
 #![tactic(auto)]
 
 mod amounts;
-mod base;
 mod bounds;
-mod days_off;
-mod leave;
-mod overlap;
-mod recovery;
-mod rest;
 mod rules;
 mod runs;
 mod telling;
-mod value;
 
-pub use amounts::standing;
+pub use amounts::{Amount, MonthFlight, standing};
+pub use rules::{DutyInLeave, FewDaysOff, LongBlock, Reason, SharedDuties, ShortRest};
+pub use runs::RunOfDays;
 pub use telling::{first_reason, reason};
-pub use value::{
-    Amount, DutyInLeave, FewDaysOff, LongBlock, MonthFlight, Reason, RunOfDays, SharedDuties,
-    ShortRest,
-};

@@ -1,22 +1,85 @@
-//! What breaks each rule, as a reason.
+//! What breaks each rule, as a reason. Each rule but the limits has a file that tells what first breaks it.
+//!
+//! A duty is named by its place on the duty list of the person with the set, from 0, and a day by its
+//! number in the window of the home base, from 0: the month begins with day `DAYS_BEFORE`.
 
-ghost use Rattle.std.specs.Prelude.{◌≡◌, ◌<◌, ℕ, List, All, MatchOption, length};
+ghost use Rattle.std.specs.Prelude.{◌≡◌, ◌<◌, ◌↔◌, ℕ, List, All, IsTrue, MatchOption, length};
 ghost use Rattle.roster_model.specs.Problem.{home_of, year_of, eleven_of};
 ghost use Rattle.roster_model.specs.Rules.{duty_list, Holds, LimitRule};
 ghost use Rattle.roster_problem.specs.Duties.{AreTimed, IsInOrder};
 ghost use Rattle.roster_problem.specs.View.{limit_of, rule_of};
 ghost use Rattle.roster_reasons.specs.Bounds.{bound_of, KeepsBound};
-ghost use Rattle.roster_reasons.specs.Reasons.{IsReasonOn};
+ghost use Rattle.roster_reasons.specs.Reasons.{IsReasonOn, IsTold, rule_told};
 
-use crate::amounts::first_over;
-use crate::base::first_off_base;
-use crate::days_off::few_days_off;
-use crate::leave::first_duty_in_leave;
-use crate::overlap::first_overlap;
-use crate::recovery::first_long_block;
-use crate::rest::first_short_rest;
-use crate::value::Reason;
+mod base;
+mod days_off;
+mod leave;
+mod overlap;
+mod recovery;
+mod rest;
+
+use crate::amounts::{Amount, first_over};
+use base::first_off_base;
+pub use days_off::FewDaysOff;
+use days_off::few_days_off;
+pub use leave::DutyInLeave;
+use leave::first_duty_in_leave;
+pub use overlap::SharedDuties;
+use overlap::first_overlap;
+pub use recovery::LongBlock;
+use recovery::first_long_block;
+pub use rest::ShortRest;
+use rest::first_short_rest;
 use roster_problem::{DutyList, Limit, Problem, Rule, Set};
+
+/// What breaks a rule.
+#[derive(Clone, Copy, Debug, PartialEq, Eq)]
+pub enum Reason {
+    /// A pairing of another base, by its place in the book.
+    Base(usize),
+    /// Duties that overlap.
+    Overlap(SharedDuties),
+    /// A duty in a leave.
+    Leave(DutyInLeave),
+    /// Too little rest.
+    Rest(ShortRest),
+    /// Too long without a recurrent rest.
+    Recovery(LongBlock),
+    /// Too much duty or flight.
+    Limit(Limit, Amount),
+    /// Too few days off.
+    DaysOff(FewDaysOff),
+}
+
+impl Reason {
+    /// The rule that it breaks.
+    pub fn rule(self) -> Rule
+        ensures { rule_of result ≡ rule_told self }
+    {
+        match self {
+            Reason::Base(_) => Rule::Base,
+            Reason::Overlap(_) => Rule::Overlap,
+            Reason::Leave(_) => Rule::Leave,
+            Reason::Rest(_) => Rule::Rest,
+            Reason::Recovery(_) => Rule::Recovery,
+            Reason::Limit(limit, _) => limit.rule(),
+            Reason::DaysOff(_) => Rule::Days2,
+        }
+    }
+
+    /// Whether it speaks of the duty at place `i` of the list.
+    pub fn touches(self, i: usize) -> bool
+        ensures { IsTrue result ↔ IsTold self i }
+    {
+        match self {
+            Reason::Overlap(shared) => i == shared.first || i == shared.second,
+            Reason::Leave(told) => i == told.duty,
+            Reason::Rest(short) => short.before <= i && i - short.before <= 1,
+            Reason::Recovery(block) => block.first <= i && i <= block.last,
+            Reason::Base(_) | Reason::Limit(_, _) | Reason::DaysOff(_) => false,
+        }
+    }
+}
 
 /// What breaks the limit, as a reason.
 fn limit_reason(problem: &Problem, k: usize, list: &DutyList, limit: Limit) -> Option<Reason>

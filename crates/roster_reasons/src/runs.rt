@@ -8,11 +8,21 @@ ghost use Rattle.roster_reasons.specs.Bounds.{minutes_by};
 ghost use Rattle.roster_reasons.specs.Runs.{IsFirstRunOver, IsGreatestRun};
 
 use crate::bounds::Measure;
-use crate::value::RunOfDays;
 use roster_cumulative::{duty_on, flight_on};
 use roster_instants::BaseDays;
 use roster_model::limits::{DAYS_BEFORE, MOST_DAYS};
 use roster_problem::DutyList;
+
+/// A run of days in a row, and what a limit counts in it.
+#[derive(Clone, Copy, Debug, PartialEq, Eq)]
+pub struct RunOfDays {
+    /// Its last day.
+    pub last: usize,
+    /// The minutes of duty or flight in it.
+    pub minutes: u64,
+    /// The minutes that there may be at most.
+    pub most: u64,
+}
 
 /// The minutes of the list on the day.
 fn minutes_on(days: &BaseDays, list: &DutyList, measure: Measure, day: usize) -> u64

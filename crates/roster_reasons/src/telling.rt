@@ -5,8 +5,7 @@ ghost use Rattle.roster_model.specs.Rules as model;
 ghost use Rattle.roster_model.specs.Rules.{Holds, IsLegal};
 ghost use Rattle.roster_reasons.specs.Reasons.{IsReason};
 
-use crate::rules::reason_for;
-use crate::value::Reason;
+use crate::rules::{Reason, reason_for};
 use roster_legal::{first_broken, merge};
 use roster_problem::{Problem, Set};
 use std::alloc::{AllocError, Global};
