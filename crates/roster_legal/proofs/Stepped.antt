@@ -12,14 +12,12 @@ use Rattle.roster_model.specs.Calendar.{Days}
 use Rattle.roster_model.specs.Problem.{Problem, home_of, year_of, eleven_of}
 use Rattle.roster_model.specs.records.Crew.{Person}
 use Rattle.roster_model.specs.records.Duty.{Duty, Holder, OfPairing, OfPerson, is_held_by_pairing}
-use Rattle.roster_model.specs.Rules.{Rule, BaseRule, OverlapRule, LeaveRule, RestRule, RecoveryRule, Limit, LimitRule, FlightYear, Flight12, DaysOffRule, Holds, HoldsLimit, IsLegal, duty_list, is_among, is_listed, rank_of}
-use Rattle.roster_model.specs.Rules.Recovery.{KeepsRecovery}
-use Rattle.roster_model.specs.Rules.DaysOff.{KeepsDaysOff}
+use Rattle.roster_model.specs.Rules.{Rule, RecoveryRule, LimitRule, FlightYear, Flight12, Holds, IsLegal, duty_list, is_among, is_listed, rank_of}
 use Rattle.roster_model.proofs.SetLemmas.{Ascends-from_rising, Ascends-push, rising_from_Ascends, All-is_among, is_among-append, is_among-here}
 use Rattle.roster_problem.specs.Duties.{AreTimed, IsInOrder, is_of_pairing, passes_at, picked}
 use Rattle.roster_problem.proofs.PositionLists.{picked-passing}
 use Rattle.roster_cumulative.specs.Judged.{AreWithin, MonthFlight, Sum, judged_sums, load_of, most_load, most_of, room_of, sum_of}
-use Rattle.roster_cumulative.proofs.JudgedSums.{limits-by_sums, most-few, sum_of-one_more, sums-by_limits}
+use Rattle.roster_cumulative.proofs.JudgedSums.{most-few, sum_of-one_more, sums-by_limits}
 use Rattle.roster_legal.specs.Stepping.{AreBusyDaysOf, AreDutiesOf, AreRoomsOf, IsLoadOf, IsNext, IsPlaced, IsStepped, Stepped}
 use Rattle.roster_legal.proofs.Gathered.{either, is_of, neither, positions_within}
 use Rattle.roster_legal.proofs.Pairwise.{holds_of, pairs-decide}

@@ -3,7 +3,7 @@ use Rattle.std.specs.Prelude.{◌≡◌, ℕ, ◌<◌, ◌≤◌, ◌++◌, ◌�
 use Rattle.std.specs.List.Sorted.{IsStrictlyIncreasing}
 use Rattle.roster_model.specs.declared.limits.TheConstants.{MOST_PAIRINGS}
 use Rattle.roster_model.specs.Problem.{Problem, home_of, year_of, eleven_of}
-use Rattle.roster_model.specs.Rules.{duty_list, is_among, is_listed, IsLegal}
+use Rattle.roster_model.specs.Rules.{duty_list, is_among, is_listed, Holds, IsLegal, rank_of, RecoveryRule, Rule}
 use Rattle.roster_problem.specs.Duties.{AreTimed, IsInOrder, is_of_pairing, passes_at}
 use Rattle.roster_restrules.specs.Busy.{AreBusyDays}
 use Rattle.roster_restrules.specs.Times.{Timed}
@@ -87,3 +87,7 @@ with_next stepped p = record { loads = stepped.loads; set = stepped.set ++ p ∷
 
 abbrev pub IsLegalNext : Stepped → ℕ → Type 0
 IsLegalNext stepped p = IsLegal stepped.loads.problem stepped.loads.person (stepped.set ++ p ∷ [])
+
+-- The rules behind Recovery, which count days or minutes, hold of person k with the set.
+abbrev pub HoldCounted : Problem → ℕ → List ℕ → Type 0
+HoldCounted problem k set = (rule : Rule) → rank_of RecoveryRule < rank_of rule → Holds problem k set rule

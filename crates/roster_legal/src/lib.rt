@@ -6,22 +6,18 @@
 //! in the memory of one list. In reading order:
 //!
 //! - `listing`: the duty list of a person with a set
-//! - `base`, `overlap`, `leave`: a rule each; `roster_restrules` has the rules of rest, and
-//!   `roster_cumulative` the limits
-//! - `rules`: the rules together
+//! - `rules`: the rules together, and a file for what stands here of each; `roster_restrules` has the rules
+//!   of rest, and `roster_cumulative` the limits
 //! - `judging`: sets judged, and many of them in the memory of one list
 //! - `loads`: what a person's rules see of each duty and of each pairing
 //! - `stepping`: sets judged with one pairing more
 //! - `laws`: what follows from the definitions
 #![tactic(auto)]
 
-mod base;
 mod judging;
 mod laws;
-mod leave;
 mod listing;
 mod loads;
-mod overlap;
 mod rules;
 mod stepping;
 

@@ -1,17 +1,29 @@
-//! The rules together.
+//! The rules together, of a list and of a set with one pairing more. A file for each rule has what
+//! `roster_restrules` and `roster_cumulative` don't judge of it.
 
-ghost use Rattle.std.specs.Prelude.{◌≡◌, ◌<◌, ◌↔◌, IsTrue, All, length, option_map};
+ghost use Rattle.std.specs.Prelude.{◌≡◌, ◌<◌, ◌≤◌, ◌↔◌, false, IsTrue, All, length, option_map};
 ghost use Rattle.roster_model.specs.Rules.{duty_list, Holds, IsFirstBroken};
 ghost use Rattle.roster_problem.specs.Duties.{AreTimed, IsInOrder};
 ghost use Rattle.roster_problem.specs.View.{rule_of};
 ghost use Rattle.roster_legal.specs.Looks.{LookAt};
+ghost use Rattle.roster_legal.specs.Stepping.{with_next, AreBusyDaysOf, HoldCounted, IsLegalNext, IsNext};
 
-use crate::base::keeps_base;
-use crate::leave::keeps_leave;
-use crate::overlap::no_overlap;
+mod base;
+mod days_off;
+mod leave;
+mod limits;
+mod overlap;
+mod recovery;
+
+use crate::stepping::JudgedSet;
+use base::keeps_base;
+use days_off::keeps_days_off;
+use leave::keeps_leave;
+use overlap::no_overlap;
+use recovery::keeps_recovery;
 use roster_cumulative::ListLimits;
 use roster_problem::{DutyList, Limit, Problem, Rule, Set};
-use roster_restrules::{days_ok, recovery_ok, rest_ok};
+use roster_restrules::rest_ok;
 
 /// Whether person `k` keeps the rule with the set, whose duty list is `list`.
 fn holds(
@@ -36,14 +48,14 @@ fn holds(
         Rule::Overlap => no_overlap(list),
         Rule::Leave => keeps_leave(problem, k, list),
         Rule::Rest => rest_ok(list, problem.home(k)),
-        Rule::Recovery => recovery_ok(problem.days_of(k), list),
+        Rule::Recovery => keeps_recovery(problem, k, list),
         Rule::Duty7 => limits.holds(Limit::Duty7),
         Rule::Duty14 => limits.holds(Limit::Duty14),
         Rule::Duty28 => limits.holds(Limit::Duty28),
         Rule::Flight28 => limits.holds(Limit::Flight28),
         Rule::FlightYear => limits.holds(Limit::FlightYear),
         Rule::Flight12 => limits.holds(Limit::Flight12),
-        Rule::Days2 => days_ok(problem.days_of(k), list),
+        Rule::Days2 => keeps_days_off(problem, k, list),
     }
 }
 
@@ -68,4 +80,21 @@ pub(crate) fn first_broken_on(
         }
     }
     None
+}
+
+impl<'a> JudgedSet<'a> {
+    /// Whether the rules that count days or minutes, which are those behind Recovery, are kept with the
+    /// pairing at place `p`, which makes the busy days those of the word; of a pair or less that is known.
+    pub(crate) fn keeps_counted_with(&self, p: usize, busy: u32) -> bool
+        requires next { IsNext self.now p }
+        requires busy { AreBusyDaysOf self.now.loads.problem self.now.loads.person
+            (with_next self.now p).set busy }
+        ensures yes { IsTrue result → 2 ≤ length self.now.set
+            → HoldCounted self.now.loads.problem self.now.loads.person (with_next self.now p).set }
+        ensures no { result ≡ false → ¬ IsLegalNext self.now p }
+    {
+        let loads = self.loads;
+        let _ = loads.problem();
+        self.has_days_off_with(p, busy) && self.has_room_for(p)
+    }
 }

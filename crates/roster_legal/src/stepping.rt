@@ -1,19 +1,15 @@
 //! Sets that are judged with one pairing more, out of what is known of them.
 
-ghost use Rattle.std.specs.Prelude.{◌≡◌, ◌<◌, ◌≤◌, ◌-◌, ◌||◌, ℕ, [], true, false, IfOk, IsTrue, MatchOption, length, slice_index};
+ghost use Rattle.std.specs.Prelude.{◌≡◌, ◌<◌, ◌-◌, ◌||◌, ℕ, [], true, false, IfOk, MatchOption, length, slice_index};
 ghost use Rattle.std.specs.List.Sorted.{IsStrictlyIncreasing};
-ghost use Rattle.roster_model.specs.Problem.{home_of, year_of, eleven_of};
 ghost use Rattle.roster_model.specs.Rules.{duty_list, is_among};
-ghost use Rattle.roster_model.specs.Rules.DaysOff.{KeepsDaysOff};
-ghost use Rattle.roster_model.specs.Rules.Recovery.{KeepsRecovery};
-ghost use Rattle.roster_cumulative.specs.Judged.{AreWithin};
-ghost use Rattle.roster_legal.specs.Stepping.{with_next, AreBusyDaysOf, AreDutiesOf, AreRoomsOf, IsLegalNext, IsNext};
+ghost use Rattle.roster_legal.specs.Stepping.{with_next, AreDutiesOf, AreRoomsOf, IsLegalNext, IsNext};
 
 use crate::listing::merge;
 use crate::loads::Loads;
-use roster_cumulative::{have_room, rooms_of, take_room};
+use roster_cumulative::{rooms_of, take_room};
 use roster_problem::{DutyList, Problem, Set};
-use roster_restrules::{busy_days, has_days_off};
+use roster_restrules::busy_days;
 use std::alloc::{AllocError, Global};
 use std::marker::Model;
 
@@ -56,12 +52,12 @@ impl Spare {
 /// month that they make busy, as the bits of a word. Contracts see the set, and what stands behind it.
 #[derive(Debug, Drop)]
 pub struct JudgedSet<'a> {
-    loads: &'a Loads<'a>,
+    pub(crate) loads: &'a Loads<'a>,
     set: Set,
-    depth: u32,
+    pub(crate) depth: u32,
     busy: u32,
     positions: Vec<u16>,
-    rooms: Vec<u16>,
+    pub(crate) rooms: Vec<u16>,
 }
 
 impl<'a> Model for JudgedSet<'a> {
@@ -95,8 +91,8 @@ impl<'a> JudgedSet<'a> {
     }
 
     /// The set with the pairing at place `p` behind, if that is legal. The rules that speak of one duty
-    /// or of two are known, since each two pairings are legal together; so it judges no more than
-    /// Recovery, the limits and the days off, and these of three pairings or more.
+    /// or of two are known, since each two pairings are legal together; so it judges no more than what
+    /// counts days or minutes, and Recovery, and these of three pairings or more.
     pub fn with(&self, p: usize, spare: &mut Spare) -> Result<Option<JudgedSet<'a>>, AllocError>
         requires { IsNext self.now p }
         ensures { IfOk result (λ judged. MatchOption judged (¬ IsLegalNext self.now p)
@@ -104,10 +100,7 @@ impl<'a> JudgedSet<'a> {
     {
         let loads = self.loads;
         let busy = self.busy | loads.busy(p);
-        if !self.has_days_off_with(p, busy) {
-            return Ok(None);
-        }
-        if !self.has_room_for(p) {
+        if !self.keeps_counted_with(p, busy) {
             return Ok(None);
         }
         let more = loads.problem().duties_of(p);
@@ -127,54 +120,6 @@ impl<'a> JudgedSet<'a> {
             positions,
             rooms,
         }))
-    }
-
-    /// Whether the limits are kept with the pairing at place `p`; of a pair or less that is known.
-    fn has_room_for(&self, p: usize) -> bool
-        requires { IsNext self.now p }
-        ensures yes { let problem = self.now.loads.problem in let k = self.now.loads.person in
-            IsTrue result → 2 ≤ length self.now.set
-            → AreWithin (home_of problem k).days
-            (duty_list problem k (with_next self.now p).set) (year_of problem k) (eleven_of problem k) }
-        ensures no { result ≡ false → ¬ IsLegalNext self.now p }
-    {
-        let loads = self.loads;
-        let _ = loads.problem();
-        self.depth < 2 || have_room(&self.rooms, loads.load(p))
-    }
-
-    /// Whether there are days off twice in the month with the pairing at place `p`, which makes the busy
-    /// days those of the word; of a pair or less that is known.
-    fn has_days_off_with(&self, p: usize, busy: u32) -> bool
-        requires next { IsNext self.now p }
-        requires busy { AreBusyDaysOf self.now.loads.problem self.now.loads.person
-            (with_next self.now p).set busy }
-        ensures yes { let problem = self.now.loads.problem in let k = self.now.loads.person in
-            IsTrue result → 2 ≤ length self.now.set
-            → KeepsDaysOff (home_of problem k).days
-            (duty_list problem k (with_next self.now p).set) }
-        ensures no { result ≡ false → ¬ IsLegalNext self.now p }
-    {
-        let loads = self.loads;
-        let problem = loads.problem();
-        self.depth < 2 || has_days_off(problem.days_of(loads.person()), busy)
-    }
-
-    /// Whether recurrent rests follow one another soon enough with the pairing at place `p`, which makes
-    /// the duties those at the positions; of a pair or less that is known.
-    fn keeps_recovery_with(&self, p: usize, positions: &[u16]) -> bool
-        requires next { IsNext self.now p }
-        requires positions { AreDutiesOf self.now.loads.problem self.now.loads.person
-            (with_next self.now p).set positions.now }
-        ensures yes { let problem = self.now.loads.problem in let k = self.now.loads.person in
-            IsTrue result → 2 ≤ length self.now.set
-            → KeepsRecovery (home_of problem k).days
-            (duty_list problem k (with_next self.now p).set) }
-        ensures no { result ≡ false → ¬ IsLegalNext self.now p }
-    {
-        let loads = self.loads;
-        let _ = loads.problem();
-        self.depth < 2 || loads.keep_recovery(positions)
     }
 
     /// Keeps its memory for others.

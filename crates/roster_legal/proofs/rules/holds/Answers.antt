@@ -1,28 +1,15 @@
 use Rattle.std.proofs.Common.{List, subst}
 use Rattle.std.specs.Prelude.{◌↔◌, IsTrue}
-use Rattle.roster_model.specs.Calendar.{Days}
 use Rattle.roster_model.specs.Problem.{leaves_of}
 use Rattle.roster_model.specs.records.Duty.{Duty}
-use Rattle.roster_model.specs.Rules.{duty_list, Duty7, Duty14, Duty28, Flight28, FlightYear, Flight12}
+use Rattle.roster_model.specs.Rules.{Duty7, Duty14, Duty28, Flight28, FlightYear, Flight12}
 use Rattle.roster_model.specs.Rules.Leave.{KeepsLeave}
-use Rattle.roster_model.specs.Rules.Recovery.{KeepsRecovery}
-use Rattle.roster_model.specs.Rules.DaysOff.{KeepsDaysOff}
 use Rattle.roster_legal.proofs.FirstBroken.{holds-limit}
 use Rattle.roster_legal.proofs.rules.holds.Goals as goal
 
 pub returns-in-Leave-clause-value : goal.returns-in-Leave-clause-value
 returns-in-Leave-clause-value c =
     rw c.in-Leave.is (subst (λ (list : List Duty). IsTrue c.keeps_leave.result ↔ KeepsLeave (leaves_of c.args.problem.now c.args.k) list) c.requires.list c.keeps_leave.ensures)
-
-pub returns-in-Recovery-clause-value : goal.returns-in-Recovery-clause-value
-returns-in-Recovery-clause-value c =
-    rw c.in-Recovery.is (subst (λ (days : Days). IsTrue c.recovery_ok.result ↔ KeepsRecovery days (duty_list c.args.problem.now c.args.k c.args.set.now)) c.days_of.ensures
-    (subst (λ (list : List Duty). IsTrue c.recovery_ok.result ↔ KeepsRecovery c.days_of.result.now list) c.requires.list c.recovery_ok.ensures))
-
-pub returns-in-Days2-clause-value : goal.returns-in-Days2-clause-value
-returns-in-Days2-clause-value c =
-    rw c.in-Days2.is (subst (λ (days : Days). IsTrue c.days_ok.result ↔ KeepsDaysOff days (duty_list c.args.problem.now c.args.k c.args.set.now)) c.days_of-in-Days2.ensures
-    (subst (λ (list : List Duty). IsTrue c.days_ok.result ↔ KeepsDaysOff c.days_of-in-Days2.result.now list) c.requires.list c.days_ok.ensures))
 
 pub returns-in-Duty7-clause-value : goal.returns-in-Duty7-clause-value
 returns-in-Duty7-clause-value c =

@@ -1,13 +1,12 @@
 use Rattle.std.proofs.Common.{◌≡◌, ℕ, ◌+◌, ◌-◌, ◌<◌, ◌≤◌, true, false, [], ◌∷◌, ◌++◌, List, length, ap, subst, sym, ◌∙◌, arith, bit_or}
 use Rattle.std.specs.Prelude.{All, slice_index}
-use Rattle.roster_model.specs.Problem.{Problem, home_of, year_of, eleven_of}
-use Rattle.roster_model.specs.Rules.{duty_list, is_among, RecoveryRule, LimitRule, DaysOffRule}
-use Rattle.roster_cumulative.proofs.JudgedSums.{limits-by_sums}
+use Rattle.roster_model.specs.Problem.{Problem}
+use Rattle.roster_model.specs.Rules.{is_among, RecoveryRule}
 use Rattle.roster_model.proofs.SetLemmas.{length_within}
 use Rattle.roster_legal.specs.Stepping.{AreDutiesOf, IsLoadOf, IsPlaced, IsStepped, Loaded, Stepped}
 use Rattle.roster_legal.proofs.BusyDays.{busy-stepped}
 use Rattle.roster_legal.proofs.Gathered.{is_of}
-use Rattle.roster_legal.proofs.Stepped.{before, HoldLater, duties_apart, duties_with, new_behind, stepped-next}
+use Rattle.roster_legal.proofs.Stepped.{HoldLater, duties_apart, duties_with, new_behind, stepped-next}
 use Rattle.roster_legal.proofs.stepping.JudgedSet.with.Goals as goal
 
 pub joined-requires-clause-apart : goal.joined-requires-clause-apart
@@ -23,8 +22,8 @@ joined-requires-clause-apart c =
     let apart = duties_apart problem judged.loads.person p judged.set c.self.inside.positions.items more known.duties (new_behind p judged.set c.requires.behind) members in
     subst (λ xs. (i : ℕ) → is_among xs i ≡ true → is_among more i ≡ false) (sym c.deref.ensures.value) apart
 
-pub has_days_off_with-requires-clause-busy : goal.has_days_off_with-requires-clause-busy
-has_days_off_with-requires-clause-busy c =
+pub keeps_counted_with-requires-clause-busy : goal.keeps_counted_with-requires-clause-busy
+keeps_counted_with-requires-clause-busy c =
     let judged = c.args.self.now in
     let same = ap (λ (j : Stepped). j.loads) c.self.view_is in
     let known = subst (λ (j : Stepped). IsStepped j.loads j.set c.self.inside.depth c.self.inside.positions.items c.self.inside.rooms.items c.self.inside.busy) c.self.view_is c.self.invariant in
@@ -59,15 +58,7 @@ overflow_add-result c =
 -- the rules from Recovery on hold of the longer set, if it has three pairings or more
 later : (c : goal.After-put) → 2 ≤ length c.args.self.now.set → HoldLater c.args.self.now.loads.problem c.args.self.now.loads.person (c.args.self.now.set ++ c.args.p ∷ [])
 later c many RecoveryRule late = c.keeps_recovery_with.ensures.yes c.if-not-keeps_recovery_with.false many
-later c many (LimitRule limit) late =
-    let judged = c.args.self.now in
-    let same = ap (λ (j : Stepped). j.loads) c.self.view_is in
-    let placed = subst IsPlaced same c.problem.ensures.placed in
-    let known = subst (λ (j : Stepped). IsStepped j.loads j.set c.self.inside.depth c.self.inside.positions.items c.self.inside.rooms.items c.self.inside.busy) c.self.view_is c.self.invariant in
-    let few = before judged c.args.p placed.ordered placed.timed known.legal c.requires in
-    limits-by_sums (home_of judged.loads.problem judged.loads.person).days (duty_list judged.loads.problem judged.loads.person (judged.set ++ c.args.p ∷ [])) (year_of judged.loads.problem judged.loads.person) (eleven_of judged.loads.problem judged.loads.person) few.0 few.1 (c.has_room_for.ensures.yes c.if-not-has_room_for.false many) limit
-later c many DaysOffRule late = c.has_days_off_with.ensures.yes c.if-not-has_days_off_with.false many
-later c many rule late = absurd (omega arith)
+later c many rule late = c.keeps_counted_with.ensures.yes c.if-not-keeps_counted_with.false many rule (omega arith)
 
 -- what is known of the longer set,
 longer : (c : goal.After-put) → IsStepped c.args.self.now.loads (c.args.self.now.set ++ c.args.p ∷ []) (c.self.inside.depth + 1) c.in_ok-positions.positions.items c.in_ok-rooms.rooms.items (bit_or c.self.inside.busy c.busy.result)

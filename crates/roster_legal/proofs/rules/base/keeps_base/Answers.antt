@@ -5,7 +5,7 @@ use Rattle.std.proofs.lemmas.Option.{same_Some}
 use Rattle.roster_model.specs.records.Crew.{Person}
 use Rattle.roster_model.specs.records.Pairing.{Pairing}
 use Rattle.roster_model.proofs.SetLemmas.{All-is_among, is_among-from_Contains, Contains-from_is_among}
-use Rattle.roster_legal.proofs.base.keeps_base.Goals as goal
+use Rattle.roster_legal.proofs.rules.base.keeps_base.Goals as goal
 
 pub pairing-requires : goal.pairing-requires
 pairing-requires c = All-is_among (λ p. p < length c.args.problem.now.pairings) c.args.set.now c.in-Some.p c.requires.places c.in-Some.ensures.place.2

@@ -5,7 +5,7 @@ use Rattle.std.proofs.lemmas.List.Elements.{All-more}
 use Rattle.std.proofs.lemmas.Option.{get_or_from_slice_get}
 use Rattle.roster_model.specs.Problem.{leaves_of}
 use Rattle.roster_model.specs.Rules.Leave.{IsOffLeave, KeepsLeave}
-use Rattle.roster_legal.proofs.leave.keeps_leave.Goals as goal
+use Rattle.roster_legal.proofs.rules.leave.keeps_leave.Goals as goal
 
 pub returns-then-not-is_off_leave : goal.returns-then-not-is_off_leave
 returns-then-not-is_off_leave c = (

@@ -3,7 +3,7 @@ use Rattle.std.specs.Prelude.{slice_get}
 use Rattle.roster_model.specs.declared.limits.TheConstants.{MOST_PAIRINGS}
 use Rattle.roster_model.specs.records.Pairing.{Pairing}
 use Rattle.roster_model.specs.Rules.{is_among}
-use Rattle.roster_legal.proofs.base.keeps_base.Given as goal
+use Rattle.roster_legal.proofs.rules.base.keeps_base.Given as goal
 
 -- the pairings so far have the base
 abbrev pub invariant-loop-p : goal.invariant-loop-p

@@ -7,7 +7,7 @@ use Rattle.std.proofs.lemmas.Option.{same_Some}
 use Rattle.roster_model.specs.Calendar.{common}
 use Rattle.roster_model.specs.records.Leave.{Leave}
 use Rattle.roster_legal.proofs.OffLeave.{HoldsAt, All-picked, All-at_picked, leave_at}
-use Rattle.roster_legal.proofs.leave.is_off_leave.Goals as goal
+use Rattle.roster_legal.proofs.rules.leave.is_off_leave.Goals as goal
 
 pub returns-then-not-is_apart : goal.returns-then-not-is_apart
 returns-then-not-is_apart c = (

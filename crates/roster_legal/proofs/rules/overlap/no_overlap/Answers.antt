@@ -3,7 +3,7 @@ use Rattle.std.specs.Prelude.{slice_get}
 use Rattle.std.proofs.lemmas.Bool.{false≢true, both_ways}
 use Rattle.std.proofs.lemmas.Option.{slice_get_within}
 use Rattle.roster_legal.proofs.Apart.{in_turn_at, no_overlap_in_turn}
-use Rattle.roster_legal.proofs.overlap.no_overlap.Goals as goal
+use Rattle.roster_legal.proofs.rules.overlap.no_overlap.Goals as goal
 
 pub returns-then-not-ends_before : goal.returns-then-not-ends_before
 returns-then-not-ends_before c = (

@@ -1,7 +1,7 @@
 use Rattle.std.proofs.Common.{◌≡◌, ℕ, ◌+◌, ◌<◌, ◌≤◌, Some}
 use Rattle.std.specs.Prelude.{slice_get}
 use Rattle.roster_model.specs.records.Duty.{Duty}
-use Rattle.roster_legal.proofs.overlap.no_overlap.Given as goal
+use Rattle.roster_legal.proofs.rules.overlap.no_overlap.Given as goal
 
 -- of the neighbours so far one ends before the next begins
 abbrev pub invariant-loop-i : goal.invariant-loop-i
