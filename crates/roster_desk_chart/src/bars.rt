@@ -24,14 +24,11 @@ fn flight_of(duty: &Duty) -> u64 {
     minutes
 }
 
-/// Whether the reason speaks of the duty at the place of the list.
+/// Whether the reason, if there is one, speaks of the duty at the place of the list.
 fn is_told(reason: Option<Reason>, i: usize) -> bool {
     match reason {
-        Some(Reason::Overlap(shared)) => i == shared.first || i == shared.second,
-        Some(Reason::Leave(told)) => i == told.duty,
-        Some(Reason::Rest(short)) => i == short.before || i == short.before.saturating_add(1),
-        Some(Reason::Recovery(block)) => block.first <= i && i <= block.last,
-        _ => false,
+        Some(reason) => reason.touches(i),
+        None => false,
     }
 }
 
