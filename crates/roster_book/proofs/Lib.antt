@@ -6,9 +6,6 @@ pub mod Tables
 pub mod Drafts
 pub mod Conditions
 pub mod Soundness
-pub mod SoundTables
-pub mod SoundDuties
-pub mod SoundCosts
 pub mod Sound
 pub mod Numbers
 pub mod Periods

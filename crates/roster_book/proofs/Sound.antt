@@ -1,4 +1,7 @@
 -- The contents of records without a fault are sound: each kind of record keeps them so.
+pub mod Tables
+pub mod Duties
+pub mod Costs
 use Rattle.std.proofs.Common.{◌≡◌, ℕ, ◌+◌, ◌<◌, ◌≤◌, Bool, true, false, cond, not, ◌&&◌, List, [], ◌∷◌, ◌++◌, length, Option, Some, None, refl, sym, ◌∙◌, subst, append-nil, arith}
 use Rattle.std.specs.List.{list_any}
 use Rattle.std.proofs.Props.{props}
@@ -23,9 +26,9 @@ use Rattle.roster_book.specs.Flown.{sector_count}
 use Rattle.roster_book.proofs.Drafts.{kind_is, code_of-later, code_of-unknown}
 use Rattle.roster_book.proofs.Conditions.{is_met}
 use Rattle.roster_book.proofs.Soundness.{AreAssigned, AreSound, IsTaken, few_assigned, one_more, sound-none, weight_once}
-use Rattle.roster_book.proofs.SoundTables.{sound-base, sound-person, sound-pairing}
-use Rattle.roster_book.proofs.SoundDuties.{sound-duty, sound-leave, sound-sector}
-use Rattle.roster_book.proofs.SoundCosts.{sound-weight, sound-cost, sound-assign, sound-step}
+use Rattle.roster_book.proofs.Sound.Tables.{sound-base, sound-person, sound-pairing}
+use Rattle.roster_book.proofs.Sound.Duties.{sound-duty, sound-leave, sound-sector}
+use Rattle.roster_book.proofs.Sound.Costs.{sound-weight, sound-cost, sound-assign, sound-step}
 use Rattle.roster_book.proofs.Tables.{grown, is_same, no_assign, no_sector, no_step, entries_of-append, tables_in-first, tables_in-append, contents_with}
 
 -- ---- the records of a draft

@@ -19,7 +19,7 @@ use Rattle.roster_problem.specs.Sound.{IsSound, IsHolder}
 use Rattle.roster_book.specs.Draft.{Contents}
 use Rattle.roster_book.specs.Flown.{sector_count}
 use Rattle.roster_book.proofs.SectorTable.{sector_count_none}
-use Rattle.roster_book.proofs.Tables.{contents_with, grown, is_same, tables_of_period}
+use Rattle.roster_book.proofs.Tables.{contents_with, entries, grown, is_same, tables_of_period, weight_count}
 
 -- ---- what one more entry keeps
 
@@ -89,18 +89,9 @@ few_assigned pairings persons assigns are =
 
 -- ---- the contents
 
--- how many records gave a weight
-abbrev pub weight_count : Option ℕ → ℕ
-weight_count None = 0
-weight_count (Some weight) = 1
-
 pub weight_once : (given : Option ℕ) → weight_count given ≤ 1
 weight_once None = omega arith
 weight_once (Some weight) = omega arith
-
--- how many entries the tables have
-abbrev pub entries : Problem → ℕ
-entries t = weight_count t.weight + length t.bases + length t.persons + length t.pairings + length t.duties + length t.leaves + length t.costs
 
 -- The contents of so many records, of which so many are sectors, are sound.
 pub record AreSound (count sectors : ℕ) (contents : Contents) : Type 0 where
@@ -114,24 +105,7 @@ pub record AreSound (count sectors : ℕ) (contents : Contents) : Type 0 where
 pub sound-none : {period : Period} → AreSound 1 0 (record { tables = tables_of_period period; assigns = []; steps = [] })
 unfolding IsDistinct
 sound-none = record {
-  sound = record {
-    bases = omega arith;
-    persons = omega arith;
-    pairings = omega arith;
-    duties = omega arith;
-    leaves = omega arith;
-    costs = omega arith;
-    weight = omega arith;
-    targets = All-nil _;
-    penalties = All-nil _;
-    units = All-nil _;
-    homes = All-nil _;
-    starts = All-nil _;
-    holders = All-nil _;
-    absences = All-nil _;
-    cost_persons = All-nil _;
-    cost_pairings = All-nil _;
-  };
+  sound = search (arith, All-nil);
   room = omega arith;
   sectors_are = sector_count_none;
   assigned = record { named = All-nil _; assignees = All-nil _; once = tt };

@@ -1,5 +1,5 @@
 -- One more record adds at most one entry to one table, and changes no entry before it.
-use Rattle.std.proofs.Common.{◌≡◌, ℕ, ◌<◌, Bool, true, false, cond, List, [], ◌∷◌, ◌++◌, length, Option, Some, None, refl, ◌∙◌, ap, append-nil, arith}
+use Rattle.std.proofs.Common.{◌≡◌, ℕ, ◌+◌, ◌<◌, Bool, true, false, cond, List, [], ◌∷◌, ◌++◌, length, Option, Some, None, refl, ◌∙◌, ap, append-nil, arith}
 use Rattle.std.specs.Prelude.{slice_get}
 use Rattle.std.specs.List.{cons_option}
 use Rattle.std.specs.Option.{option_or}
@@ -155,3 +155,12 @@ no_assign fields h = rw (is_of-other PeriodRecord AssignRecord fields h) refl
 pub no_step : (fields : Record) → is_of PeriodRecord fields ≡ true → steps_in (fields ∷ []) ≡ []
 unfolding gather_after
 no_step fields h = rw (is_of-other PeriodRecord StepRecord fields h) refl
+
+-- how many records gave a weight
+abbrev pub weight_count : Option ℕ → ℕ
+weight_count None = 0
+weight_count (Some weight) = 1
+
+-- how many entries the tables have
+abbrev pub entries : Problem → ℕ
+entries t = weight_count t.weight + length t.bases + length t.persons + length t.pairings + length t.duties + length t.leaves + length t.costs

@@ -4,8 +4,8 @@ use Rattle.roster_book.specs.declared.code.Code.{Code}
 use Rattle.roster_book.specs.declared.code.Code.TheVariants as codes
 use Rattle.roster_book.specs.declared.fault.BookFault.{BookFault}
 use Rattle.roster_book.specs.declared.fault.BookFault.TheVariants as faults
-use Rattle.roster_book.specs.declared.kind.Kind.{Kind}
-use Rattle.roster_book.specs.declared.kind.Kind.TheVariants as kinds
+use Rattle.roster_book.specs.declared.record.Kind.{Kind}
+use Rattle.roster_book.specs.declared.record.Kind.TheVariants as kinds
 use Rattle.roster_book.specs.declared.record.step.Move.{Move}
 use Rattle.roster_book.specs.declared.record.step.Move.TheVariants as moves
 use Rattle.roster_book.specs.declared.refusal.Refusal.{Refusal}

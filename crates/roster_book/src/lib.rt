@@ -7,9 +7,9 @@
 //! - `code`: what may be wrong with a record
 //! - `refusal`: why a record isn't taken
 //! - `forms`: the forms of a record's fields
-//! - `kind`: what a record is about
 //! - `named`: the entries of tables by their names
-//! - `record`: a file a kind: what its records add, and what may be wrong with them
+//! - `record`: the kinds of records, and a file for each: what its records add, and what may be wrong with
+//!   them
 //! - `duties`: the duties of the records taken so far, with their sectors
 //! - `draft`: what is kept of the records taken so far
 //! - `book`: the book that was read
@@ -23,7 +23,6 @@ mod draft;
 mod duties;
 mod fault;
 mod forms;
-mod kind;
 mod named;
 mod reading;
 mod record;

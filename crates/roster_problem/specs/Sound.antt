@@ -1,8 +1,27 @@
--- What the tables of records without a fault keep, as far as code counts on it.
+-- The tables of a problem as the definitions see them, and what those of records without a fault keep, as
+-- far as code counts on it.
 use Rattle.std.specs.Prelude.{ℕ, ◌<◌, ◌≤◌, length, unsigned_abs, All}
 use Rattle.roster_model.specs.declared.limits.TheConstants.{MOST_BASES, MOST_PERSONS, MOST_PAIRINGS, MOST_DUTIES, MOST_LEAVES, MOST_COSTS, MOST_MINUTES, MOST_PENALTY, MOST_UNITS, MOST_WEIGHT}
-use Rattle.roster_model.specs.Problem.{Problem, weight_of}
+use Rattle.roster_model.specs.Problem.{Problem, in_order, weight_of}
 use Rattle.roster_model.specs.records.Duty.{Holder, OfPairing, OfPerson}
+use Rattle.roster_problem.specs.declared.tables.BookTables.{BookTables}
+
+-- the tables, without where they lie in memory
+abbrev pub tables_of : BookTables → Problem
+tables_of t = record {
+  period = t.period;
+  weight = t.weight;
+  bases = t.bases.items;
+  persons = t.persons.items;
+  pairings = t.pairings.items;
+  duties = t.duties.items;
+  leaves = t.leaves.items;
+  costs = t.costs;
+}
+
+-- the same with the duties in their order in time
+abbrev pub ordered : BookTables → Problem
+ordered t = record (tables_of t) { duties = in_order t.duties.items }
 
 -- the holder is among so many pairings or persons
 abbrev pub IsHolder : ℕ → ℕ → Holder → Type 0

@@ -9,10 +9,8 @@ use Rattle.roster_problem.specs.declared.rule.Rule.{Rule}
 use Rattle.roster_problem.specs.declared.rule.Rule.TheVariants as rules
 use Rattle.roster_problem.specs.declared.step.Step.{Step}
 use Rattle.roster_problem.specs.declared.step.Step.TheVariants as steps
-use Rattle.roster_problem.specs.declared.tables.BookTables.{BookTables}
 use Rattle.roster_model.specs.Rules as judged
 use Rattle.roster_model.specs.Record as asked
-use Rattle.roster_model.specs.Problem.{Problem, in_order}
 use Rattle.roster_model.specs.records.Duty as model
 use Rattle.roster_model.specs.records.Step as replayed
 
@@ -53,20 +51,3 @@ step_of (steps.Halve worker) = replayed.Halve worker
 step_of (steps.Descend worker) = replayed.Descend worker
 step_of (steps.Back worker) = replayed.Back worker
 step_of (steps.Search worker every) = replayed.Search worker every
-
--- the tables, without where they lie in memory
-abbrev pub tables_of : BookTables → Problem
-tables_of t = record {
-  period = t.period;
-  weight = t.weight;
-  bases = t.bases.items;
-  persons = t.persons.items;
-  pairings = t.pairings.items;
-  duties = t.duties.items;
-  leaves = t.leaves.items;
-  costs = t.costs;
-}
-
--- the same with the duties in their order in time
-abbrev pub ordered : BookTables → Problem
-ordered t = record (tables_of t) { duties = in_order t.duties.items }

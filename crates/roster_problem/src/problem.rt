@@ -4,7 +4,6 @@ ghost use Rattle.std.specs.Prelude.{◌≡◌, ◌<◌, ◌≤◌, IfOk, Some, l
 ghost use Rattle.roster_model.specs.declared.limits.TheConstants.{MOST_UNITS, MOST_WEIGHT};
 ghost use Rattle.roster_model.specs.Faults.{IsFaultless};
 ghost use Rattle.roster_model.specs.Problem.{home_of, units_of, weight_of};
-ghost use Rattle.roster_model.specs.records.Leave.{is_leave_of};
 ghost use Rattle.roster_problem.specs.Duties.{AreFlown, ArePositionsOf, AreTimed, IsInOrder, is_of_pairing, is_of_person};
 ghost use Rattle.roster_problem.specs.Sound.{IsSound};
 
@@ -27,10 +26,10 @@ use std::marker::Model;
 #[derive(Debug, Drop)]
 pub struct Problem {
     // Duties are in their order in time.
-    tables: BookTables,
+    pub(crate) tables: BookTables,
     by_pairing: Lists,
     by_person: Lists,
-    on_leave: Lists,
+    pub(crate) on_leave: Lists,
 }
 
 impl Model for Problem {
@@ -39,7 +38,7 @@ impl Model for Problem {
     ghost Value = { model.Problem };
 
     ghost use Rattle.roster_problem.specs.Duties.{IsKept};
-    ghost use Rattle.roster_problem.specs.View.{tables_of};
+    ghost use Rattle.roster_problem.specs.Sound.{tables_of};
 
     ghost view = { λ p. tables_of p.tables };
 
@@ -47,7 +46,7 @@ impl Model for Problem {
 }
 
 impl Problem {
-    ghost use Rattle.roster_problem.specs.View.{ordered};
+    ghost use Rattle.roster_problem.specs.Sound.{ordered};
 
     /// The problem of a book without a fault. Duties are put into their order in time.
     pub fn new(alloc: Global, mut tables: BookTables) -> Result<Problem, AllocError>
@@ -135,14 +134,6 @@ impl Problem {
         self.tables.duties.as_slice()
     }
 
-    /// All leaves, in book order.
-    pub fn leaves(&self) -> &[Leave]
-        ensures value { result.now ≡ self.now.leaves }
-        ensures sound { IsSound self.now }
-    {
-        self.tables.leaves.as_slice()
-    }
-
     /// The positions in `duties` of the duties of the pairing at place `p`, in ascending order. It
     /// looks at no other duty.
     pub fn duties_of(&self, p: usize) -> &[u16]
@@ -161,15 +152,6 @@ impl Problem {
         ensures bound { length result.now ≤ MOST_DUTIES }
     {
         self.by_person.list(k)
-    }
-
-    /// The positions in `leaves` of the leaves of the person at place `k`, in ascending order. It
-    /// looks at no other leave.
-    pub fn leave(&self, k: usize) -> &[u16]
-        requires { k < length self.now.persons }
-        ensures { ArePositionsOf (is_leave_of k) self.now.leaves result.now }
-    {
-        self.on_leave.list(k)
     }
 
     /// The person at place `k`.

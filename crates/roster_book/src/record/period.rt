@@ -13,7 +13,7 @@ ghost use Rattle.roster_book.specs.View as view;
 
 use crate::code::Code;
 use crate::forms::field;
-use crate::kind::is_period;
+use crate::record::is_period;
 use csv::ByteRecord;
 use roster_instants::Period;
 use roster_problem::Command;

@@ -1,4 +1,4 @@
-use Rattle.std.proofs.Common.{◌≡◌, ℕ, ◌+◌, ◌*◌, ◌/◌, ◌%◌, ◌≤◌, arith}
+use Rattle.std.proofs.Common.{ℕ, ◌+◌, ◌*◌, ◌/◌, ◌%◌, arith}
 use Rattle.roster_problem.proofs.Words.{first_from_before, first_in_words, no_bit_in_word, no_bit_past}
 use Rattle.roster_problem.proofs.set.first_bit.Goals as goal
 

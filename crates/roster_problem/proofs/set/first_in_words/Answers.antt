@@ -1,4 +1,4 @@
-use Rattle.std.proofs.Common.{◌≡◌, ◌*◌, inl, inr, arith}
+use Rattle.std.proofs.Common.{◌*◌, inl, inr, arith}
 use Rattle.std.proofs.lemmas.Bool.{cases_lt}
 use Rattle.roster_problem.specs.declared.set.TheConstants.{SET_WORDS}
 use Rattle.roster_problem.proofs.Words.{first_in_words, no_bit_in_word, no_bit_past}

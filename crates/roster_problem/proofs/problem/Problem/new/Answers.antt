@@ -7,7 +7,7 @@ use Rattle.roster_model.specs.records.Duty.{Duty}
 use Rattle.roster_model.specs.records.Leave.{Leave, is_leave_of}
 use Rattle.roster_problem.specs.Duties.{AreFlown, AreTimed, IsInOrder, IsIndex, is_at, is_of_pairing, is_of_person}
 use Rattle.roster_problem.specs.Sound.{IsHolder, IsSound}
-use Rattle.roster_problem.specs.View.{tables_of}
+use Rattle.roster_problem.specs.Sound.{tables_of}
 use Rattle.roster_problem.proofs.Indexes.{pairing_there, person_there, leave_there}
 use Rattle.roster_problem.proofs.OrderLaw.{AllPairs-in_order}
 use Rattle.roster_problem.proofs.problem.Problem.new.Goals as goal

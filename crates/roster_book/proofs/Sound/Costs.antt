@@ -23,7 +23,8 @@ use Rattle.roster_model.specs.records.Pairing.{pairings_in, pairing_place}
 use Rattle.roster_model.specs.records.Cost.{costs_in, cost_of}
 use Rattle.roster_model.specs.records.Assign.{Assign, assign_of, assigns_in, is_assign_of, is_assigned}
 use Rattle.roster_book.proofs.Conditions.{IsMet, amount-below, below, is_met, none_given, place-below, place-within, units-below}
-use Rattle.roster_book.proofs.Soundness.{KeepsSound, has_room, one_more, paired, sound-more, weight_count}
+use Rattle.roster_book.proofs.Soundness.{KeepsSound, has_room, one_more, paired, sound-more}
+use Rattle.roster_book.proofs.Tables.{weight_count}
 use Rattle.roster_book.proofs.Tests.{both_of}
 
 -- ---- the weight
