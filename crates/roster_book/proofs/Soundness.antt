@@ -15,11 +15,11 @@ use Rattle.roster_model.specs.records.Assign.{Assign, assigns_in}
 use Rattle.roster_model.specs.records.Duty.{Duty, Holder, OfPairing, OfPerson}
 use Rattle.roster_model.specs.records.Sector.{sector_of, sectors_in}
 use Rattle.roster_model.specs.records.Step.{steps_in}
-use Rattle.roster_problem.specs.Sound.{IsSound, IsHolder}
+use Rattle.roster_problem.specs.Sound.{IsSound, IsHolder, tables_of_period}
 use Rattle.roster_book.specs.Draft.{Contents}
 use Rattle.roster_book.specs.Flown.{sector_count}
 use Rattle.roster_book.proofs.SectorTable.{sector_count_none}
-use Rattle.roster_book.proofs.Tables.{contents_with, entries, grown, is_same, tables_of_period, weight_count}
+use Rattle.roster_book.proofs.Tables.{contents_with, entries, grown, is_same, weight_count}
 
 -- ---- what one more entry keeps
 

@@ -6,7 +6,6 @@ use Rattle.std.specs.Option.{option_or}
 use Rattle.std.specs.Str.{bytes_eq}
 use Rattle.std.proofs.lemmas.Slice.Eq.{bytes_eq-Decides}
 use Rattle.roster_model.specs.Record.{Record, Kind, PeriodRecord, WeightRecord, BaseRecord, CrewRecord, PairingRecord, DutyRecord, SectorRecord, LeaveRecord, CostRecord, AssignRecord, StepRecord, field, word_of, is_of, entry_of, gather_after, entries_of}
-use Rattle.roster_model.specs.Calendar.{Period}
 use Rattle.roster_model.specs.Problem.{Problem, tables_in}
 use Rattle.roster_model.specs.records.Period.{period_in}
 use Rattle.roster_model.specs.records.Weight.{weight_in, weight_of, weights_in}
@@ -19,6 +18,7 @@ use Rattle.roster_model.specs.records.Cost.{cost_of}
 use Rattle.roster_model.specs.records.Assign.{assign_of, assigns_in}
 use Rattle.roster_model.specs.records.Step.{step_of, steps_in}
 use Rattle.roster_model.specs.records.Sector.{GivenSector, flown, flown_from, sector_of, sectors_in}
+use Rattle.roster_problem.specs.Sound.{tables_of_period}
 use Rattle.roster_book.specs.Draft.{Contents}
 use Rattle.roster_book.specs.Flown.{with_sector_at}
 use Rattle.roster_book.proofs.Gather.{gather_after-append}
@@ -132,10 +132,6 @@ pub tables_in-append : (kind : Kind) (before : List Record) (fields : Record) �
 tables_in-append kind before fields begun h =
     tables_in-grown kind before fields h
     ∙ ap (λ month. record (tables_with kind before fields (tables_in before)) { period = month }) (period_in-append before fields begun)
-
--- the tables of a period alone
-abbrev pub tables_of_period : Period → Problem
-tables_of_period period = record { period = period; weight = None; bases = []; persons = []; pairings = []; duties = []; leaves = []; costs = [] }
 
 pub tables_in-first : (fields : Record) → is_of PeriodRecord fields ≡ true → tables_in (fields ∷ []) ≡ tables_of_period (period_in (fields ∷ []))
 unfolding gather_after flown_from

@@ -16,21 +16,13 @@ use Rattle.roster_book.specs.declared.refusal.Refusal.{Refusal}
 use Rattle.roster_book.specs.declared.refusal.Refusal.TheVariants as refusals
 use Rattle.roster_book.specs.View as view
 use Rattle.roster_book.specs.View.{Refuses}
+use Rattle.roster_problem.specs.Sound.{tables_of}
 use Rattle.roster_problem.specs.View.{step_of}
 use Rattle.roster_problem.specs.declared.step.Step.{Step}
 
--- the tables, without where they lie in memory
+-- the tables, with the duties that are kept apart
 abbrev pub tables_of_draft : Draft → Problem
-tables_of_draft d = record {
-  period = d.period;
-  weight = d.weight;
-  bases = d.bases.items;
-  persons = d.persons.items;
-  pairings = d.pairings.items;
-  duties = d.duties;
-  leaves = d.leaves.items;
-  costs = d.costs;
-}
+tables_of_draft d = record (tables_of d.tables) { duties = d.duties }
 
 -- what is kept: the tables, who is assigned to pairings, and the steps
 pub record Contents : Type 0 where

@@ -10,7 +10,7 @@ ghost use Rattle.roster_model.specs.Problem.{home_of};
 ghost use Rattle.roster_model.specs.Faults.{code_of, first_fault, pairing_without_duty};
 ghost use Rattle.roster_model.specs.records.Pairing as pairings;
 ghost use Rattle.roster_model.specs.records.Duty.{is_held_by_pairing, last_duty};
-ghost use Rattle.roster_book.specs.Draft.{HasRecords, IsDraftOf, Judges, Pushes, Takes, base_of_pairing, contents_of, tables_of_draft};
+ghost use Rattle.roster_book.specs.Draft.{HasRecords, IsDraftOf, Judges, Pushes, base_of_pairing, contents_of, tables_of_draft};
 ghost use Rattle.roster_book.specs.Reading.{IsBookOf, TellsFirst};
 ghost use Rattle.roster_problem.specs.View.{command_of};
 ghost use Rattle.roster_book.specs.View as view;
@@ -20,27 +20,19 @@ use crate::code::Code;
 use crate::duties::Duties;
 use crate::fault::BookFault;
 use crate::record::assign::Assign;
-use crate::record::{Kind, kind_in, period};
+use crate::record::period;
 use crate::refusal::Refusal;
 use csv::ByteRecord;
-use roster_instants::Period;
-use roster_problem::{
-    Base, BookTables, Command, Costs, Duty, Holder, Leave, Pairing, Person, Problem, Steps,
-};
+use roster_problem::{Base, BookTables, Command, Duty, Holder, Problem, Steps};
 use std::alloc::Global;
 
 /// The tables of the records taken so far, who is assigned to pairings, and the steps. Duties are in the
 /// order of their records.
 #[derive(Drop)]
 pub(crate) struct Draft {
-    pub(crate) period: Period,
-    pub(crate) weight: Option<u32>,
-    pub(crate) bases: Vec<Base>,
-    pub(crate) persons: Vec<Person>,
-    pub(crate) pairings: Vec<Pairing>,
+    // They have no duty: duties are kept apart.
+    pub(crate) tables: BookTables,
     pub(crate) duties: Duties,
-    pub(crate) leaves: Vec<Leave>,
-    pub(crate) costs: Costs,
     pub(crate) assigns: Vec<Assign>,
     pub(crate) steps: Steps,
 }
@@ -71,63 +63,11 @@ impl Draft {
             ≡ Some (view.code_of code)) }
     {
         Ok(Draft {
-            period: period::read_first(command, fields)?,
-            weight: None,
-            bases: Vec::new(alloc),
-            persons: Vec::new(alloc),
-            pairings: Vec::new(alloc),
+            tables: BookTables::empty(alloc, period::read_first(command, fields)?),
             duties: Duties::new(alloc),
-            leaves: Vec::new(alloc),
-            costs: Costs::new(alloc),
             assigns: Vec::new(alloc),
             steps: Steps::none(alloc),
         })
-    }
-
-    /// Takes the next record, which is at this row.
-    pub(crate) fn take(
-        &mut self,
-        alloc: Global,
-        command: Command,
-        row: usize,
-        fields: &ByteRecord,
-    ) -> Result<(), Refusal>
-        requires records { HasRecords (contents_of self.old) }
-        ensures { (before : List Record)
-            → IsDraftOf (command_of command) row before (contents_of self.old)
-            → Takes (command_of command) row before (fields_of fields.now)
-            (contents_of self.new) result }
-    {
-        match kind_in(command, fields) {
-            None => Err(Refusal::Fault(Code::UnknownKind)),
-            Some(Kind::Period) => Err(Refusal::Fault(period::fault_of_later(fields))),
-            Some(Kind::Weight) => self.take_weight(fields),
-            Some(Kind::Base) => {
-                let base = self.read_base(alloc, fields)?;
-                push(&mut self.bases, Ok(base))
-            }
-            Some(Kind::Crew) => {
-                let person = self.judge_person(row, fields);
-                push(&mut self.persons, person)
-            }
-            Some(Kind::Pairing) => {
-                let pairing = self.judge_pairing(row, fields);
-                push(&mut self.pairings, pairing)
-            }
-            Some(Kind::Duty) => {
-                let duty = self.judge_duty(alloc, row, fields)?;
-                self.duties.push(duty)?;
-                Ok(())
-            }
-            Some(Kind::Sector) => self.take_sector(fields),
-            Some(Kind::Leave) => {
-                let leave = self.judge_leave(fields);
-                push(&mut self.leaves, leave)
-            }
-            Some(Kind::Cost) => self.take_cost(fields),
-            Some(Kind::Assign) => self.take_assign(fields),
-            Some(Kind::Step) => self.take_step(fields),
-        }
     }
 
     /// The book of the records taken, or the row of the first pairing without a duty.
@@ -147,16 +87,8 @@ impl Draft {
             return Err(Refusal::Fault(Code::NoDuty).at(row));
         }
         let assigned = self.assigned(alloc)?;
-        let tables = BookTables {
-            period: self.period,
-            weight: self.weight,
-            bases: self.bases,
-            persons: self.persons,
-            pairings: self.pairings,
-            duties: self.duties.into_vec(),
-            leaves: self.leaves,
-            costs: self.costs,
-        };
+        let mut tables = self.tables;
+        tables.duties = self.duties.into_vec();
         let problem = Problem::new(alloc, tables)?;
         Ok(Book {
             problem,
@@ -167,22 +99,22 @@ impl Draft {
 
     /// The base of the pairing at the place.
     pub(crate) fn base_of(&self, place: usize) -> &Base
-        requires known { place < vec_len self.now.pairings }
+        requires known { place < vec_len self.now.tables.pairings }
         requires records { HasRecords (contents_of self.now) }
         ensures { result.now ≡ base_of_pairing (tables_of_draft self.now) place }
     {
-        let pairing = &self.pairings[place];
-        &self.bases[pairing.base]
+        let pairing = &self.tables.pairings[place];
+        &self.tables.bases[pairing.base]
     }
 
     /// The home base of the person at the place.
     pub(crate) fn home_of(&self, place: usize) -> &Base
-        requires known { place < vec_len self.now.persons }
+        requires known { place < vec_len self.now.tables.persons }
         requires records { HasRecords (contents_of self.now) }
         ensures { result.now ≡ home_of (tables_of_draft self.now) place }
     {
-        let person = &self.persons[place];
-        &self.bases[person.base]
+        let person = &self.tables.persons[place];
+        &self.tables.bases[person.base]
     }
 
     /// The duty of the pairing at the place that was given last.
@@ -215,7 +147,7 @@ impl Draft {
         ensures { result ≡ option_map (λ (entry : ℕ × pairings.Pairing). entry.1.row)
             (pairing_without_duty (tables_of_draft self.now)) }
     {
-        for (place, pairing) in self.pairings.iter().enumerate() {
+        for (place, pairing) in self.tables.pairings.iter().enumerate() {
             if !self.has_duty_of(place) {
                 return Some(pairing.row);
             }

@@ -1,11 +1,12 @@
 //! The kinds of records, and a file for each: what a record of it adds to the tables, or what is wrong with
-//! it. `window` and `busy` tell of the times that several kinds have.
+//! it. A record is taken by its kind. `window` and `busy` tell of the times that several kinds have.
 
-ghost use Rattle.std.specs.Prelude.{◌≡◌, option_map};
+ghost use Rattle.std.specs.Prelude.{◌≡◌, ℕ, List, option_map};
 ghost use Rattle.csv.specs.Records.{fields_of};
-ghost use Rattle.roster_model.specs.Record.{PeriodRecord, is_of};
+ghost use Rattle.roster_model.specs.Record.{Record, PeriodRecord, is_of};
 ghost use Rattle.roster_model.specs.Faults.{kind_in};
 ghost use Rattle.roster_problem.specs.View.{command_of};
+ghost use Rattle.roster_book.specs.Draft.{HasRecords, IsDraftOf, Takes, contents_of};
 ghost use Rattle.roster_book.specs.View.{kind_of};
 
 pub(crate) mod assign;
@@ -22,9 +23,13 @@ pub(crate) mod step;
 mod weight;
 mod window;
 
+use crate::code::Code;
+use crate::draft::{Draft, push};
 use crate::forms::field;
+use crate::refusal::Refusal;
 use csv::ByteRecord;
 use roster_problem::Command;
+use std::alloc::Global;
 
 /// What a record is about.
 #[derive(Clone, Copy)]
@@ -68,5 +73,53 @@ pub(crate) fn kind_in(command: Command, fields: &ByteRecord) -> Option<Kind>
         b"assign" if command == Command::Check => Some(Kind::Assign),
         b"step" if command == Command::Replay => Some(Kind::Step),
         _ => None,
+    }
+}
+
+impl Draft {
+    /// Takes the next record, which is at this row.
+    pub(crate) fn take(
+        &mut self,
+        alloc: Global,
+        command: Command,
+        row: usize,
+        fields: &ByteRecord,
+    ) -> Result<(), Refusal>
+        requires records { HasRecords (contents_of self.old) }
+        ensures { (before : List Record)
+            → IsDraftOf (command_of command) row before (contents_of self.old)
+            → Takes (command_of command) row before (fields_of fields.now)
+            (contents_of self.new) result }
+    {
+        match kind_in(command, fields) {
+            None => Err(Refusal::Fault(Code::UnknownKind)),
+            Some(Kind::Period) => Err(Refusal::Fault(period::fault_of_later(fields))),
+            Some(Kind::Weight) => self.take_weight(fields),
+            Some(Kind::Base) => {
+                let base = self.read_base(alloc, fields)?;
+                push(&mut self.tables.bases, Ok(base))
+            }
+            Some(Kind::Crew) => {
+                let person = self.judge_person(row, fields);
+                push(&mut self.tables.persons, person)
+            }
+            Some(Kind::Pairing) => {
+                let pairing = self.judge_pairing(row, fields);
+                push(&mut self.tables.pairings, pairing)
+            }
+            Some(Kind::Duty) => {
+                let duty = self.judge_duty(alloc, row, fields)?;
+                self.duties.push(duty)?;
+                Ok(())
+            }
+            Some(Kind::Sector) => self.take_sector(fields),
+            Some(Kind::Leave) => {
+                let leave = self.judge_leave(fields);
+                push(&mut self.tables.leaves, leave)
+            }
+            Some(Kind::Cost) => self.take_cost(fields),
+            Some(Kind::Assign) => self.take_assign(fields),
+            Some(Kind::Step) => self.take_step(fields),
+        }
     }
 }

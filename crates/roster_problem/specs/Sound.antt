@@ -1,7 +1,8 @@
 -- The tables of a problem as the definitions see them, and what those of records without a fault keep, as
 -- far as code counts on it.
-use Rattle.std.specs.Prelude.{ℕ, ◌<◌, ◌≤◌, length, unsigned_abs, All}
+use Rattle.std.specs.Prelude.{ℕ, ◌<◌, ◌≤◌, [], length, None, unsigned_abs, All}
 use Rattle.roster_model.specs.declared.limits.TheConstants.{MOST_BASES, MOST_PERSONS, MOST_PAIRINGS, MOST_DUTIES, MOST_LEAVES, MOST_COSTS, MOST_MINUTES, MOST_PENALTY, MOST_UNITS, MOST_WEIGHT}
+use Rattle.roster_model.specs.Calendar.{Period}
 use Rattle.roster_model.specs.Problem.{Problem, in_order, weight_of}
 use Rattle.roster_model.specs.records.Duty.{Holder, OfPairing, OfPerson}
 use Rattle.roster_problem.specs.declared.tables.BookTables.{BookTables}
@@ -19,7 +20,11 @@ tables_of t = record {
   costs = t.costs;
 }
 
--- the same with the duties in their order in time
+-- those of a month alone
+abbrev pub tables_of_period : Period → Problem
+tables_of_period period = record { period = period; weight = None; bases = []; persons = []; pairings = []; duties = []; leaves = []; costs = [] }
+
+-- those of a book, with the duties in their order in time
 abbrev pub ordered : BookTables → Problem
 ordered t = record (tables_of t) { duties = in_order t.duties.items }
 

@@ -1,5 +1,8 @@
 //! The tables of a problem.
 
+ghost use Rattle.std.specs.Prelude.{◌≡◌};
+ghost use Rattle.roster_problem.specs.Sound.{tables_of, tables_of_period};
+
 use crate::base::Base;
 use crate::costs::Costs;
 use crate::duty::Duty;
@@ -7,6 +10,7 @@ use crate::leave::Leave;
 use crate::pairing::Pairing;
 use crate::person::Person;
 use roster_instants::Period;
+use std::alloc::Global;
 
 /// The tables of a problem. They are given in book order; [`Problem`](crate::Problem) puts the duties
 /// into their order in time.
@@ -28,4 +32,22 @@ pub struct BookTables {
     pub leaves: Vec<Leave>,
     /// The costs.
     pub costs: Costs,
+}
+
+impl BookTables {
+    /// The tables of a month alone, with no entry.
+    pub fn empty(alloc: Global, period: Period) -> BookTables
+        ensures { tables_of result ≡ tables_of_period period }
+    {
+        BookTables {
+            period,
+            weight: None,
+            bases: Vec::new(alloc),
+            persons: Vec::new(alloc),
+            pairings: Vec::new(alloc),
+            duties: Vec::new(alloc),
+            leaves: Vec::new(alloc),
+            costs: Costs::new(alloc),
+        }
+    }
 }

@@ -106,12 +106,12 @@ impl Draft {
     fn assignee(&self, text: &[u8]) -> Option<u16>
         requires { HasRecords (contents_of self.now) }
         ensures { result ≡ (if model.is_nobody text.now then None
-            else place_named (λ person. person.id) text.now self.now.persons.items) }
+            else place_named (λ person. person.id) text.now self.now.tables.persons.items) }
     {
         if is_nobody(text) {
             return None;
         }
-        match place_of(&self.persons, text) {
+        match place_of(&self.tables.persons, text) {
             Some(place) => Some(place as u16),
             None => None,
         }
@@ -132,7 +132,7 @@ impl Draft {
         if !is_formed(fields) {
             return Err(Code::FieldForm);
         }
-        let Some(pairing) = place_of(&self.pairings, field(fields, 1)) else {
+        let Some(pairing) = place_of(&self.tables.pairings, field(fields, 1)) else {
             return Err(Code::NotGiven);
         };
         if self.is_assigned(pairing) {
@@ -159,12 +159,12 @@ impl Draft {
 
     /// The roster of the assignments so far: who flies each pairing, which is open if none names it.
     pub(crate) fn assigned(&self, alloc: Global) -> Result<Places, AllocError>
-        requires { length self.now.persons.items ≤ MOST_PERSONS }
-        ensures { IfOk result (λ places. places ≡ assigned_by (length self.now.persons.items)
-            (length self.now.pairings.items) self.now.assigns.items) }
+        requires { length self.now.tables.persons.items ≤ MOST_PERSONS }
+        ensures { IfOk result (λ places. places ≡ assigned_by (length self.now.tables.persons.items)
+            (length self.now.tables.pairings.items) self.now.assigns.items) }
     {
-        let nobody = self.persons.len() as u16;
-        let numbers = numbers(alloc, &self.assigns, nobody, self.pairings.len())?;
+        let nobody = self.tables.persons.len() as u16;
+        let numbers = numbers(alloc, &self.assigns, nobody, self.tables.pairings.len())?;
         Ok(Places::new(numbers))
     }
 }

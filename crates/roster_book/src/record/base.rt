@@ -48,15 +48,15 @@ impl Draft {
         let Some(zone) = zone_text(field(fields, 2)) else {
             return Err(Refusal::Fault(Code::FieldForm));
         };
-        if place_of(&self.bases, field(fields, 1)).is_some() {
+        if place_of(&self.tables.bases, field(fields, 1)).is_some() {
             return Err(Refusal::Fault(Code::GivenTwice));
         }
-        let days = match days_of(alloc, zone, self.period) {
+        let days = match days_of(alloc, zone, self.tables.period) {
             Err(Refusal::Fault(code)) => return Err(Refusal::Fault(code)),
             // Memory ran out, which counts if the record has no fault.
             found => found,
         };
-        if self.bases.len() >= MOST_BASES {
+        if self.tables.bases.len() >= MOST_BASES {
             return Err(Refusal::Fault(Code::NoRoom));
         }
         Ok(Base { id, days: days? })

@@ -51,9 +51,10 @@ impl Draft {
     // Whether the person has a leave in a minute of the time.
     fn is_on_leave(&self, person: usize, from: Minute, to: Minute) -> bool
         ensures { result ≡ list_any (λ leave. is_leave_of person leave
-            && busy.shares_minute from to (time_of_leave leave)) self.now.leaves.items }
+            && busy.shares_minute from to (time_of_leave leave)) self.now.tables.leaves.items }
     {
-        self.leaves
+        self.tables
+            .leaves
             .iter()
             .any(|leave| is_leave_at(leave, person, from, to))
     }

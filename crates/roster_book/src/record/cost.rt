@@ -34,10 +34,10 @@ impl Draft {
             → IsDraftOf command row before (contents_of self.now)
             → Judges (code_of_kind CostRecord before (fields_of fields.now))
             (cost_of before (fields_of fields.now)) result }
-        ensures person { IfOk result (λ cost. cost.person < length self.now.persons.items) }
-        ensures pairing { IfOk result (λ cost. cost.pairing < length self.now.pairings.items) }
+        ensures person { IfOk result (λ cost. cost.person < length self.now.tables.persons.items) }
+        ensures pairing { IfOk result (λ cost. cost.pairing < length self.now.tables.pairings.items) }
         ensures once { IfOk result
-            (λ cost. units_given self.now.costs cost.person cost.pairing ≡ None) }
+            (λ cost. units_given self.now.tables.costs cost.person cost.pairing ≡ None) }
     {
         if fields.len() != 4 {
             return Err(Code::FieldCount);
@@ -48,16 +48,16 @@ impl Draft {
         let Some(units) = units(field(fields, 3)) else {
             return Err(Code::OutOfLimits);
         };
-        let Some(person) = place_of(&self.persons, field(fields, 1)) else {
+        let Some(person) = place_of(&self.tables.persons, field(fields, 1)) else {
             return Err(Code::NotGiven);
         };
-        let Some(pairing) = place_of(&self.pairings, field(fields, 2)) else {
+        let Some(pairing) = place_of(&self.tables.pairings, field(fields, 2)) else {
             return Err(Code::NotGiven);
         };
-        if self.costs.given(person, pairing).is_some() {
+        if self.tables.costs.given(person, pairing).is_some() {
             return Err(Code::GivenTwice);
         }
-        if self.costs.len() >= MOST_COSTS {
+        if self.tables.costs.len() >= MOST_COSTS {
             return Err(Code::NoRoom);
         }
         Ok(Cost {
@@ -76,7 +76,7 @@ impl Draft {
             → Takes command row before (fields_of fields.now) (contents_of self.new) result }
     {
         let cost = self.judge_cost(fields)?;
-        self.costs.push(cost)?;
+        self.tables.costs.push(cost)?;
         Ok(())
     }
 }

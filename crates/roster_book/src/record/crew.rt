@@ -61,13 +61,13 @@ impl Draft {
         let Some((target, year, eleven)) = limited(fields) else {
             return Err(Code::OutOfLimits);
         };
-        if place_of(&self.persons, field(fields, 1)).is_some() {
+        if place_of(&self.tables.persons, field(fields, 1)).is_some() {
             return Err(Code::GivenTwice);
         }
-        let Some(base) = place_of(&self.bases, field(fields, 2)) else {
+        let Some(base) = place_of(&self.tables.bases, field(fields, 2)) else {
             return Err(Code::NotGiven);
         };
-        if self.persons.len() >= MOST_PERSONS {
+        if self.tables.persons.len() >= MOST_PERSONS {
             return Err(Code::NoRoom);
         }
         Ok(Person {

@@ -97,21 +97,21 @@ impl Draft {
     fn holder_in(&self, fields: &ByteRecord) -> Option<Holder>
         ensures told { (before : List Record) → tables_of_draft self.now ≡ tables_in before
             → option_map holder_of result ≡ model.holder_in before (fields_of fields.now) }
-        ensures known { IfSome result (λ holder. IsHolder (length self.now.pairings.items)
-            (length self.now.persons.items) (holder_of holder)) }
+        ensures known { IfSome result (λ holder. IsHolder (length self.now.tables.pairings.items)
+            (length self.now.tables.persons.items) (holder_of holder)) }
     {
         let name = field(fields, 3);
         if is_pairing_letter(field(fields, 2)) {
-            Some(Holder::Pairing(place_of(&self.pairings, name)?))
+            Some(Holder::Pairing(place_of(&self.tables.pairings, name)?))
         } else {
-            Some(Holder::Person(place_of(&self.persons, name)?))
+            Some(Holder::Person(place_of(&self.tables.persons, name)?))
         }
     }
 
     // What is wrong with it as a duty of the pairing at the place.
     #[tactic(auto, using(crate::proofs::SectorTable::flown_in_sequence, crate::proofs::SectorTable::flown_starts_well, crate::proofs::SectorTable::flown_count))]
     fn judge_of_pairing(&self, p: usize, duty: &Form) -> Result<(), Code>
-        requires known { p < length self.now.pairings.items }
+        requires known { p < length self.now.tables.pairings.items }
         requires records { HasRecords (contents_of self.now) }
         ensures told { (before : List Record) → tables_of_draft self.now ≡ tables_in before
             → Judges (first_unmet (model.conditions_of_pairing before p duty.now.station
@@ -138,7 +138,7 @@ impl Draft {
     // What is wrong with it as a fixed duty of the person at the place.
     #[tactic(auto, using(crate::proofs::SectorTable::flown_count))]
     fn judge_of_person(&self, k: usize, duty: &Form) -> Result<(), Code>
-        requires known { k < length self.now.persons.items }
+        requires known { k < length self.now.tables.persons.items }
         requires records { HasRecords (contents_of self.now) }
         ensures told { (before : List Record) → tables_of_draft self.now ≡ tables_in before
             → Judges (first_unmet (model.conditions_of_person (is_busy (tables_in before)) before k
@@ -162,8 +162,8 @@ impl Draft {
 
     // What is wrong with it as a duty of the holder.
     fn judge_held(&self, holder: Holder, duty: &Form) -> Result<(), Code>
-        requires known { IsHolder (length self.now.pairings.items)
-            (length self.now.persons.items) (holder_of holder) }
+        requires known { IsHolder (length self.now.tables.pairings.items)
+            (length self.now.tables.persons.items) (holder_of holder) }
         requires records { HasRecords (contents_of self.now) }
         ensures told { (before : List Record) → tables_of_draft self.now ≡ tables_in before
             → Judges (first_unmet (model.conditions_held (is_busy (tables_in before)) before

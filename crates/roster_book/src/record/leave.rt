@@ -49,7 +49,7 @@ impl Draft {
         let Some((from, to)) = formed(fields) else {
             return Err(Code::FieldForm);
         };
-        let Some(person) = place_of(&self.persons, field(fields, 1)) else {
+        let Some(person) = place_of(&self.tables.persons, field(fields, 1)) else {
             return Err(Code::NotGiven);
         };
         if from >= to {
@@ -58,7 +58,7 @@ impl Draft {
         if !is_in_window(&self.home_of(person).days, from, to) {
             return Err(Code::OutOfWindow);
         }
-        if self.leaves.len() >= MOST_LEAVES {
+        if self.tables.leaves.len() >= MOST_LEAVES {
             return Err(Code::NoRoom);
         }
         if self.is_busy(person, from, to) {

@@ -43,13 +43,13 @@ impl Draft {
         let Some(penalty) = amount(field(fields, 3), MOST_PENALTY) else {
             return Err(Code::OutOfLimits);
         };
-        if place_of(&self.pairings, field(fields, 1)).is_some() {
+        if place_of(&self.tables.pairings, field(fields, 1)).is_some() {
             return Err(Code::GivenTwice);
         }
-        let Some(base) = place_of(&self.bases, field(fields, 2)) else {
+        let Some(base) = place_of(&self.tables.bases, field(fields, 2)) else {
             return Err(Code::NotGiven);
         };
-        if self.pairings.len() >= MOST_PAIRINGS {
+        if self.tables.pairings.len() >= MOST_PAIRINGS {
             return Err(Code::NoRoom);
         }
         Ok(Pairing {

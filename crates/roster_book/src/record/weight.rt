@@ -22,7 +22,7 @@ impl Draft {
             → IsDraftOf command row before (contents_of self.now)
             → Judges (code_of_kind WeightRecord before (fields_of fields.now))
             (weight_of before (fields_of fields.now)) result }
-        ensures once { IfOk result (λ _. self.now.weight ≡ None) }
+        ensures once { IfOk result (λ _. self.now.tables.weight ≡ None) }
     {
         if fields.len() != 2 {
             return Err(Code::FieldCount);
@@ -33,7 +33,7 @@ impl Draft {
         let Some(weight) = amount(field(fields, 1), MOST_WEIGHT) else {
             return Err(Code::OutOfLimits);
         };
-        if self.weight.is_some() {
+        if self.tables.weight.is_some() {
             return Err(Code::GivenTwice);
         }
         Ok(weight)
@@ -46,7 +46,7 @@ impl Draft {
             → Some WeightRecord ≡ kind_in command (fields_of fields.now)
             → Takes command row before (fields_of fields.now) (contents_of self.new) result }
     {
-        self.weight = Some(self.judge_weight(fields)?);
+        self.tables.weight = Some(self.judge_weight(fields)?);
         Ok(())
     }
 }

@@ -7,9 +7,9 @@ use Rattle.roster_book.proofs.draft.Draft.base_of.Goals as goal
 pub index-requires : goal.index-requires
 index-requires c =
     let sound = IsSound-records (contents_of c.args.self.now) c.requires.records in
-    search (rules, (base_of_entry (λ pairing. pairing.base) c.args.self.now.bases.items c.args.self.now.pairings.items c.args.place c.pairing.inside.base c.index-pairing.result.now sound.starts (search rules) c.index-pairing.ensures (ap (λ pairing. pairing.base) (sym c.pairing.view_is))).within)
+    search (rules, (base_of_entry (λ pairing. pairing.base) c.args.self.now.tables.bases.items c.args.self.now.tables.pairings.items c.args.place c.pairing.inside.base c.index-pairing.result.now sound.starts (search rules) c.index-pairing.ensures (ap (λ pairing. pairing.base) (sym c.pairing.view_is))).within)
 
 pub returns : goal.returns
 returns c =
     let sound = IsSound-records (contents_of c.args.self.now) c.requires.records in
-    (base_of_entry (λ pairing. pairing.base) c.args.self.now.bases.items c.args.self.now.pairings.items c.args.place c.pairing.inside.base c.index-pairing.result.now sound.starts (search rules) c.index-pairing.ensures (ap (λ pairing. pairing.base) (sym c.pairing.view_is))).read c.index.result.now c.index.ensures
+    (base_of_entry (λ pairing. pairing.base) c.args.self.now.tables.bases.items c.args.self.now.tables.pairings.items c.args.place c.pairing.inside.base c.index-pairing.result.now sound.starts (search rules) c.index-pairing.ensures (ap (λ pairing. pairing.base) (sym c.pairing.view_is))).read c.index.result.now c.index.ensures

@@ -1,5 +1,7 @@
-use Rattle.std.proofs.Common.{sym, arith}
+use Rattle.std.proofs.Common.{[], ap, sym, ◌∙◌, arith}
 use Rattle.csv.specs.Records.{fields_of}
+use Rattle.roster_model.specs.Problem.{Problem}
+use Rattle.roster_problem.specs.Sound.{tables_of_period}
 use Rattle.roster_problem.specs.View.{command_of}
 use Rattle.roster_book.proofs.Sound.{first_is_period}
 use Rattle.roster_book.proofs.Tables.{no_assign, no_step, tables_in-first}
@@ -13,8 +15,8 @@ returns c =
     record {
       begun = omega arith;
       row_is = omega arith;
-      tables_are = rw (c.new.ensures.items, c.new-2.ensures.items, c.new-3.ensures.items, c.new-4.ensures, c.new-5.ensures.items, c.new-6.ensures, c.in_ok-read_first.ensures.1) (sym tables);
-      assigns_are = rw c.new-7.ensures.items (sym (no_assign (fields_of c.args.fields.now) period));
+      tables_are = rw c.new.ensures (ap (λ (t : Problem). record t { duties = [] }) c.empty.ensures ∙ ap tables_of_period c.in_ok-read_first.ensures.1 ∙ sym tables);
+      assigns_are = rw c.new-2.ensures.items (sym (no_assign (fields_of c.args.fields.now) period));
       steps_are = rw c.none.ensures (sym (no_step (fields_of c.args.fields.now) period));
       faultless = (none, tt);
     }

@@ -15,5 +15,5 @@ pub returns : goal.returns
 returns c = λ command row before d k.
     let fields = fields_of c.args.fields.now in
     let judged = c.in_ok-judge_weight.ensures.judged command row before d in
-    let first : Some (weight_of before fields) ≡ option_or c.args.self.now.weight (Some (weight_of before fields)) = rw c.in_ok-judge_weight.ensures.once refl in
+    let first : Some (weight_of before fields) ≡ option_or c.args.self.now.tables.weight (Some (weight_of before fields)) = rw c.in_ok-judge_weight.ensures.once refl in
     rw (judged.1, first) (IsDraftOf-append command row WeightRecord before fields (contents_of c.args.self.now) d (sym k) judged.0)
