@@ -95,6 +95,9 @@ impl<'a> JudgedSet<'a> {
     {
         let loads = self.loads;
         let _ = loads.problem();
-        self.has_days_off_with(p, busy) && self.has_room_for(p)
+        if !self.has_days_off_with(p, busy) {
+            return false;
+        }
+        self.has_room_for(p)
     }
 }
