@@ -157,3 +157,27 @@ fn a_block_a_minute_too_long(rt: HostRuntime) -> Result<(), Fail> {
         Some(Reason::Recovery(block)),
     )
 }
+
+// Both duties beside a rest are told of, and all of a block, but no duty beyond; a pairing is no duty.
+#[test]
+fn the_duties_that_a_reason_tells_of(rt: HostRuntime) -> Result<(), Fail> {
+    let rest = Reason::Rest(ShortRest {
+        before: 1,
+        rest: 0,
+        needed: 1,
+    });
+    assert!(rt; !rest.touches(0));
+    assert!(rt; rest.touches(1));
+    assert!(rt; rest.touches(2));
+    assert!(rt; !rest.touches(3));
+    let block = Reason::Recovery(LongBlock {
+        first: 1,
+        last: 3,
+        minutes: 1,
+    });
+    assert!(rt; !block.touches(0));
+    assert!(rt; block.touches(2));
+    assert!(rt; !block.touches(4));
+    assert!(rt; !Reason::Base(1).touches(1));
+    Ok(())
+}
