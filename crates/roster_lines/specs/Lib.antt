@@ -8,3 +8,4 @@ pub mod Person
 pub mod Made
 pub mod TableFaults
 pub mod WantedTables
+pub mod AllPairs

@@ -14,6 +14,7 @@
 //! - `table`: the lines of all persons
 //! - `wanted_tables`: those that are wanted of each person
 //! - `shared`: the same table, by several threads
+//! - `pairs_by_threads`: the pairs of all persons, by several threads
 //! - `laws`: what follows from the definitions
 #![tactic(auto)]
 
@@ -22,6 +23,7 @@ mod laws;
 mod lines;
 mod order;
 mod pairs;
+mod pairs_by_threads;
 mod shared;
 mod shared_lines;
 mod stem;
@@ -35,7 +37,8 @@ pub use laws::{
     one_list_of_numbers,
 };
 pub use lines::{Lines, Row};
-pub use pairs::{Pairs, all_pairs, pairs_of};
+pub use pairs::{Pairs, pairs_of};
+pub use pairs_by_threads::all_pairs;
 pub use shared::all_lines;
 pub use shared_lines::SharedLines;
 pub use table::{Table, TableFault, table_of};

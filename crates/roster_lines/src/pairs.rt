@@ -1,9 +1,8 @@
 //! Which pairings are legal for a person alone, which of those together, and what each brings of flight.
 
 ghost use Rattle.std.specs.Prelude.{◌≡◌, ◌<◌, IfOk, length};
-ghost use Rattle.roster_lines.specs.Listing.{AreAllPairs, AreAlone, AreFlights, ArePairs, ArePartsLegal, IsRow};
+ghost use Rattle.roster_lines.specs.Listing.{AreAlone, AreFlights, ArePairs, ArePartsLegal, IsRow};
 
-use crate::extend::parts_are_legal;
 use roster_cost::pairing_flight;
 use roster_legal::Judge;
 use roster_problem::{Problem, Set};
@@ -19,19 +18,6 @@ pub struct Pairs {
     pub rows: Vec<Set>,
     /// For each pairing its minutes of flight in the month.
     pub flights: Vec<u64>,
-}
-
-/// The pairs of all persons, in book order.
-pub fn all_pairs(alloc: Global, problem: &Problem) -> Result<Vec<Pairs>, AllocError>
-    ensures { IfOk result (λ pairs. AreAllPairs problem.now pairs.items) }
-{
-    parts_are_legal(problem);
-    let mut judge = Judge::new(alloc, problem);
-    let mut all = Vec::new(alloc);
-    for k in 0..problem.persons().len() {
-        all.push(pairs_of(alloc, &mut judge, problem, k)?)?;
-    }
-    Ok(all)
 }
 
 /// Judges each pairing alone, and then each two of those that are legal.

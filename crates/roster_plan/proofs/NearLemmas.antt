@@ -1,24 +1,22 @@
 -- Which lines a neighbourhood has.
 use Rattle.std.proofs.Common.{◌≡◌, ℕ, ◌+◌, ◌<◌, Bool, true, false, eqb, List, [], length, refl, sym, ap, ◌∙◌, subst, inl, inr, arith}
-use Rattle.std.specs.Prelude.{slice_get, unwrap_or, Option, Some, ◌||◌}
+use Rattle.std.specs.Prelude.{slice_get, Some, ◌||◌}
 use Rattle.std.proofs.lemmas.Bool.{cases_eq, cases_lt, eq-eqb, false≢true, ne_eqb}
 use Rattle.std.proofs.lemmas.Option.{slice_get_cases, slice_get_within, slice_get-get_or}
 use Rattle.roster_model.specs.Places.{set_of}
 use Rattle.roster_model.specs.Problem.{Problem}
-use Rattle.roster_model.specs.Rosters.{IsLegalRoster, Key}
+use Rattle.roster_model.specs.Rosters.{IsLegalRoster}
 use Rattle.roster_model.specs.Rules.{is_among}
-use Rattle.roster_model.specs.Settled.{IsNotAfter}
 use Rattle.roster_model.proofs.LineLemmas.{given_line}
 use Rattle.roster_model.proofs.PlacesLemmas.{is_among-set_of_past}
 use Rattle.roster_lines.specs.declared.wanted.Between.{Between}
 use Rattle.roster_lines.specs.Between.{IsBetween}
 use Rattle.roster_lines.specs.Entries.{Entry}
-use Rattle.roster_lines.specs.Person.{lines_at, AreListed, IsOfTable}
+use Rattle.roster_lines.specs.Person.{lines_at, AreListed}
 use Rattle.roster_lines.specs.WantedTables.{AreAllWanted}
-use Rattle.roster_search.specs.Limited.{IsEarlier}
 use Rattle.roster_pricing.specs.Homes.{IsHome}
 use Rattle.roster_search.specs.Parts.{base_of_person}
-use Rattle.roster_plan.specs.Near.{IsNear}
+use Rattle.roster_plan.specs.Near.{HasAllNear, IsNear}
 use Rattle.roster_plan.proofs.PartLemmas.{of_home}
 
 -- what a person wants who keeps some pairings and may have others
@@ -26,10 +24,9 @@ abbrev pub wants : Between → Problem → ℕ → List ℕ → Type 0
 wants between problem k set = IsBetween between.must between.may set
 
 -- a legal roster of the neighbourhood has lines of the table
-pub of_near : (problem : Problem) (wanted : List Between) (table : List (List Entry)) (places : List ℕ)
-    → AreListed problem table → AreAllWanted wants problem wanted table → length wanted ≡ length problem.persons
-    → IsLegalRoster problem places → IsNear wanted places → IsOfTable table places
-of_near problem wanted table places listed all covers legal near k inside =
+pub of_near : (problem : Problem) (wanted : List Between) (table : List (List Entry))
+    → AreListed problem table → AreAllWanted wants problem wanted table → length wanted ≡ length problem.persons → HasAllNear problem wanted table
+of_near problem wanted table listed all covers places legal near k inside =
     let person : k < length problem.persons = omega (arith, inside, listed.covers) in
     let none : List Entry = [] in
     let lines = slice_get-get_or table k none inside in
@@ -37,13 +34,6 @@ of_near problem wanted table places listed all covers legal near k inside =
       | inl found ↦ (all.each k (lines_at table k) found.0 lines found.2).every (set_of k places) (given_line problem k places legal person) (near k found.0 found.2)
       | inr past ↦ absurd (omega (arith, past.0, person, covers))
     ]
-
--- so no roster of it is before the known one or the one that is found instead
-pub none_nearer : (problem : Problem) (wanted : List Between) (table : List (List Entry)) (known : Key) (found : Option Key)
-    → AreListed problem table → AreAllWanted wants problem wanted table → length wanted ≡ length problem.persons
-    → IsEarlier problem table known found → IsNotAfter problem (IsNear wanted) (unwrap_or found known)
-none_nearer problem wanted table known found listed all covers earlier others legal near =
-    earlier.settles.least others legal (of_near problem wanted table others listed all covers legal near)
 
 -- a set that has each pairing,
 abbrev pub HasAll : ℕ → List ℕ → Type 0

@@ -4,19 +4,22 @@
 //! and the least of its rosters is found. The best roster of a base with few legal sets is found so too: in that
 //! neighbourhood nobody keeps anything, persons of the base may have all, and nobody else has anything.
 
-ghost use Rattle.std.specs.Prelude.{◌≡◌, ◌<◌, ◌≤◌, ℕ, true, List, IfOk, length};
+ghost use Rattle.std.specs.Prelude.{◌≡◌, ◌<◌, ◌≤◌, ℕ, false, true, List, IfOk, IfSome, length};
 ghost use Rattle.roster_lines.specs.Listing.{AreAllPairs};
+ghost use Rattle.roster_lines.specs.Person.{AreListed};
 ghost use Rattle.roster_model.specs.Rosters.{IsLegalRoster, key_le};
 ghost use Rattle.roster_model.specs.Settled.{IsHeld, IsNotAfter};
 ghost use Rattle.roster_pricing.specs.Homes.{IsHome};
-ghost use Rattle.roster_plan.specs.Near.{IsNear};
+ghost use Rattle.roster_plan.specs.Near.{HasAllNear, IsNear};
 
+use crate::known::earlier;
 use crate::sets::all_of;
-use roster_cost::keys_are_in_order;
-use roster_lines::{Between, Pairs, TableFault, wanted_table};
+use crate::tables::penalties;
+use roster_cost::{comes_before, keys_are_in_order};
+use roster_lines::{Between, Pairs, Table, TableFault, wanted_table};
 use roster_model::limits::MOST_LINES;
 use roster_problem::{Problem, Roster, Set};
-use roster_search::{Searched, least_by_bases};
+use roster_search::{Searched, least_within};
 use std::alloc::{AllocError, Global};
 
 /// A roster that is at least as good as a known one.
@@ -51,38 +54,32 @@ pub(crate) fn search_nearby(
         → IsNotAfter problem.now (IsNear wanted.now) nearby.roster) }
 {
     keys_are_in_order();
-    let table = match wanted_table(alloc, problem, pairs, wanted, most) {
-        Ok(table) => table,
-        Err(TableFault::TooMany(_)) => {
-            return Ok(Nearby {
-                roster: known,
-                is_new: false,
-                is_settled: false,
-            });
-        }
-        Err(TableFault::Memory) => return Err(AllocError),
+    let Some(table) = table_near(alloc, problem, pairs, wanted, most)? else {
+        return Ok(given_up(known));
     };
-    match least_by_bases(alloc, problem, &table, &known, work)? {
-        Searched::Settled(Some(roster)) => Ok(Nearby {
-            roster,
-            is_new: true,
-            is_settled: true,
-        }),
-        Searched::Settled(None) => Ok(Nearby {
+    let prices = penalties(alloc, problem)?;
+    // What is as cheap may be earlier.
+    let limit = known.cost.saturating_add(1);
+    match least_within(alloc, problem, &table, &prices, 1, limit, work)? {
+        Searched::Settled(Some(roster)) => {
+            let is_new = comes_before(&roster, &known);
+            Ok(Nearby {
+                roster: earlier(roster, known),
+                is_new,
+                is_settled: true,
+            })
+        }
+        Searched::Settled(None) if known.cost < limit => Ok(Nearby {
             roster: known,
             is_new: false,
             is_settled: true,
         }),
-        Searched::GivenUp => Ok(Nearby {
-            roster: known,
-            is_new: false,
-            is_settled: false,
-        }),
+        _ => Ok(given_up(known)),
     }
 }
 
-/// The earlier one of the known roster and the least one in which only persons of the base fly, as
-/// `search_nearby` has it.
+/// The earlier one of the known roster and the least one in which only persons of the base fly; or the
+/// known one, as `search_nearby` has it.
 pub(crate) fn search_base(
     alloc: Global,
     problem: &Problem,
@@ -102,6 +99,39 @@ pub(crate) fn search_base(
     let wanted = free_at(alloc, problem, base)?;
     let nearby = search_nearby(alloc, problem, pairs, known, &wanted, most, work)?;
     Ok(nearby)
+}
+
+/// The known roster, if the search of a neighbourhood was given up.
+fn given_up(known: Roster) -> Nearby
+    ensures roster { result.roster ≡ known }
+    ensures settled { result.is_settled ≡ false }
+{
+    Nearby {
+        roster: known,
+        is_new: false,
+        is_settled: false,
+    }
+}
+
+/// The lines of a neighbourhood, unless somebody has more than `most`.
+fn table_near(
+    alloc: Global,
+    problem: &Problem,
+    pairs: &[Pairs],
+    wanted: &[Between],
+    most: usize,
+) -> Result<Option<Table>, AllocError>
+    requires pairs { AreAllPairs problem.now pairs.now }
+    requires covers { length wanted.now ≡ length problem.now.persons }
+    requires limit { (0 < most) × (most ≤ MOST_LINES) }
+    ensures listed { IfOk result (λ table. IfSome table (AreListed problem.now)) }
+    ensures near { IfOk result (λ table. IfSome table (HasAllNear problem.now wanted.now)) }
+{
+    match wanted_table(alloc, problem, pairs, wanted, most) {
+        Ok(table) => Ok(Some(table)),
+        Err(TableFault::TooMany(_)) => Ok(None),
+        Err(TableFault::Memory) => Err(AllocError),
+    }
 }
 
 /// The neighbourhood of all legal rosters in which only persons of the base fly: they keep nothing and may have

@@ -64,7 +64,7 @@ fn planned_from<R: Threads + Sync, W: Watcher>(
     ensures { IfOk result (IsPlannedFrom problem.now known) }
 {
     keys_are_in_order();
-    let pairs = all_pairs(alloc, problem)?;
+    let pairs = all_pairs(rt, alloc, problem, means.workers)?;
     let start = Month::of(alloc, problem, &pairs, known)?;
     watcher.tell(problem, None, Step::Start, &start.planned);
     let sought = searched(alloc, problem, &pairs, start, means, watcher)?;

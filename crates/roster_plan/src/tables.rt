@@ -279,7 +279,8 @@ fn targets(alloc: Global, problem: &Problem) -> Result<Vec<i64>, AllocError> {
     Ok(targets)
 }
 
-fn penalties(alloc: Global, problem: &Problem) -> Result<Vec<i64>, AllocError> {
+/// What it costs to leave each pairing open.
+pub(crate) fn penalties(alloc: Global, problem: &Problem) -> Result<Vec<i64>, AllocError> {
     let mut penalties = Vec::new(alloc);
     for pairing in problem.pairings() {
         penalties.push(i64::from(pairing.penalty))?;

@@ -29,7 +29,7 @@ const SEARCHES_AT_ONCE: usize = 4;
 const ROUNDS_AN_EFFORT: u32 = 20;
 
 /// How many lines nodes may have to look at in the search of a neighbourhood.
-const WORK_NEARBY: u64 = 1 << 19;
+const WORK_NEARBY: u64 = 1 << 17;
 
 /// A neighbourhood of a roster, and what its search came to.
 #[derive(Drop)]

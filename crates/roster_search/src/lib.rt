@@ -1,7 +1,7 @@
 //! The least roster of a box of lines.
 //!
 //! `least_of_box` answers the least legal roster of a box if it is before a known one, and `search_bases`
-//! that of all lines, by several threads; `least_within` and `least_by_bases` are given up after so much work.
+//! that of all lines, by several threads; `least_within` is given up after so much work.
 //! `merged` puts rosters of bases together. All searches ask one thing again and again: whether a region has a roster
 //! that costs at most so much (`Finder`). Least cost and ties are loops round that, so nothing that prunes
 //! knows of ties. Bases share neither persons nor pairings, so each is searched apart. In reading order:
@@ -43,6 +43,6 @@ mod visiting;
 
 pub use boxes::{least_of_box, search_bases};
 pub use least::costs_fit;
-pub use limited::{Searched, least_by_bases, least_within};
+pub use limited::{Searched, least_within};
 pub use nodes::Nodes;
 pub use parts::{all_open, merged};

@@ -2,10 +2,9 @@
 
 ghost use Rattle.std.specs.Prelude.{IfOk};
 ghost use Rattle.roster_lines.specs.Person.{AreListed};
-ghost use Rattle.roster_model.specs.Settled.{IsHeld};
-ghost use Rattle.roster_search.specs.Limited.{IsSearched, IsSearchedFrom};
+ghost use Rattle.roster_search.specs.Limited.{IsSearched};
 
-use crate::boxes::{least_with, whole};
+use crate::boxes::whole;
 use crate::exploring::{MOST_NODES, lines_of_last, visit_last};
 use crate::finder::Finder;
 use crate::least::least;
@@ -31,7 +30,7 @@ pub enum Searched {
 /// ones make it short. It is given up once nodes have had so many lines to look at: work is counted, never
 /// time, so each run comes to the same.
 ///
-/// Bases aren't searched apart here, since the limit is one of them all; `least_by_bases` has no limit.
+/// Bases aren't searched apart here, since the limit is one of them all.
 pub fn least_within(
     alloc: Global,
     problem: &Problem,
@@ -53,31 +52,6 @@ pub fn least_within(
     match found {
         Ok(found) => Ok(Searched::Settled(found)),
         Err(_) if patience.is_over => Ok(Searched::GivenUp),
-        Err(error) => Err(error),
-    }
-}
-
-/// The least roster in which each person has a line of the table, with its cost, if its key is before that
-/// of the known roster. Each base is searched apart. It is given up as `least_within` is, and the work is
-/// that of all bases.
-pub fn least_by_bases(
-    alloc: Global,
-    problem: &Problem,
-    table: &Table,
-    known: &Roster,
-    work: u64,
-) -> Result<Searched, AllocError>
-    requires table { AreListed problem.now table.now }
-    requires known { IsHeld problem.now known.now }
-    ensures { IfOk result (IsSearchedFrom problem.now table.now known.now) }
-{
-    let ranges = whole(alloc, problem, table)?;
-    let ranges = ranges.as_slice();
-    let mut finder = Patience::new(work);
-    let found = least_with(alloc, problem, table, ranges, &[], known, &mut finder);
-    match found {
-        Ok(found) => Ok(Searched::Settled(found)),
-        Err(_) if finder.is_over => Ok(Searched::GivenUp),
         Err(error) => Err(error),
     }
 }

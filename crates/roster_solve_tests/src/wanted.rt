@@ -133,7 +133,7 @@ fn the_empty_line_is_there_if_nothing_is_wanted(rt: HostRuntime) -> Result<(), F
 /// The table of the lines of the one person that hold the sixth pairing, and may hold the first and the
 /// last, no more than `most`.
 fn table_with_the_sixth(
-    rt: &impl Abort,
+    rt: &HostRuntime,
     alloc: Global,
     problem: &Problem,
     most: usize,
@@ -146,7 +146,7 @@ fn table_with_the_sixth(
         must: set_of(&[5]),
         may: set_of(&[0, 9]),
     }];
-    let pairs = all_pairs(alloc, problem)?;
+    let pairs = all_pairs(rt, alloc, problem, 2)?;
     wanted_table(alloc, problem, &pairs, &wanted, most)
 }
 
