@@ -2,7 +2,7 @@
 use Rattle.std.proofs.Common.{◌≡◌, ℕ, ◌<◌, true, false, ◌⊎◌, ◌&&◌, List, [], ◌∷◌, ◌++◌, length, pos, refl, sym, ◌∙◌, subst, inl, inr, arith}
 use Rattle.std.specs.Prelude.{All}
 use Rattle.std.proofs.lemmas.Bool.{and_from, and_parts, eqb-true, or_cases, or_left, or_right, false≢true, false_from_ne_true}
-use Rattle.std.proofs.lemmas.List.Elements.{All-nil, All-cons, All-head, All-push}
+use Rattle.std.proofs.lemmas.List.Elements.{All-nil, All-cons, All-push}
 use Rattle.roster_model.specs.Costs.{flight_of, total}
 use Rattle.roster_model.specs.Lines.{IsLine}
 use Rattle.roster_model.specs.Problem.{Problem, units_of}
@@ -10,7 +10,7 @@ use Rattle.roster_model.specs.Rules.{is_among, IsLegal}
 use Rattle.roster_model.proofs.CostLemmas.{total-nil}
 use Rattle.roster_model.proofs.SetLemmas.{Ascends, Ascends-from_rising, Ascends-push, rising_from_Ascends, is_among-append, is_among-here, All-is_among, All-from_is_among}
 use Rattle.roster_lines.specs.declared.stem.Stem.{Stem}
-use Rattle.roster_lines.specs.Listing.{AreAlone, ArePartsLegal, AreTogether, IsStem, IsRow}
+use Rattle.roster_lines.specs.Listing.{AreAlone, AreLegalAlone, ArePartsLegal, AreTogether, IsStem, IsRow}
 
 -- ---- the front of a set, and what is behind
 
@@ -105,40 +105,46 @@ module _ (problem : Problem) (k : ℕ) (legal : ArePartsLegal problem k) where
   no_line_behind front p none rest line = none (IsLine-up_to front p rest line)
 
   -- the stem of a candidate
-  pub IsStem-below : (stem below : Stem) (p : ℕ) (row : List ℕ) → IsStem problem k stem → is_among stem.candidates p ≡ true → IsRow problem k p row → below.set ≡ stem.set ++ p ∷ [] → ((q : ℕ) → is_among below.candidates q ≡ (is_among stem.candidates q && is_among row q)) → below.units ≡ total (units_of problem k) below.set → below.flight ≡ flight_of problem k below.set → IsLine problem k below.set → IsStem problem k below
-  IsStem-below stem below p row is here is_row set both units flight line =
+  pub IsStem-below : (stem below : Stem) (p : ℕ) (row : List ℕ) → IsStem problem k stem → is_among stem.candidates p ≡ true → IsRow problem k p row → below.set ≡ stem.set ++ p ∷ [] → below.among ≡ stem.among → ((q : ℕ) → is_among below.candidates q ≡ (is_among stem.candidates q && is_among row q)) → below.units ≡ total (units_of problem k) below.set → below.flight ≡ flight_of problem k below.set → IsLine problem k below.set → IsStem problem k below
+  IsStem-below stem below p row is here is_row set among both units flight line =
       let parts = λ (q : ℕ) (h : is_among below.candidates q ≡ true). and_parts (is_among stem.candidates q) (is_among row q) (sym (both q) ∙ h) in
       record {
         line = line;
         units = units;
         flight = flight;
+        known = λ q h. subst (λ among. is_among among q ≡ true) (sym among) (is.known q (parts q h).0);
         places = λ q h. is.places q (parts q h).0;
         behind = λ q h.
             let pair = (is_row q).0 (parts q h).1 in
             subst (All (λ r. r < q)) (sym set) (All-push (λ r. r < q) stem.set p (is.behind q (parts q h).0) pair.0);
         single = λ q h. is.single q (parts q h).0;
-        pairs = λ q r h among.
-            let among' = subst (λ s. is_among s r ≡ true) set among in
-            elim (among_cases stem.set (p ∷ []) r among') [
+        pairs = λ q r h held.
+            elim (among_cases stem.set (p ∷ []) r (subst (λ s. is_among s r ≡ true) set held)) [
               | inl old ↦ is.pairs q r (parts q h).0 old
               | inr new ↦ subst (λ s. IsLegal problem k (s ∷ q ∷ [])) (among_single p r new) ((is_row q).0 (parts q h).1).2
             ];
-        every = λ q rest line.
+        every = λ q rest line looked.
             let line' = subst (λ s. IsLine problem k (s ++ q ∷ rest)) set line in
-            both q ∙ and_from _ _ (is.every q [] (IsLine-without stem.set p q rest line')) ((is_row q).1 (pair_of_line stem.set p q rest line'));
+            let old = is.every q [] (IsLine-without stem.set p q rest line') (subst (λ looked. is_among looked q ≡ true) among looked) in
+            both q ∙ and_from _ _ old ((is_row q).1 (pair_of_line stem.set p q rest line'));
       }
 
-  -- the stem of the empty line
-  pub IsStem-root : (alone : List ℕ) (flight : ℕ) → AreAlone problem k alone → flight ≡ flight_of problem k [] → IsStem problem k (record { set = []; number = 0; candidates = alone; units = pos 0; flight = flight })
-  IsStem-root alone flight is flown = record {
-    line = IsLine-empty problem k;
-    units = sym (total-nil (units_of problem k));
-    flight = flown;
-    places = λ p h. ((is p).0 h).0;
-    behind = λ p h. All-nil (λ q. q < p);
-    single = λ p h. ((is p).0 h).1;
-    pairs = λ p q h among. absurd (false≢true among);
-    every = λ p rest line.
-        let single = IsLine-up_to [] p rest line in
-        (is p).1 (All-head (λ q. q < length problem.pairings) p [] single.places, single.legal);
-  }
+  -- a line holds nothing but what is legal alone
+  pub alone_of_line : (alone set : List ℕ) (p : ℕ) → AreAlone problem k alone → IsLine problem k set → is_among set p ≡ true → is_among alone p ≡ true
+  alone_of_line alone set p are line here =
+      let single = legal set (p ∷ []) (λ q h. subst (λ r. is_among set r ≡ true) (among_single p q h) here) line.legal in
+      (are p).1 (All-is_among (λ q. q < length problem.pairings) set p line.places here, single)
+
+-- the stem of the empty line
+pub IsStem-root : (problem : Problem) (k : ℕ) (among : List ℕ) (flight : ℕ) → AreLegalAlone problem k among → flight ≡ flight_of problem k [] → IsStem problem k (record { set = []; number = 0; among = among; candidates = among; units = pos 0; flight = flight })
+IsStem-root problem k among flight is flown = record {
+  line = IsLine-empty problem k;
+  units = sym (total-nil (units_of problem k));
+  flight = flown;
+  known = λ p h. h;
+  places = λ p h. (is p h).0;
+  behind = λ p h. All-nil (λ q. q < p);
+  single = λ p h. (is p h).1;
+  pairs = λ p q h held. absurd (false≢true held);
+  every = λ p rest line looked. looked;
+}

@@ -8,28 +8,30 @@ use Rattle.roster_model.specs.Costs.{flight_of, line_cost}
 use Rattle.roster_model.specs.Lines.{IsLine}
 use Rattle.roster_model.specs.Problem.{Problem}
 use Rattle.roster_model.specs.Rules.{is_among}
+use Rattle.roster_model.proofs.SetLemmas.{is_among-here}
 use Rattle.roster_legal.specs.Stepping.{IsLegalNext, IsNext, Stepped, with_next}
 use Rattle.roster_cost.specs.Amounts.{minutes_of_pairing}
 use Rattle.roster_lines.specs.declared.stem.Stem.{Stem}
 use Rattle.roster_lines.specs.Entries.{Entry, entry_of, longer, sets_of}
-use Rattle.roster_lines.specs.Listing.{AreAlone, AreFlights, ArePartsLegal, IsStem, IsUpTo, LineWith, NoneBehind, judged_as}
+use Rattle.roster_lines.specs.Listing.{AreFlights, ArePartsLegal, HoldOnly, IsStem, IsUpTo, LineWith, NoneBehind, judged_as}
 use Rattle.roster_lines.specs.Person.{AreCosted}
-use Rattle.roster_lines.proofs.Listed.{IsLine-with, no_line_behind, none_behind}
+use Rattle.roster_lines.proofs.Listed.{IsLine-with, among_behind, no_line_behind, none_behind}
 use Rattle.roster_lines.proofs.Marks.{IsUpTo-skip}
 use Rattle.roster_lines.proofs.TreeLemmas.{sets_of-push}
 
-pub line_there : (problem : Problem) (k : ℕ) (alone : List ℕ) (wants : List ℕ → Type 0) (stem : Stem) (p : ℕ) (found : Option Stepped) (longer : Stepped) → found ≡ Some longer → LineWith problem k alone wants stem p found → (longer ≡ judged_as problem k alone (stem.set ++ p ∷ [])) × IsLine problem k (stem.set ++ p ∷ [])
-line_there problem k alone wants stem p found longer is line = subst (LineWith problem k alone wants stem p) is line
+pub line_there : (problem : Problem) (k : ℕ) (wants : List ℕ → Type 0) (stem : Stem) (p : ℕ) (found : Option Stepped) (longer : Stepped) → found ≡ Some longer → LineWith problem k wants stem p found → (longer ≡ judged_as problem k stem.among (stem.set ++ p ∷ [])) × IsLine problem k (stem.set ++ p ∷ [])
+line_there problem k wants stem p found longer is line = subst (LineWith problem k wants stem p) is line
 
-pub no_line_there : (problem : Problem) (k : ℕ) (alone : List ℕ) (wants : List ℕ → Type 0) (stem : Stem) (p : ℕ) (found : Option Stepped) → found ≡ None → LineWith problem k alone wants stem p found → NoneBehind problem k wants stem.set p
-no_line_there problem k alone wants stem p found is line = subst (LineWith problem k alone wants stem p) is line
+pub no_line_there : (problem : Problem) (k : ℕ) (wants : List ℕ → Type 0) (stem : Stem) (p : ℕ) (found : Option Stepped) → found ≡ None → LineWith problem k wants stem p found → NoneBehind problem k wants stem.set p
+no_line_there problem k wants stem p found is line = subst (LineWith problem k wants stem p) is line
 
 module _ (problem : Problem) (k : ℕ) (wants : List ℕ → Type 0) (stem : Stem) (sets : List (List ℕ)) where
   -- up to the next candidate
-  pub up_to_candidate : (from p : ℕ) → IsStem problem k stem → IsUpTo problem k wants (stem.set ++ from ∷ []) sets → from ≤ p → ((q : ℕ) → from ≤ q → q < p → is_among stem.candidates q ≡ false) → IsUpTo problem k wants (stem.set ++ p ∷ []) sets
-  up_to_candidate from p is up later none =
+  pub up_to_candidate : (from p : ℕ) → IsStem problem k stem → HoldOnly problem k wants stem.among → IsUpTo problem k wants (stem.set ++ from ∷ []) sets → from ≤ p → ((q : ℕ) → from ≤ q → q < p → is_among stem.candidates q ≡ false) → IsUpTo problem k wants (stem.set ++ p ∷ []) sets
+  up_to_candidate from p is only up later none =
       IsUpTo-skip problem k wants sets stem.set from p up later (λ q rest l before line wanted.
-      both_ways _ (none q l before) (is.every q rest line))
+      let held = among_behind stem.set (q ∷ rest) q (is_among-here q rest) in
+      both_ways _ (none q l before) (is.every q rest line (only (stem.set ++ q ∷ rest) q line wanted held)))
 
   -- past a candidate behind which nothing is wanted
   pub past_candidate : (p : ℕ) → IsUpTo problem k wants (stem.set ++ p ∷ []) sets → NoneBehind problem k wants stem.set p → IsUpTo problem k wants (stem.set ++ (p + 1) ∷ []) sets
@@ -67,21 +69,21 @@ costs_pushed problem k lines new number p cost front pushed at is costs =
 -- ---- what is judged
 
 -- a candidate comes next,
-pub next_of : (problem : Problem) (k : ℕ) (alone : List ℕ) (stem : Stem) (p : ℕ) → AreAlone problem k alone → IsStem problem k stem → is_among stem.candidates p ≡ true → IsNext (judged_as problem k alone stem.set) p
-next_of problem k alone stem p are is here = record {
+pub next_of : (problem : Problem) (k : ℕ) (stem : Stem) (p : ℕ) → IsStem problem k stem → is_among stem.candidates p ≡ true → IsNext (judged_as problem k stem.among stem.set) p
+next_of problem k stem p is here = record {
   place = is.places p here;
-  alone = (are p).1 (is.places p here, is.single p here);
+  alone = is.known p here;
   behind = is.behind p here;
   single = is.single p here;
   pairs = λ q among. is.pairs p q here among;
 }
 
 -- and is a line where it is legal
-pub line_with_next : (problem : Problem) (k : ℕ) (alone : List ℕ) (wants : List ℕ → Type 0) (stem : Stem) (p : ℕ) (judged : Stepped) (found : Option Stepped) → ArePartsLegal problem k → judged ≡ judged_as problem k alone stem.set → IsStem problem k stem → is_among stem.candidates p ≡ true
-    → MatchOption found (¬ IsLegalNext judged p) (λ longer. (longer ≡ with_next judged p) × IsLegalNext judged p) → LineWith problem k alone wants stem p found
-line_with_next problem k alone wants stem p judged None legal same is here none =
+pub line_with_next : (problem : Problem) (k : ℕ) (wants : List ℕ → Type 0) (stem : Stem) (p : ℕ) (judged : Stepped) (found : Option Stepped) → ArePartsLegal problem k → judged ≡ judged_as problem k stem.among stem.set → IsStem problem k stem → is_among stem.candidates p ≡ true
+    → MatchOption found (¬ IsLegalNext judged p) (λ longer. (longer ≡ with_next judged p) × IsLegalNext judged p) → LineWith problem k wants stem p found
+line_with_next problem k wants stem p judged None legal same is here none =
     let P : Stepped → Type 0 = λ j. ¬ IsLegalNext j p in
     λ rest line wanted. no_line_behind problem k legal stem.set p (λ first. subst P same none first.legal) rest line
-line_with_next problem k alone wants stem p judged (Some longer) parts same is here (with_p, legal) =
+line_with_next problem k wants stem p judged (Some longer) parts same is here (with_p, legal) =
     let P : Stepped → Type 0 = λ j. IsLegalNext j p in
     (with_p ∙ ap (λ j. with_next j p) same, IsLine-with problem k stem p is here (subst P same legal))

@@ -29,6 +29,11 @@ abbrev pub AreAlone : Problem → ℕ → List ℕ → Type 0
 AreAlone problem k alone =
     (p : ℕ) → (is_among alone p ≡ true) ↔ ((p < length problem.pairings) × IsLegal problem k (p ∷ []))
 
+-- pairings that are legal alone
+abbrev pub AreLegalAlone : Problem → ℕ → List ℕ → Type 0
+AreLegalAlone problem k among =
+    (p : ℕ) → is_among among p ≡ true → (p < length problem.pairings) × IsLegal problem k (p ∷ [])
+
 -- the row of pairing p: the later ones that are legal together with it
 abbrev pub IsRow : Problem → ℕ → ℕ → List ℕ → Type 0
 IsRow problem k p row = (q : ℕ) → (is_among row q ≡ true) ↔ AreTogether problem k p q
@@ -57,21 +62,28 @@ pub record IsUpTo (problem : Problem) (k : ℕ) (wants : List ℕ → Type 0) (m
   pub before : All (λ set. places_le mark set ≡ false) sets
   pub every : (set : List ℕ) → IsLine problem k set → wants set → places_le mark set ≡ false → (i : ℕ) × (slice_get sets i ≡ Some set)
 
+-- the lines of person k that are wanted hold none but these pairings
+abbrev pub HoldOnly : Problem → ℕ → (List ℕ → Type 0) → List ℕ → Type 0
+HoldOnly problem k wants among =
+    (set : List ℕ) (p : ℕ) → IsLine problem k set → wants set → is_among set p ≡ true → is_among among p ≡ true
+
 -- The stem is a line with its units and flight, and its candidates are pairings that may stand behind it:
--- all that are behind it in some line. Each is legal alone, and with each pairing of it.
+-- of those that are looked at, all that are behind it in some line. Each is legal alone, and with each
+-- pairing of it.
 pub record IsStem (problem : Problem) (k : ℕ) (stem : Stem) : Type 0 where
   pub line : IsLine problem k stem.set
   pub units : stem.units ≡ total (units_of problem k) stem.set
   pub flight : stem.flight ≡ flight_of problem k stem.set
+  pub known : (p : ℕ) → is_among stem.candidates p ≡ true → is_among stem.among p ≡ true
   pub places : (p : ℕ) → is_among stem.candidates p ≡ true → p < length problem.pairings
   pub behind : (p : ℕ) → is_among stem.candidates p ≡ true → All (λ q. q < p) stem.set
   pub single : (p : ℕ) → is_among stem.candidates p ≡ true → IsLegal problem k (p ∷ [])
   pub pairs : (p q : ℕ) → is_among stem.candidates p ≡ true → is_among stem.set q ≡ true → IsLegal problem k (q ∷ p ∷ [])
-  pub every : (p : ℕ) (rest : List ℕ) → IsLine problem k (stem.set ++ p ∷ rest) → is_among stem.candidates p ≡ true
+  pub every : (p : ℕ) (rest : List ℕ) → IsLine problem k (stem.set ++ p ∷ rest) → is_among stem.among p ≡ true → is_among stem.candidates p ≡ true
 
--- what a judge of sets of person k knows of one
+-- what a judge of sets of person k knows of one, if it has looked at these pairings
 abbrev pub judged_as : Problem → ℕ → List ℕ → List ℕ → Stepped
-judged_as problem k alone set = record { loads = record { problem = problem; person = k; alone = alone }; set = set }
+judged_as problem k among set = record { loads = record { problem = problem; person = k; alone = among }; set = set }
 
 -- no line of person k that begins with the set and p behind it is wanted
 abbrev pub NoneBehind : Problem → ℕ → (List ℕ → Type 0) → List ℕ → ℕ → Type 0
@@ -79,7 +91,7 @@ NoneBehind problem k wants set p = (rest : List ℕ) → IsLine problem k (set +
 
 -- What is found of the stem with p behind: that line, or nothing, and then none that begins so is a line
 -- that is wanted.
-abbrev pub LineWith : Problem → ℕ → List ℕ → (List ℕ → Type 0) → Stem → ℕ → Option Stepped → Type 0
-LineWith problem k alone wants stem p found =
+abbrev pub LineWith : Problem → ℕ → (List ℕ → Type 0) → Stem → ℕ → Option Stepped → Type 0
+LineWith problem k wants stem p found =
     MatchOption found (NoneBehind problem k wants stem.set p)
-    (λ longer. (longer ≡ judged_as problem k alone (stem.set ++ p ∷ [])) × IsLine problem k (stem.set ++ p ∷ []))
+    (λ longer. (longer ≡ judged_as problem k stem.among (stem.set ++ p ∷ [])) × IsLine problem k (stem.set ++ p ∷ []))

@@ -5,7 +5,7 @@ ghost use Rattle.roster_model.specs.Lines.{AreLines};
 ghost use Rattle.roster_model.specs.Rules.{is_among};
 ghost use Rattle.roster_lines.specs.Between.{IsBetween};
 ghost use Rattle.roster_lines.specs.Entries.{sets_of};
-ghost use Rattle.roster_lines.specs.Listing.{ArePairs, ArePartsLegal, IsFlightWithin, IsStem, IsUpTo, LineWith, judged_as};
+ghost use Rattle.roster_lines.specs.Listing.{ArePairs, ArePartsLegal, HoldOnly, IsFlightWithin, IsStem, IsUpTo, LineWith, judged_as};
 ghost use Rattle.roster_lines.specs.Person.{AreCosted};
 ghost use Rattle.roster_lines.specs.SomeLines.{AreWantedLines, IsFaultOf, IsFaultWithin};
 
@@ -115,9 +115,9 @@ pub fn lines_of_pairs<W: Wanted>(
     ensures fault { IfErr result (IsFaultWithin problem.now k most) }
 {
     parts_are_legal(problem);
-    let loads = Loads::new(alloc, problem, k, pairs.alone)?;
+    let root = Stem::root(problem, k, wanted.among(&pairs.alone));
+    let loads = Loads::new(alloc, problem, k, root.among)?;
     let judged = JudgedSet::empty(alloc, &loads)?;
-    let root = Stem::root(problem, k, pairs.alone);
     let mut lines = Lines::empty(alloc, root.cost(problem, k))?;
     let mut spare = Spare::new(alloc);
     extend(
@@ -138,13 +138,14 @@ fn extend<W: Wanted>(
     stem: &Stem,
     lines: &mut Lines,
 ) -> Result<(), LinesFault>
-    requires judged { judged.now ≡ judged_as problem.now k pairs.now.alone stem.now.set }
+    requires judged { judged.now ≡ judged_as problem.now k stem.now.among stem.now.set }
     requires person { k < length problem.now.persons }
     requires limit { most ≤ MOST_LINES }
     requires parts { ArePartsLegal problem.now k }
     requires flown { IsFlightWithin problem.now k }
     requires pairs { ArePairs problem.now k pairs.now }
     requires stem { IsStem problem.now k stem.now }
+    requires only { HoldOnly problem.now k (W.wants wanted.now problem.now k) stem.now.among }
     requires number { slice_get (sets_of lines.old) stem.now.number ≡ Some stem.now.set }
     requires before { IsUpTo problem.now k (W.wants wanted.now problem.now k)
         (stem.now.set ++ 0 ∷ []) (sets_of lines.old) }
@@ -161,7 +162,7 @@ fn extend<W: Wanted>(
 {
     let mut from = 0;
     while let Some(p) = stem.candidates.first_from(from) {
-        if let Some(longer) = line_with(spare, judged, problem, k, wanted, pairs, stem, p)? {
+        if let Some(longer) = line_with(spare, judged, problem, k, wanted, stem, p)? {
             if lines.width() == most {
                 return Err(LinesFault::TooMany);
             }
@@ -185,18 +186,16 @@ fn line_with<'a, W: Wanted>(
     problem: &Problem,
     k: usize,
     wanted: &W,
-    pairs: &Pairs,
     stem: &Stem,
     p: usize,
 ) -> Result<Option<JudgedSet<'a>>, AllocError>
-    requires judged { judged.now ≡ judged_as problem.now k pairs.now.alone stem.now.set }
+    requires judged { judged.now ≡ judged_as problem.now k stem.now.among stem.now.set }
     requires person { k < length problem.now.persons }
     requires parts { ArePartsLegal problem.now k }
-    requires pairs { ArePairs problem.now k pairs.now }
     requires stem { IsStem problem.now k stem.now }
     requires candidate { is_among stem.now.candidates p ≡ true }
-    ensures { IfOk result (LineWith problem.now k pairs.now.alone
-        (W.wants wanted.now problem.now k) stem.now p) }
+    ensures { IfOk result
+        (LineWith problem.now k (W.wants wanted.now problem.now k) stem.now p) }
 {
     if !wanted.goes_on(problem, k, &stem.set, p, stem.units, stem.flight) {
         return Ok(None);

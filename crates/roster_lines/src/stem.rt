@@ -4,38 +4,40 @@ ghost use Rattle.std.specs.Prelude.{◌≡◌, ◌<◌, ◌+◌, ◌++◌, ◌�
 ghost use Rattle.roster_model.specs.Costs.{line_cost};
 ghost use Rattle.roster_model.specs.Lines.{IsLine};
 ghost use Rattle.roster_model.specs.Rules.{is_among};
-ghost use Rattle.roster_lines.specs.Listing.{AreAlone, ArePairs, ArePartsLegal, IsFlightWithin, IsStem};
+ghost use Rattle.roster_lines.specs.Listing.{AreLegalAlone, ArePairs, ArePartsLegal, IsFlightWithin, IsStem};
 
 use crate::pairs::Pairs;
 use roster_cost::{cost_at, fixed_flight, one_pairing_more, units_of_set};
 use roster_problem::{Problem, Set};
 
-/// A line by its number, with the pairings that may stand behind its own. Its cost units and the minutes
-/// of flight in the month, fixed duties included, are those of its set.
+/// A line by its number, with those of the pairings `among` that may stand behind its own. Its cost units
+/// and the minutes of flight in the month, fixed duties included, are those of its set.
 #[derive(Debug, Drop)]
 pub(crate) struct Stem {
     pub(crate) set: Set,
     pub(crate) number: usize,
+    pub(crate) among: Set,
     pub(crate) candidates: Set,
     pub(crate) units: i64,
     pub(crate) flight: u64,
 }
 
 impl Stem {
-    /// The empty line of person `k`, behind which each pairing may stand that is legal alone.
-    pub(crate) fn root(problem: &Problem, k: usize, alone: Set) -> Stem
+    /// The empty line of person `k`, behind which each of the pairings may stand: each is legal alone.
+    pub(crate) fn root(problem: &Problem, k: usize, among: Set) -> Stem
         requires person { k < length problem.now.persons }
-        requires parts { ArePartsLegal problem.now k }
-        requires alone { AreAlone problem.now k alone }
+        requires alone { AreLegalAlone problem.now k among }
         ensures stem { IsStem problem.now k result }
         ensures set { result.set ≡ [] }
         ensures number { result.number ≡ 0 }
+        ensures among { result.among ≡ among }
         ensures flown { IsFlightWithin problem.now k }
     {
         Stem {
             set: Set::empty(),
             number: 0,
-            candidates: alone,
+            among,
+            candidates: among,
             units: 0,
             flight: fixed_flight(problem, k),
         }
@@ -60,6 +62,7 @@ impl Stem {
         ensures stem { IsStem problem.now k result }
         ensures set { result.set ≡ self.now.set ++ p ∷ [] }
         ensures number { result.number ≡ number }
+        ensures among { result.among ≡ self.now.among }
     {
         units_of_set();
         one_pairing_more();
@@ -69,6 +72,7 @@ impl Stem {
         Stem {
             set,
             number,
+            among: self.among,
             candidates: self.candidates.and(&pairs.rows[p]),
             units: self.units + problem.units(k, p),
             flight: self.flight + pairs.flights[p],

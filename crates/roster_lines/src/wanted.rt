@@ -1,6 +1,6 @@
 //! Which lines of a person are wanted.
 
-ghost use Rattle.std.specs.Prelude.{◌≡◌, ◌<◌, ◌++◌, ◌∷◌, ◌||◌, ◌↔◌, ℕ, false, List, IsTrue, length};
+ghost use Rattle.std.specs.Prelude.{◌≡◌, ◌<◌, ◌++◌, ◌∷◌, ◌||◌, ◌↔◌, ℕ, true, false, List, IsTrue, length};
 ghost use Rattle.roster_model.specs.Costs.{flight_of, total};
 ghost use Rattle.roster_model.specs.Lines.{IsLine};
 ghost use Rattle.roster_model.specs.Problem.{Problem, units_of};
@@ -13,6 +13,13 @@ use roster_problem::{Problem, Set};
 pub trait Wanted {
     /// Whether the person at this place is to have the line.
     ghost wants: { Self → Problem → ℕ → List ℕ → Type 0 };
+
+    /// Those of the pairings that a line which is wanted may hold: no other is looked at.
+    fn among(&self, alone: &Set) -> Set
+        ensures within { (p : ℕ) → is_among result p ≡ true → is_among alone.now p ≡ true }
+        ensures held { (problem : Problem) (k : ℕ) (set : List ℕ) (p : ℕ)
+            → wants self.now problem k set → is_among set p ≡ true
+            → is_among alone.now p ≡ true → is_among result p ≡ true };
 
     /// Whether a line that begins with the set and pairing `p` behind it may be wanted, that one itself
     /// among them. The answer is `false` only if none of them is. The set, a line of person `k`, has so
@@ -42,6 +49,10 @@ pub(crate) struct Everything;
 impl Wanted for Everything {
     ghost wants = { λ everything problem k set. Unit };
 
+    fn among(&self, alone: &Set) -> Set {
+        *alone
+    }
+
     #[inline]
     fn goes_on(&self, _: &Problem, _: usize, _: &Set, _: usize, _: i64, _: u64) -> bool {
         true
@@ -61,12 +72,29 @@ pub struct Between {
 impl Wanted for Between {
     ghost wants = { λ between problem k set. IsBetween between.must between.may set };
 
+    fn among(&self, alone: &Set) -> Set {
+        alone.and(&joined(&self.must, &self.may))
+    }
+
     fn goes_on(&self, _: &Problem, _: usize, set: &Set, p: usize, _: i64, _: u64) -> bool {
         if !is_in_either(&self.must, &self.may, p) {
             return false;
         }
         has_before(set, &self.must, p)
     }
+}
+
+/// The pairings that are in one of the sets.
+fn joined(must: &Set, may: &Set) -> Set
+    ensures { (p : ℕ) → is_among result p ≡ (is_among must.now p || is_among may.now p) }
+{
+    let mut both = *must;
+    let mut from = 0;
+    while let Some(p) = may.first_from(from) {
+        both.put(p);
+        from = p + 1;
+    }
+    both
 }
 
 /// Whether pairing `p` is in one of the sets.

@@ -202,6 +202,10 @@ impl<'a> Wanted for Cheap<'a> {
 
     ghost wants = { λ cheap problem k set. IsCheap cheap problem k set };
 
+    fn among(&self, alone: &Set) -> Set {
+        *alone
+    }
+
     fn goes_on(&self, problem: &Problem, k: usize, set: &Set, p: usize, _: i64, _: u64) -> bool {
         part_of_legal_is_legal();
         flight_of_set();

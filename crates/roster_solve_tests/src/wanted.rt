@@ -22,6 +22,10 @@ struct Nothing;
 impl Wanted for Nothing {
     ghost wants = { λ nothing problem k set. ⊥ };
 
+    fn among(&self, alone: &Set) -> Set {
+        *alone
+    }
+
     fn goes_on(&self, _: &Problem, _: usize, _: &Set, _: usize, _: i64, _: u64) -> bool {
         false
     }

@@ -8,7 +8,7 @@ use Rattle.roster_model.specs.Lines.{IsLine}
 use Rattle.roster_model.specs.Places.{places_le}
 use Rattle.roster_model.proofs.SetLemmas.{length_within}
 use Rattle.roster_lines.specs.Entries.{Entry, sets_of}
-use Rattle.roster_lines.specs.Listing.{IsUpTo, judged_as}
+use Rattle.roster_lines.specs.Listing.{HoldOnly, IsUpTo, judged_as}
 use Rattle.roster_lines.specs.Person.{AreCosted}
 use Rattle.roster_lines.proofs.Marks.{get_push_new, get_push_old, HasMoreLines-push, IsUpTo-push, IsUpTo-return}
 use Rattle.roster_lines.proofs.Stems.{costs_pushed, line_there, no_line_there, longer_set, past_candidate, sets_pushed, up_to_candidate}
@@ -24,15 +24,15 @@ wants g t c = g.W.Wanted.wants c.args.wanted.now c.args.problem.now c.args.k
 -- the lines up to the candidate,
 up : (g : given.Over) (t : ℕ) (c : In-Some g t) → IsUpTo c.args.problem.now c.args.k (wants g t c) (c.args.stem.now.set ++ c.in-Some.p ∷ []) (sets_of c.loop-p.lines)
 up g t c =
-    up_to_candidate c.args.problem.now c.args.k (wants g t c) c.args.stem.now (sets_of c.loop-p.lines) c.loop-p.from c.in-Some.p c.requires.stem c.loop-p.invariant.lines c.in-Some.ensures.place.0 c.in-Some.ensures.least
+    up_to_candidate c.args.problem.now c.args.k (wants g t c) c.args.stem.now (sets_of c.loop-p.lines) c.loop-p.from c.in-Some.p c.requires.stem c.requires.only c.loop-p.invariant.lines c.in-Some.ensures.place.0 c.in-Some.ensures.least
 
 -- of which the stem's is still the one with its number,
 number : (g : given.Over) (t : ℕ) (c : In-Some g t) → slice_get (sets_of c.loop-p.lines) c.args.stem.now.number ≡ Some c.args.stem.now.set
 number g t c = c.loop-p.invariant.kept c.args.stem.now.number c.args.stem.now.set c.requires.number
 
 -- and what was found behind it: the stem's set with the candidate, a line
-found : (g : given.Over) (t : ℕ) (c : In-Some-2 g t) → (c.in-Some-2.longer ≡ judged_as c.args.problem.now c.args.k c.args.pairs.now.alone (c.args.stem.now.set ++ c.in-Some.p ∷ [])) × IsLine c.args.problem.now c.args.k (c.args.stem.now.set ++ c.in-Some.p ∷ [])
-found g t c = line_there c.args.problem.now c.args.k c.args.pairs.now.alone (g.W.Wanted.wants c.args.wanted.now c.args.problem.now c.args.k) c.args.stem.now c.in-Some.p c.in_ok-longer.field-0 c.in-Some-2.longer c.in-Some-2.is c.in_ok-longer.ensures
+found : (g : given.Over) (t : ℕ) (c : In-Some-2 g t) → (c.in-Some-2.longer ≡ judged_as c.args.problem.now c.args.k c.args.stem.now.among (c.args.stem.now.set ++ c.in-Some.p ∷ [])) × IsLine c.args.problem.now c.args.k (c.args.stem.now.set ++ c.in-Some.p ∷ [])
+found g t c = line_there c.args.problem.now c.args.k (g.W.Wanted.wants c.args.wanted.now c.args.problem.now c.args.k) c.args.stem.now c.in-Some.p c.in_ok-longer.field-0 c.in-Some-2.longer c.in-Some-2.is c.in_ok-longer.ensures
 
 pub returns-then-width-most-clause-fault : goal.returns-then-width-most-clause-fault
 returns-then-width-most-clause-fault g t c =
@@ -70,6 +70,7 @@ extend-requires g t c κs within =
     let at = (goal.at.extend-requires g t c).In-Some in
     let below = c.below-below.result in
     let made = c.below-below.ensures.set in
+    let same = c.below-below.ensures.among in
     let few = length_within stem.set p c.requires.stem.line.ascending (c.requires.stem.behind p place.2) in
     let deeper = ap length made ∙ length_push stem.set p in
     let fits : SFits w64 c.cost.result = search rules in
@@ -79,10 +80,11 @@ extend-requires g t c κs within =
     let here = ap (slice_get (sets_of c.push.new.self)) last ∙ ap (λ s. slice_get s (length (sets_of lines))) pushed ∙ get_push_new (sets_of lines) below.set in
     let before = subst (IsUpTo problem k wants (below.set ++ 0 ∷ [])) (sym pushed) (IsUpTo-push problem k wants (sets_of lines) below.set (subst (λ mark. IsUpTo problem k wants mark (sets_of lines)) (sym made) (up g t at)) c.below-below.ensures.stem.line) in
     let costs = costs_pushed problem k lines c.push.new.self stem.number p _ stem.set c.in_ok-push.ensures (number g t at) cost c.loop-p.invariant.costs in
-    let known = (found g t (goal.at.extend-requires g t c).In-Some-2).0 ∙ ap (judged_as problem k c.args.pairs.now.alone) (sym made) in
+    let known = (found g t (goal.at.extend-requires g t c).In-Some-2).0 ∙ ap (judged_as problem k stem.among) (sym made) ∙ ap (λ among. judged_as problem k among below.set) (sym same) in
+    let only = subst (HoldOnly problem k wants) (sym same) c.requires.only in
     let long = ap length c.in_ok-push.ensures ∙ length_push lines _ in
     let room : length c.push.new.self ≤ c.args.most = omega (arith, long, c.width.ensures.value, c.if-width-most.false, c.loop-p.invariant.few) in
-    (omega (arith, place.1), (within, (known, (c.requires.person, (c.requires.limit, (c.requires.parts, (c.requires.flown, (c.requires.pairs, (c.below-below.ensures.stem, (here, (before, (costs, room))))))))))))
+    (omega (arith, place.1), (within, (known, (c.requires.person, (c.requires.limit, (c.requires.parts, (c.requires.flown, (c.requires.pairs, (c.below-below.ensures.stem, (only, (here, (before, (costs, room)))))))))))))
 
 pub loop-p-preserved : goal.loop-p-preserved
 loop-p-preserved g t c =
@@ -112,7 +114,7 @@ loop-p-preserved g t c =
           let same = ap sets_of (sym w.lines-is) in
           record {
             within = omega arith;
-            lines = subst (IsUpTo problem k wants (stem.set ++ (p + 1) ∷ [])) same (past_candidate problem k wants stem (sets_of lines) p (up g t at) (no_line_there problem k c.args.pairs.now.alone wants stem p c.in_ok-longer.field-0 w.in_default-2.is c.in_ok-longer.ensures));
+            lines = subst (IsUpTo problem k wants (stem.set ++ (p + 1) ∷ [])) same (past_candidate problem k wants stem (sets_of lines) p (up g t at) (no_line_there problem k wants stem p c.in_ok-longer.field-0 w.in_default-2.is c.in_ok-longer.ensures));
             costs = subst (AreCosted problem k) (sym w.lines-is) c.loop-p.invariant.costs;
             few = subst (λ (lines : List Entry). length lines ≤ c.args.most) (sym w.lines-is) c.loop-p.invariant.few;
             kept = λ i s old. ap (λ sets. slice_get sets i) (sym same) ∙ c.loop-p.invariant.kept i s old;
@@ -123,4 +125,4 @@ pub returns-clause-lines : goal.returns-clause-lines
 returns-clause-lines g t c =
     let problem = c.args.problem.now in
     let stem = c.args.stem.now in
-    up_to_candidate problem c.args.k (g.W.Wanted.wants c.args.wanted.now problem c.args.k) stem (sets_of c.loop-p.lines) c.loop-p.from (length problem.pairings) c.requires.stem c.loop-p.invariant.lines c.loop-p.invariant.within (λ q l before. c.in_default.ensures.least q l)
+    up_to_candidate problem c.args.k (g.W.Wanted.wants c.args.wanted.now problem c.args.k) stem (sets_of c.loop-p.lines) c.loop-p.from (length problem.pairings) c.requires.stem c.requires.only c.loop-p.invariant.lines c.loop-p.invariant.within (λ q l before. c.in_default.ensures.least q l)

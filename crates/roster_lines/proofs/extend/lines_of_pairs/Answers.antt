@@ -1,19 +1,28 @@
-use Rattle.std.proofs.Common.{◌≡◌, ℕ, List, [], ◌∷◌, ◌++◌, length, Some, SFits, w64, sym, ap, subst, ◌∙◌, arith, rules}
+use Rattle.std.proofs.Common.{◌≡◌, ℕ, true, List, [], ◌∷◌, ◌++◌, length, Some, SFits, w64, sym, ap, subst, ◌∙◌, arith, rules}
 use Rattle.std.specs.Prelude.{slice_get}
 use Rattle.std.proofs.lemmas.Int.{to_z-of_z}
 use Rattle.std.proofs.lemmas.List.Elements.{All-cons, All-nil}
 use Rattle.roster_model.specs.Costs.{line_cost}
+use Rattle.roster_model.specs.Rules.{is_among}
 use Rattle.roster_lines.specs.Entries.{Entry, sets_of}
 use Rattle.roster_lines.specs.Listing.{IsUpTo}
 use Rattle.roster_lines.specs.Person.{AreCosted}
+use Rattle.roster_lines.proofs.Listed.{alone_of_line}
 use Rattle.roster_lines.proofs.Marks.{AreWantedLines-up_to, IsUpTo-empty}
 use Rattle.roster_lines.proofs.extend.lines_of_pairs.Goals as goal
 
-pub root-root-requires-clause-parts : goal.root-root-requires-clause-parts
-root-root-requires-clause-parts g c = c.parts_are_legal.ensures c.args.k
+pub root-root-requires-clause-alone : goal.root-root-requires-clause-alone
+root-root-requires-clause-alone g c p here = (c.requires.pairs.alone p).0 (c.among.ensures.within p here)
 
 pub extend-requires-clause-parts : goal.extend-requires-clause-parts
 extend-requires-clause-parts g c = c.parts_are_legal.ensures c.args.k
+
+pub extend-requires-clause-only : goal.extend-requires-clause-only
+extend-requires-clause-only g c set p line wanted here =
+    let problem = c.args.problem.now in
+    let alone = alone_of_line problem c.args.k (c.parts_are_legal.ensures c.args.k) c.args.pairs.now.alone set p c.requires.pairs.alone line here in
+    subst (λ among. is_among among p ≡ true) (sym c.root-root.ensures.among)
+    (c.among.ensures.held problem c.args.k set p wanted here alone)
 
 pub extend-requires-clause-number : goal.extend-requires-clause-number
 extend-requires-clause-number g c =
