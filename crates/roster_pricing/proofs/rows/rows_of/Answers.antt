@@ -2,6 +2,7 @@ use Rattle.std.proofs.Common.{◌≡◌, ℕ, ◌+◌, ◌-◌, ◌*◌, ◌<◌
 use Rattle.std.specs.Prelude.{All, slice_get}
 use Rattle.std.proofs.lemmas.List.{length_push}
 use Rattle.std.proofs.lemmas.Option.{get_or_from_slice_get, slice_get-get_or}
+use Rattle.roster_model.specs.Problem.{Problem}
 use Rattle.roster_model.specs.Rules.{is_among}
 use Rattle.roster_cost.specs.Amounts.{IsWithin}
 use Rattle.roster_pricing.specs.declared.network.Network.{Network}
@@ -15,9 +16,15 @@ use Rattle.roster_pricing.proofs.rows.rows_of.Goals as goal
 found_at : {X : Type 0} (xs : List X) (i j : ℕ) (found : X) → found ≡ get_or xs i found → i ≡ j → j < length xs → slice_get xs j ≡ Some found
 found_at xs i j found is same inside = slice_get-get_or xs j found inside ∙ ap Some (sym (is ∙ ap (λ n. get_or xs n found) same))
 
-followers_found : (network : Network) (i p : ℕ) (found : List ℕ) → found ≡ get_or network.followers.items i found → i ≡ p → p < length network.followers.items
-    → found ≡ followers_of network.followers.items p
-followers_found network i p found is same inside = sym (get_or_from_slice_get network.followers.items p found [] (found_at network.followers.items i p found is same inside))
+-- the followers that are found so far behind, of so many pairings, are those of the pairing there
+followers_found : (problem : Problem) (network : Network) (count back : ℕ) (found : List ℕ) → count ≡ length problem.pairings
+    → length network.followers.items ≡ length problem.pairings → back < length problem.pairings
+    → found ≡ get_or network.followers.items (count - 1 - back) found
+    → found ≡ followers_of network.followers.items (length problem.pairings - 1 - back)
+followers_found problem network count back found is covers below at =
+    let p : ℕ = length problem.pairings - 1 - back in
+    sym (get_or_from_slice_get network.followers.items p found []
+    (found_at network.followers.items (count - 1 - back) p found at (omega (arith, is)) (omega (arith, covers, below))))
 
 pub loop-back-init : goal.loop-back-init
 loop-back-init c =
@@ -44,7 +51,7 @@ behind c q among =
     let count = ap length c.pairings-count.ensures.value in
     let p : ℕ = length problem.pairings - 1 - c.loop-back.back in
     let below : c.loop-back.back < length problem.pairings = omega (arith, count, c.loop-back-test.true) in
-    let followers = followers_found network (length c.pairings-count.result.now - 1 - c.loop-back.back) p c.index.result.now c.index.ensures (omega (arith, count)) (omega (arith, c.requires.network.covers, below)) in
+    let followers = followers_found problem network (length c.pairings-count.result.now) c.loop-back.back c.index.result.now count c.requires.network.covers below c.index.ensures in
     follower_alone problem c.args.k network
     (λ whole part parts legal. c.part_of_legal_is_legal.ensures problem c.args.k whole part c.is_sound.ensures.ordered c.is_sound.ensures.timed parts legal)
     c.requires.network p q (omega (arith, below)) (subst (λ row. is_among row q ≡ true) followers among)
@@ -90,8 +97,7 @@ loop-back-preserved c =
     let count = ap length c.pairings-count.ensures.value in
     let p : ℕ = length problem.pairings - 1 - c.loop-back.back in
     let below : c.loop-back.back < length problem.pairings = omega (arith, count, c.loop-back-test.true) in
-    let is_p : length c.pairings-count.result.now - 1 - c.loop-back.back ≡ p = omega (arith, count) in
-    let followers = followers_found network (length c.pairings-count.result.now - 1 - c.loop-back.back) p c.index.result.now c.index.ensures is_p (omega (arith, c.requires.network.covers, below)) in
+    let followers = followers_found problem network (length c.pairings-count.result.now) c.loop-back.back c.index.result.now count c.requires.network.covers below c.index.ensures in
     let row = subst (λ first. IsRow network values first c.in_ok-row.row) followers c.in_ok-row.ensures.row in
     let most : ℕ = MOST_TERM + (length c.loop-back.rows.items + 1) * MOST_VALUE in
     let within : All (IsWithin most) c.in_ok-row.row = subst (λ rs. All (IsWithin (MOST_TERM + (length rs + 1) * MOST_VALUE)) c.in_ok-row.row) c.deref.ensures.value c.in_ok-row.ensures.within in
