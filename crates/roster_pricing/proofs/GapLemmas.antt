@@ -19,7 +19,7 @@ use Rattle.roster_lines.specs.Person.{lines_at, IsOfTable}
 use Rattle.roster_pricing.specs.declared.network.Network.{Network}
 use Rattle.roster_pricing.specs.Chains.{followers_of, next_state, value_at, IsChain}
 use Rattle.roster_pricing.specs.Gaps.{AreCheapOf, IsAlong, IsLeastBehind}
-use Rattle.roster_pricing.specs.Homes.{IsHome}
+use Rattle.roster_pricing.specs.Homes.{EachHomeRoster, IsHome}
 use Rattle.roster_pricing.specs.Looks.{AreLeasts, IsLook}
 use Rattle.roster_pricing.specs.Networks.{AreRows}
 use Rattle.roster_pricing.specs.Reduced.{price_at, reduced, reduced_costs, shares_behind, IsLeastOf}
@@ -61,7 +61,7 @@ leasts_none problem prices base = record {
 
 -- nothing that is small, and that the reduced cost of person k isn't below in a roster of the base
 pub record IsLeastIn (problem : Problem) (prices : List ℤ) (base k : ℕ) (least : ℤ) : Type 0 where
-  pub below : (places : List ℕ) → IsLegalRoster problem places → IsHome problem base places → least ≤ℤ reduced problem prices k (set_of k places)
+  pub below : EachHomeRoster problem base (λ places. least ≤ℤ reduced problem prices k (set_of k places))
   pub within : IsWithin MOST_LEAST least
 
 -- what is so of all lines is so of those of rosters
@@ -104,7 +104,7 @@ leasts_more problem prices base k sum least each are is = record {
 -- above the least
 pub look_is : (problem : Problem) (prices : List ℤ) (base : ℕ) (sum terms units : ℤ) (each : List ℤ) → ((places : List ℕ) → IsLegalRoster problem places → IsShared problem places) → ((places : List ℕ) → IsLegalRoster problem places → IsPriced problem prices places)
     → AreLeasts problem prices base (length problem.persons) sum each
-    → ((places : List ℕ) → IsLegalRoster problem places → IsHome problem base places → terms ≤ℤ shares_behind problem prices 0 places)
+    → EachHomeRoster problem base (λ places. terms ≤ℤ shares_behind problem prices 0 places)
     → ((more : ℤ) → (sum +ℤ terms) ≤ℤ (pos PARTS *ℤ more) → units ≤ℤ more)
     → (pos PARTS *ℤ units) ≤ℤ ((sum +ℤ terms) +ℤ pos PARTS)
     → IsLook problem prices base (cost_without_pairings problem +ℤ units) each
@@ -132,11 +132,12 @@ cheap_enough problem prices leasts base bound least limit gap k places look rost
 -- for each of the first persons the table has the lines of cheap rosters of the base
 abbrev pub HasCheap : Problem → ℕ → ℤ → ℕ → List (List Entry) → ℕ → Type 0
 HasCheap problem base bound gap table count =
-    (places : List ℕ) → IsLegalRoster problem places → IsHome problem base places → cost_of problem places ≤ℤ (bound +ℤ pos gap)
-    → (k : ℕ) → k < count → (i : ℕ) × (slice_get (sets_of (lines_at table k)) i ≡ Some (set_of k places))
+    EachHomeRoster problem base (λ places. cost_of problem places ≤ℤ (bound +ℤ pos gap)
+    → (k : ℕ) → k < count → (i : ℕ) × (slice_get (sets_of (lines_at table k)) i ≡ Some (set_of k places)))
 
 pub cheap_more : (problem : Problem) (base : ℕ) (bound : ℤ) (gap k : ℕ) (table : List (List Entry)) (lines : List Entry) → length table ≡ k → HasCheap problem base bound gap table k
-    → ((places : List ℕ) → IsLegalRoster problem places → IsHome problem base places → cost_of problem places ≤ℤ (bound +ℤ pos gap) → (i : ℕ) × (slice_get (sets_of lines) i ≡ Some (set_of k places)))
+    → EachHomeRoster problem base (λ places. cost_of problem places ≤ℤ (bound +ℤ pos gap)
+    → (i : ℕ) × (slice_get (sets_of lines) i ≡ Some (set_of k places)))
     → HasCheap problem base bound gap (table ++ lines ∷ []) (k + 1)
 cheap_more problem base bound gap k table lines long before here places roster home cost j inside =
     elim (cases_eq j k) [

@@ -16,7 +16,7 @@ use Rattle.roster_model.specs.declared.limits.TheConstants.{MOST_PERSONS}
 use Rattle.roster_cost.specs.Amounts.{cost_without_pairings, IsWithin}
 use Rattle.roster_cost.specs.Priced.{penalties_and_prices, reduced_cost}
 use Rattle.roster_pricing.specs.declared.parts.TheConstants.{MOST_LEAST, PARTS}
-use Rattle.roster_pricing.specs.Homes.{IsHome, IsHomeBound}
+use Rattle.roster_pricing.specs.Homes.{EachHomeRoster, IsHome, IsHomeBound}
 use Rattle.roster_pricing.specs.Reduced.{price_at, reduced, reduced_costs, shares_behind, IsTermOf}
 use Rattle.roster_pricing.proofs.HomeLemmas.{open_elsewhere}
 
@@ -112,8 +112,8 @@ parts_of_cost problem prices places shared priced =
 
 -- so one of the base costs at least what sums say that are no more than these
 pub bound_below : (problem : Problem) (prices : List ℤ) (base : ℕ) (leasts terms units : ℤ) → ((places : List ℕ) → IsLegalRoster problem places → IsShared problem places) → ((places : List ℕ) → IsLegalRoster problem places → IsPriced problem prices places)
-    → ((places : List ℕ) → IsLegalRoster problem places → IsHome problem base places → leasts ≤ℤ reduced_costs problem prices (length problem.persons) places)
-    → ((places : List ℕ) → IsLegalRoster problem places → IsHome problem base places → terms ≤ℤ shares_behind problem prices 0 places)
+    → EachHomeRoster problem base (λ places. leasts ≤ℤ reduced_costs problem prices (length problem.persons) places)
+    → EachHomeRoster problem base (λ places. terms ≤ℤ shares_behind problem prices 0 places)
     → ((more : ℤ) → (leasts +ℤ terms) ≤ℤ (pos PARTS *ℤ more) → units ≤ℤ more)
     → IsHomeBound problem base (cost_without_pairings problem +ℤ units)
 bound_below problem prices base leasts terms units shared priced persons pairings least places roster home =

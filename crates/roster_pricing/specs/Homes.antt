@@ -11,6 +11,11 @@ abbrev pub IsHome : Problem → ℕ → List ℕ → Type 0
 IsHome problem base places =
     (k : ℕ) (person : Person) → slice_get problem.persons k ≡ Some person → person.base ≢ base → set_of k places ≡ []
 
--- no legal roster in which only persons of the base fly costs less
+-- so it is with each legal roster in which only persons of the base fly
+abbrev pub EachHomeRoster : Problem → ℕ → (List ℕ → Type 0) → Type 0
+EachHomeRoster problem base Holds =
+    (places : List ℕ) → IsLegalRoster problem places → IsHome problem base places → Holds places
+
+-- none of them costs less
 abbrev pub IsHomeBound : Problem → ℕ → ℤ → Type 0
-IsHomeBound problem base bound = (places : List ℕ) → IsLegalRoster problem places → IsHome problem base places → bound ≤ℤ cost_of problem places
+IsHomeBound problem base bound = EachHomeRoster problem base (λ places. bound ≤ℤ cost_of problem places)

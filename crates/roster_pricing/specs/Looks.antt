@@ -3,13 +3,12 @@ use Rattle.std.specs.Prelude.{◌≡◌, ℕ, zero, suc, ◌+◌, ◌*◌, ◌<�
 use Rattle.roster_model.specs.Costs.{cost_of}
 use Rattle.roster_model.specs.Places.{set_of}
 use Rattle.roster_model.specs.Problem.{Problem}
-use Rattle.roster_model.specs.Rosters.{IsLegalRoster}
 use Rattle.roster_model.specs.records.Crew.{Person}
 use Rattle.roster_cost.specs.Amounts.{IsWithin}
 use Rattle.roster_pricing.specs.declared.parts.TheConstants.{MOST_LEAST, PARTS}
 use Rattle.roster_pricing.specs.Chains.{value_at}
 use Rattle.roster_pricing.specs.declared.persons.Seen.{Seen}
-use Rattle.roster_pricing.specs.Homes.{IsHome, IsHomeBound}
+use Rattle.roster_pricing.specs.Homes.{EachHomeRoster, IsHomeBound}
 use Rattle.roster_pricing.specs.Reduced.{reduced, reduced_costs, ArePrices, IsLeastOf}
 
 -- the place of a person's base
@@ -33,9 +32,10 @@ pub record AreLeasts (problem : Problem) (prices : List ℤ) (base count : ℕ) 
   pub covers : length each ≡ count
   pub small : All (IsWithin MOST_LEAST) each
   pub within : IsWithin (count * MOST_LEAST) sum
-  pub below : (places : List ℕ) → IsLegalRoster problem places → IsHome problem base places → sum ≤ℤ reduced_costs problem prices count places
-  pub near : (places : List ℕ) → IsLegalRoster problem places → IsHome problem base places → (k : ℕ) → k < count
-      → (reduced problem prices k (set_of k places) -ℤ value_at each k) ≤ℤ (reduced_costs problem prices count places -ℤ sum)
+  pub below : EachHomeRoster problem base (λ places. sum ≤ℤ reduced_costs problem prices count places)
+  pub near : EachHomeRoster problem base (λ places. (k : ℕ) → k < count
+      → (reduced problem prices k (set_of k places) -ℤ value_at each k)
+      ≤ℤ (reduced_costs problem prices count places -ℤ sum))
 
 -- the look at person k tells what none of its lines is below in reduced cost, unless memory ran out
 abbrev pub IsSeen : Problem → List ℤ → ℕ → Seen → Type 0
@@ -52,9 +52,9 @@ pub record IsLook (problem : Problem) (prices : List ℤ) (base : ℕ) (bound : 
   pub bounded : IsHomeBound problem base bound
   pub covers : length leasts ≡ length problem.persons
   pub small : All (IsWithin MOST_LEAST) leasts
-  pub near : (places : List ℕ) → IsLegalRoster problem places → IsHome problem base places → (k : ℕ) → k < length problem.persons
+  pub near : EachHomeRoster problem base (λ places. (k : ℕ) → k < length problem.persons
       → (reduced problem prices k (set_of k places) -ℤ value_at leasts k)
-      ≤ℤ (pos PARTS *ℤ ((cost_of problem places -ℤ bound) +ℤ pos 1))
+      ≤ℤ (pos PARTS *ℤ ((cost_of problem places -ℤ bound) +ℤ pos 1)))
 
 -- a problem, one of its bases, and what no roster of the base costs less than
 pub record Bounded : Type 0 where

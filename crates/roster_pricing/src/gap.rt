@@ -6,11 +6,10 @@
 
 ghost use Rattle.std.specs.Prelude.{◌≡◌, ◌<◌, ◌≤◌, ◌*◌, ◌+ℤ◌, ◌*ℤ◌, ◌≤ℤ◌, ℕ, pos, All, IfOk, List, length};
 ghost use Rattle.roster_model.specs.Costs.{cost_of};
-ghost use Rattle.roster_model.specs.Rosters.{IsLegalRoster};
 ghost use Rattle.roster_cost.specs.Amounts.{IsWithin};
 ghost use Rattle.roster_lines.specs.Person.{AreListed, IsOfTable};
 ghost use Rattle.roster_pricing.specs.Gaps.{AreCheapOf, IsAlong, IsLeastBehind, IsTabled};
-ghost use Rattle.roster_pricing.specs.Homes.{IsHome};
+ghost use Rattle.roster_pricing.specs.Homes.{EachHomeRoster, IsHome};
 ghost use Rattle.roster_pricing.specs.Looks.{IsLook};
 ghost use Rattle.roster_pricing.specs.Networks.{AreRows, IsNetwork};
 ghost use Rattle.roster_pricing.specs.Reduced.{ArePrices};
@@ -43,9 +42,8 @@ pub(crate) fn lines_of_gap(
     requires look { IsLook pricing.now prices.now base bound leasts.now }
     requires limit { (0 < most) × (most ≤ MOST_LINES) }
     ensures listed { IfOk result (AreListed pricing.now) }
-    ensures all { IfOk result (λ table. (places : List ℕ) → IsLegalRoster pricing.now places
-        → IsHome pricing.now base places
-        → cost_of pricing.now places ≤ℤ (bound +ℤ pos gap) → IsOfTable table places) }
+    ensures all { IfOk result (λ table. EachHomeRoster pricing.now base (λ places.
+        cost_of pricing.now places ≤ℤ (bound +ℤ pos gap) → IsOfTable table places)) }
     ensures home { IfOk result (λ table. (places : List ℕ)
         → IsOfTable table places → IsHome pricing.now base places) }
 {

@@ -1,13 +1,12 @@
 //! Lower bounds by dual prices.
 
-ghost use Rattle.std.specs.Prelude.{◌≡◌, ◌⊎◌, ◌<◌, ◌*◌, ◌≤ℤ◌, ◌+ℤ◌, ◌-ℤ◌, ◌*ℤ◌, ℕ, ℤ, pos, IfOk, List, Some, length, slice_get};
+ghost use Rattle.std.specs.Prelude.{◌≡◌, ◌⊎◌, ◌<◌, ◌*◌, ◌≤ℤ◌, ◌+ℤ◌, ◌-ℤ◌, ◌*ℤ◌, ℤ, pos, IfOk, Some, length, slice_get};
 ghost use Rattle.roster_lines.specs.Listing.{AreAllPairs, ArePairs};
 ghost use Rattle.roster_model.specs.Problem.{units_of};
 ghost use Rattle.roster_model.specs.records.Pairing.{Pairing};
-ghost use Rattle.roster_model.specs.Rosters.{IsLegalRoster};
 ghost use Rattle.roster_cost.specs.Amounts.{IsWithin};
 ghost use Rattle.roster_pricing.specs.Networks.{AreRows, AreValues, IsNetwork};
-ghost use Rattle.roster_pricing.specs.Homes.{IsHome};
+ghost use Rattle.roster_pricing.specs.Homes.{EachHomeRoster};
 ghost use Rattle.roster_pricing.specs.Looks.{AreLeasts, ArePersonsOf, IsLook};
 ghost use Rattle.roster_pricing.specs.Reduced.{shares_behind, ArePrices, IsLeastOf, IsTermOf};
 
@@ -301,9 +300,8 @@ fn value_of(problem: &Problem, k: usize, p: usize, price: i64) -> i64
 /// What all pairings bring at least to a roster of the base.
 fn sum_of_terms(problem: &Problem, base: usize, prices: &[i64]) -> i64
     requires { ArePrices problem.now prices.now }
-    ensures least { (places : List ℕ) → IsLegalRoster problem.now places
-        → IsHome problem.now base places
-        → result ≤ℤ shares_behind problem.now prices.now 0 places }
+    ensures least { EachHomeRoster problem.now base (λ places.
+        result ≤ℤ shares_behind problem.now prices.now 0 places) }
     ensures within { IsWithin (MOST_PAIRINGS * MOST_PRICE) result }
 {
     problem.is_sound();

@@ -2,10 +2,9 @@
 
 ghost use Rattle.std.specs.Prelude.{◌≡◌, ◌<◌, ◌≤◌, ◌≤ℤ◌, ◌+ℤ◌, ℕ, pos, IfOk, List};
 ghost use Rattle.roster_model.specs.Costs.{cost_of};
-ghost use Rattle.roster_model.specs.Rosters.{IsLegalRoster};
 ghost use Rattle.roster_cost.specs.Amounts.{IsWithin};
 ghost use Rattle.roster_lines.specs.Person.{AreListed, IsOfTable};
-ghost use Rattle.roster_pricing.specs.Homes.{IsHome, IsHomeBound};
+ghost use Rattle.roster_pricing.specs.Homes.{EachHomeRoster, IsHome, IsHomeBound};
 ghost use Rattle.roster_pricing.specs.Looks.{IsLook};
 ghost use Rattle.roster_pricing.specs.Reduced.{ArePrices};
 
@@ -137,11 +136,9 @@ impl<'a> PricedBound<'a> {
     pub fn lines_within(&self, alloc: Global, gap: u32, most: usize) -> Result<Table, TableFault>
         requires { (0 < most) × (most ≤ MOST_LINES) }
         ensures listed { IfOk result (AreListed self.now.problem) }
-        ensures all { IfOk result (λ table. (places : List ℕ)
-            → IsLegalRoster self.now.problem places
-            → IsHome self.now.problem self.now.base places
-            → cost_of self.now.problem places ≤ℤ (self.now.bound +ℤ pos gap)
-            → IsOfTable table places) }
+        ensures all { IfOk result (λ table. EachHomeRoster self.now.problem self.now.base (λ places.
+            cost_of self.now.problem places ≤ℤ (self.now.bound +ℤ pos gap)
+            → IsOfTable table places)) }
         ensures home { IfOk result (λ table. (places : List ℕ)
             → IsOfTable table places → IsHome self.now.problem self.now.base places) }
     {

@@ -1,10 +1,9 @@
-use Rattle.std.proofs.Common.{◌≡◌, ℕ, ◌+◌, ◌<◌, List, [], ◌∷◌, ◌++◌, length, Some, refl, ap, subst, sym, ◌∙◌, arith, ℤ, ◌+ℤ◌, ◌*ℤ◌, ◌≤ℤ◌, pos, w64, to_z, of_z, FitsSigned, rules}
+use Rattle.std.proofs.Common.{◌≡◌, ℕ, ◌+◌, ◌<◌, [], ◌∷◌, ◌++◌, length, Some, refl, ap, subst, sym, ◌∙◌, arith, ℤ, ◌+ℤ◌, ◌*ℤ◌, ◌≤ℤ◌, pos, w64, to_z, of_z, FitsSigned, rules}
 use Rattle.std.proofs.lemmas.Int.{to_z-of_z}
 use Rattle.std.proofs.lemmas.List.{length_push}
 use Rattle.std.specs.Prelude.{◌≢◌, slice_get}
 use Rattle.roster_model.specs.Costs.{cost_of}
 use Rattle.roster_model.specs.Places.{set_of}
-use Rattle.roster_model.specs.Rosters.{IsLegalRoster}
 use Rattle.roster_model.specs.records.Crew.{Person}
 use Rattle.roster_model.proofs.PushLemmas.{each-push}
 use Rattle.roster_cost.specs.Amounts.{IsWithin}
@@ -13,7 +12,7 @@ use Rattle.roster_lines.specs.Person.{AreListedOf}
 use Rattle.roster_lines.specs.WantedTables.{AreListedSoFar}
 use Rattle.roster_pricing.specs.declared.parts.TheConstants.{MOST_LEAST, PARTS}
 use Rattle.roster_pricing.specs.Chains.{value_at}
-use Rattle.roster_pricing.specs.Homes.{IsHome}
+use Rattle.roster_pricing.specs.Homes.{EachHomeRoster}
 use Rattle.roster_pricing.specs.Reduced.{reduced}
 use Rattle.roster_pricing.proofs.GapLemmas.{cheap_enough, cheap_given, cheap_more, none_flies, HasCheap, HasNone}
 use Rattle.roster_pricing.proofs.gap.lines_of_gap.Goals as goal
@@ -39,7 +38,8 @@ loop-k-preserved c =
     let least_told : to_z w64 (of_z w64 least) ≡ least = to_z-of_z w64 least least_fits in
     let limit_fits : FitsSigned w64 c.limit_of-limit.result = search rules in
     let limit_told : to_z w64 (of_z w64 c.limit_of-limit.result) ≡ c.limit_of-limit.result = to_z-of_z w64 c.limit_of-limit.result limit_fits in
-    let here : (places : List ℕ) → IsLegalRoster problem places → IsHome problem base places → cost_of problem places ≤ℤ (to_z w64 (of_z w64 bound) +ℤ pos c.args.gap) → (i : ℕ) × (slice_get (sets_of lines) i ≡ Some (set_of k places)) = λ places roster home cost.
+    let here : EachHomeRoster problem base (λ places. cost_of problem places ≤ℤ (to_z w64 (of_z w64 bound) +ℤ pos c.args.gap)
+    → (i : ℕ) × (slice_get (sets_of lines) i ≡ Some (set_of k places))) = λ places roster home cost.
     let limit : reduced problem c.args.prices.now k (set_of k places) ≤ℤ to_z w64 (of_z w64 c.limit_of-limit.result) =
     cheap_enough problem c.args.prices.now c.args.leasts.now base bound least (to_z w64 (of_z w64 c.limit_of-limit.result)) c.args.gap k places c.requires.look roster home person
     (subst (λ z. cost_of problem places ≤ℤ (z +ℤ pos c.args.gap)) bound_told cost) refl

@@ -1,8 +1,7 @@
-use Rattle.std.proofs.Common.{◌≡◌, ℕ, List, subst, ap, ◌∙◌, arith, ℤ, ◌+ℤ◌, ◌≤ℤ◌, w64, to_z, of_z, FitsSigned, rules}
+use Rattle.std.proofs.Common.{◌≡◌, subst, ap, ◌∙◌, arith, ℤ, ◌+ℤ◌, ◌≤ℤ◌, w64, to_z, of_z, FitsSigned, rules}
 use Rattle.std.proofs.lemmas.Int.{ints, to_z-of_z}
-use Rattle.roster_model.specs.Rosters.{IsLegalRoster}
 use Rattle.roster_cost.specs.Amounts.{cost_without_pairings}
-use Rattle.roster_pricing.specs.Homes.{IsHome}
+use Rattle.roster_pricing.specs.Homes.{EachHomeRoster}
 use Rattle.roster_pricing.specs.Looks.{IsLook}
 use Rattle.roster_pricing.specs.Reduced.{price_at, shares_behind}
 use Rattle.roster_pricing.proofs.GapLemmas.{look_is}
@@ -36,8 +35,8 @@ returns-clause-look g c =
     let whole : ℤ = to_z w64 (of_z w64 idle) +ℤ to_z w64 (of_z w64 units) in
     let whole_fits : FitsSigned w64 whole = search rules in
     let whole_told : to_z w64 (of_z w64 whole) ≡ whole = to_z-of_z w64 whole whole_fits in
-    let below : (places : List ℕ) → IsLegalRoster problem places → IsHome problem c.args.base places → terms ≤ℤ shares_behind problem prices 0 places =
-    subst (λ p. (places : List ℕ) → IsLegalRoster p places → IsHome p c.args.base places → terms ≤ℤ shares_behind p prices 0 places) same c.sum_of_terms-terms.ensures.least in
+    let below : EachHomeRoster problem c.args.base (λ places. terms ≤ℤ shares_behind problem prices 0 places) =
+    subst (λ p. EachHomeRoster p c.args.base (λ places. terms ≤ℤ shares_behind p prices 0 places)) same c.sum_of_terms-terms.ensures.least in
     let idle_is : idle ≡ cost_without_pairings problem = c.cost_without_pairings.ensures.value ∙ ap cost_without_pairings same in
     let near = c.in_units.ensures.near in
     let look = look_is problem prices c.args.base leasts terms units c.in_ok-leasts.leasts.each.items
