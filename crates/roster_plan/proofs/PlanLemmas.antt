@@ -9,7 +9,7 @@ use Rattle.roster_model.proofs.KeyLemmas.{key_le-trans}
 use Rattle.roster_model.proofs.RosterLemmas.{all_open_legal}
 
 -- a legal roster with its cost
-held : (problem : Problem) (places : List ℕ) (key : Key) → key ≡ key_of problem places → IsLegalRoster problem places → IsHeld problem key
+pub held : (problem : Problem) (places : List ℕ) (key : Key) → key ≡ key_of problem places → IsLegalRoster problem places → IsHeld problem key
 held problem places key is legal = subst (IsHeld problem) (sym is) (record { legal = legal; cost = refl })
 
 -- one of two that are held is held

@@ -7,3 +7,4 @@ pub mod Planned
 pub mod Attempts
 pub mod Parts
 pub mod Months
+pub mod Runs

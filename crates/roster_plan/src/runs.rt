@@ -1,21 +1,20 @@
-//! Runs of changes to a roster: each begins with it and has chances of its own, and several threads do them at
-//! once.
+//! Runs of changes to a roster: each begins with it and has chances of its own, and several threads do them
+//! at once.
 
 ghost use Rattle.std.specs.Prelude.{◌≡◌, ◌<◌, IfOk};
 ghost use Rattle.roster_model.specs.Rosters.{IsLegalRoster};
 ghost use Rattle.roster_model.specs.Settled.{IsHeld};
 ghost use Rattle.roster_plan.specs.Months.{IsMonth, IsMonthFrom};
+ghost use Rattle.roster_plan.specs.Runs.{AreDone, IsDone};
 
 use crate::changes::Change;
 use crate::draft::Draft;
-use crate::known::places_of;
+use crate::known::{costed, places_of};
 use crate::means::{MOST_EFFORT, Means};
 use crate::months::Month;
 use crate::parts::Part;
 use crate::search::Search;
-use crate::together::joined;
 use crate::watching::{Step, Watcher};
-use roster_cost::keys_are_in_order;
 use roster_problem::{Problem, Roster};
 use std::alloc::{AllocError, Global};
 use std::thread::{Threads, for_each_mut};
@@ -54,18 +53,24 @@ pub(crate) fn improved_by_runs<R: Threads + Sync, W: Watcher>(
     requires workers { 0 < means.now.workers }
     ensures { IfOk result (IsMonthFrom problem.now start.planned.roster) }
 {
-    keys_are_in_order();
     let before = start.planned.roster.copy(alloc)?;
     let mut runs = runs_ahead(alloc)?;
     run_all(rt, alloc, problem, &before, &start.parts, means, &mut runs);
     let mut month = start;
     for run in runs {
-        let places = run.found?;
-        let known = before.copy(alloc)?;
-        let found = joined(alloc, problem, places_of(&before), &places, known)?;
+        let found = roster_of(problem, run)?;
         month = month.renewed(alloc, problem, &found, Step::Changes, watcher)?;
     }
     Ok(month)
+}
+
+/// The roster that a run came to.
+fn roster_of(problem: &Problem, run: Run) -> Result<Roster, AllocError>
+    requires { IsDone problem.now run }
+    ensures { IfOk result (IsHeld problem.now) }
+{
+    let places = run.found?;
+    Ok(costed(problem, places))
 }
 
 /// The runs, not yet done.
@@ -92,9 +97,11 @@ fn run_all<R: Threads + Sync>(
 )
     requires held { IsHeld problem.now before.now }
     requires workers { 0 < means.now.workers }
+    ensures { AreDone problem.now runs.new }
 {
     let run = |_: usize, run: &mut Run|
         requires { IsHeld problem.now before.now }
+        ensures { IsDone problem.entry.now run.new }
     {
         let places = places_of(before);
         run.found = improved(alloc, problem, places, parts, means.effort, run.seed);

@@ -38,8 +38,8 @@ struct Attempt {
     found: Result<Nearby, AllocError>,
 }
 
-/// The plan with the earliest roster that searches of some neighbourhoods come to, in bases whose best roster isn't
-/// known. The workers share the searches.
+/// The plan with the earliest roster that searches of some neighbourhoods come to, in bases whose best roster
+/// isn't known. The workers share the searches.
 pub(crate) fn improved_nearby<R: Threads + Sync, W: Watcher>(
     rt: &R,
     alloc: Global,
@@ -191,8 +191,7 @@ fn with_new<W: Watcher>(
     }
     let known = start.roster.copy(alloc)?;
     let bound = start.bound;
-    let (before, found) = (places_of(before), places_of(&nearby.roster));
-    let roster = joined(alloc, problem, before, found, start.roster)?;
+    let roster = joined(alloc, problem, before, &nearby.roster, start.roster)?;
     let is_new = comes_before(&roster, &known);
     let planned = so_far(problem, roster, bound);
     if is_new {
@@ -201,20 +200,26 @@ fn with_new<W: Watcher>(
     Ok(planned)
 }
 
-/// The known roster with what is new in other places, as far as that is legal; or the known one, if that is
-/// earlier. What is new is what differs from the places before.
-pub(crate) fn joined(
+/// The known roster with what is new in another one, as far as that is legal; or the known one, if that is
+/// earlier. What is new is what differs from the one before.
+fn joined(
     alloc: Global,
     problem: &Problem,
-    before: &[u16],
-    new: &[u16],
+    before: &Roster,
+    new: &Roster,
     known: Roster,
 ) -> Result<Roster, AllocError>
     requires { IsHeld problem.now known }
     ensures held { IfOk result (IsHeld problem.now) }
     ensures kept { IfOk result (λ joined. key_le joined known ≡ true) }
 {
-    let places = changed(alloc, problem, before, new, places_of(&known))?;
+    let places = changed(
+        alloc,
+        problem,
+        places_of(before),
+        places_of(new),
+        places_of(&known),
+    )?;
     let legal = kept(alloc, problem, &places)?;
     Ok(earlier(costed(problem, legal), known))
 }
