@@ -27,11 +27,11 @@ const FEWEST_WORK: u64 = 1 << 19;
 pub struct Means {
     /// How much is tried, from 0 to 9: each one more doubles it. What is more counts as 9.
     pub effort: u32,
-    /// So many threads at most, and one at least, share searches and looks at prices.
+    /// So many threads at most, and one at least, share searches, runs of changes and looks at prices.
     pub workers: usize,
     /// So many legal sets at most a person may have in one step, from 1 to 200000; less counts as 1, and more
     /// as 200000. If somebody has more, that base, gap or neighbourhood isn't searched. In a gap it is eight
-    /// times as many, but no more than 200000, nor six million of all persons; in a neighbourhood 4096 at most.
+    /// times as many, but 200000 at most, and six million of all persons; in a neighbourhood 4096 at most.
     pub most_sets: usize,
 }
 
@@ -74,8 +74,8 @@ impl Means {
         self.most_sets.clamp(1, LINES_NEARBY)
     }
 
-    /// How many lines nodes may have to look at in one search of all lines of a base, or of those of the gaps of
-    /// all bases.
+    /// How many lines nodes may have to look at in one search of all lines of a base, or of those of the gaps
+    /// of all bases.
     pub(crate) fn work(&self) -> u64 {
         FEWEST_WORK << self.effort.min(MOST_EFFORT)
     }
