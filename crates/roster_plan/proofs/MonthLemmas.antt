@@ -1,5 +1,7 @@
 -- Months that go on from one another.
-use Rattle.std.proofs.Common.{refl, Global, Vec}
+use Rattle.std.proofs.Common.{◌≡◌, ℕ, Some, refl, sym, subst, ◌∙◌, Global, Vec, ℤ, ◌≤ℤ◌}
+use Rattle.std.specs.Prelude.{slice_get}
+use Rattle.std.proofs.lemmas.Option.{get_or_from_slice_get}
 use Rattle.roster_model.specs.Problem.{Problem}
 use Rattle.roster_model.specs.Rosters.{Key}
 use Rattle.roster_plan.specs.declared.months.Month.{Month}
@@ -7,7 +9,7 @@ use Rattle.roster_plan.specs.declared.known.Planned.{Planned}
 use Rattle.roster_plan.specs.declared.parts.Part.{Part}
 use Rattle.roster_plan.specs.Parts.{AreParts}
 use Rattle.roster_plan.specs.Planned.{IsPlannedFrom}
-use Rattle.roster_plan.specs.Months.{IsMonth, IsMonthFrom}
+use Rattle.roster_plan.specs.Months.{HasBound, IsMonth, IsMonthFrom}
 use Rattle.roster_plan.proofs.PlannedLemmas.{on_from, same_on}
 
 -- what goes on from a month goes on from what that goes on from,
@@ -32,3 +34,12 @@ month_same problem month is = record {
 -- and one that goes on from another is one
 pub month_of : (problem : Problem) (before : Key) (month : Month) → IsMonthFrom problem before month → IsMonth problem month
 month_of problem before month from = record { parts = from.parts; known = from.planned.known }
+
+-- the part that stands at a base says what bound is known of it
+pub has_bound : (base : ℕ) (bound : ℤ) (month : Month) (made : Part) → slice_get month.parts.items base ≡ Some made
+    → bound ≤ℤ made.bound → HasBound base bound month
+has_bound base bound month made stands least part at =
+    let same : made ≡ part =
+    sym (get_or_from_slice_get month.parts.items base made part stands)
+    ∙ get_or_from_slice_get month.parts.items base part part at in
+    subst (λ (p : Part). bound ≤ℤ p.bound) same least

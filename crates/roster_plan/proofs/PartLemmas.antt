@@ -111,6 +111,12 @@ parts_set problem n base old part below are is = record {
       ];
 }
 
+-- the part that is put at a base stands there
+pub part_put : (n base : ℕ) (old : List Part) (part : Part) → base < n → length old ≡ n → slice_get (slice_set old base part) base ≡ Some part
+part_put n base old part below covers =
+    slice_get-get_or (slice_set old base part) base part (omega (arith, below, covers, length-set old base part))
+    ∙ ap (λ (p : Part). Some p) (get_or-set_at old base base part part refl (omega (arith, below, covers)))
+
 -- the part that stands at a base
 pub part_at : (problem : Problem) (n base : ℕ) (parts : List Part) (part : Part) → ArePartsOf problem n parts → base < n → part ≡ get_or parts base part → IsPart problem base part
 part_at problem n base parts part are below is =

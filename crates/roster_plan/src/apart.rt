@@ -114,8 +114,8 @@ pub(crate) fn bounded<R: Threads + Sync, W: Watcher>(
     Ok(month)
 }
 
-/// The month with a greater bound of this base, if so many looks at prices give one, and with its best roster,
-/// if searches of so much work find it.
+/// The month with a greater bound of this base, if so many looks at prices give one, and with its best
+/// roster, if searches of so much work find it.
 fn bounded_at<R: Threads + Sync, W: Watcher>(
     rt: &R,
     alloc: Global,
@@ -134,12 +134,13 @@ fn bounded_at<R: Threads + Sync, W: Watcher>(
     requires workers { 0 < means.now.workers }
     ensures { IfOk result (IsMonthFrom problem.now start.planned.roster) }
 {
+    // The first look is that at no prices.
     let mut priced = PricedBound::new(rt, alloc, means.workers, pricing, base)?;
     let known = start.parts[base].roster.cost;
-    let mut month = start;
-    for look in 0..looks {
-        // The first look was that at no prices.
-        priced.raise(rt, alloc, means.workers, known, look.min(1))?;
+    let first = priced.bound();
+    let mut month = start.raised(alloc, problem, base, first, Step::Prices, watcher)?;
+    for _ in 1..looks {
+        priced.raise(rt, alloc, means.workers, known, 1)?;
         let bound = priced.bound();
         month = month.raised(alloc, problem, base, bound, Step::Prices, watcher)?;
     }
@@ -170,8 +171,8 @@ fn looks_of(problem: &Problem, parts: &[Part], effort: u32) -> u32 {
     in_time.min(u64::from(looks)) as u32
 }
 
-/// How many steps a look takes, about: for each person of those bases and each pairing of the same base so many
-/// that may follow it before all do, and each state of flight.
+/// How many steps a look takes, about: for each person of those bases and each pairing of the same base so
+/// many that may follow it before all do, and each state of flight.
 fn steps_of(problem: &Problem, parts: &[Part]) -> u64 {
     let mut steps: u64 = 0;
     for person in problem.persons() {

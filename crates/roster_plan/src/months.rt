@@ -1,11 +1,11 @@
 //! What is known of a month while it is planned: of each base apart, and of all of it.
 
-ghost use Rattle.std.specs.Prelude.{◌<◌, IfOk};
+ghost use Rattle.std.specs.Prelude.{◌≡◌, ◌<◌, IfOk, Some, slice_get};
 ghost use Rattle.roster_lines.specs.Listing.{AreAllPairs};
 ghost use Rattle.roster_model.specs.declared.limits.TheConstants.{MOST_BASES as most_bases};
 ghost use Rattle.roster_model.specs.Settled.{IsHeld, IsNotAfter};
 ghost use Rattle.roster_pricing.specs.Homes.{IsHome, IsHomeBound};
-ghost use Rattle.roster_plan.specs.Months.{IsMonth, IsMonthFrom};
+ghost use Rattle.roster_plan.specs.Months.{HasBound, IsMonth, IsMonthFrom};
 ghost use Rattle.roster_plan.specs.Parts.{AreParts, IsPart};
 ghost use Rattle.roster_plan.specs.Planned.{IsKnown, IsPlannedFrom};
 
@@ -55,7 +55,8 @@ impl Month {
         requires month { IsMonth problem.now self }
         requires base { base < most_bases }
         requires part { IsPart problem.now base part }
-        ensures { IfOk result (IsMonthFrom problem.now self.planned.roster) }
+        ensures month { IfOk result (IsMonthFrom problem.now self.planned.roster) }
+        ensures part { IfOk result (λ month. slice_get month.parts.items base ≡ Some part) }
     {
         let Month { parts, planned } = self;
         let mut parts = parts;
@@ -77,7 +78,8 @@ impl Month {
         requires month { IsMonth problem.now self }
         requires base { base < most_bases }
         requires bound { IsHomeBound problem.now base bound }
-        ensures { IfOk result (IsMonthFrom problem.now self.planned.roster) }
+        ensures month { IfOk result (IsMonthFrom problem.now self.planned.roster) }
+        ensures raised { IfOk result (HasBound base bound) }
     {
         let part = &self.parts[base];
         if bound <= part.bound {

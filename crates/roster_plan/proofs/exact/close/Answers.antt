@@ -12,7 +12,7 @@ returns-in-Some-Best g c =
     (λ month from. month_on problem c.args.start.planned.roster c.loop.month month c.loop.invariant from) c.settled.ensures
 
 pub loop-preserved : goal.loop-preserved
-loop-preserved g c = month_on c.args.problem.now c.args.start.planned.roster c.loop.month c.in_ok-month-in-Some-AtLeast.month c.loop.invariant c.in_ok-month-in-Some-AtLeast.ensures
+loop-preserved g c = month_on c.args.problem.now c.args.start.planned.roster c.loop.month c.in_ok-month-in-Some-AtLeast.month c.loop.invariant c.in_ok-month-in-Some-AtLeast.ensures.month
 
 pub returns : goal.returns
 returns g c =
@@ -21,5 +21,5 @@ returns g c =
       | else-loop-test w ↦ subst from (sym w.month-is) c.loop.invariant
       | then-loop-test+in_ok-roster+in-None w ↦ subst from (sym w.month-is) c.loop.invariant
       | then-loop-test+in_ok-roster+in-Some-AtLeast+in_ok-month-in-Some-AtLeast+then-gap-whole w ↦
-          subst from (sym w.month-is) (month_on c.args.problem.now c.args.start.planned.roster c.loop.month w.in_ok-month-in-Some-AtLeast.month c.loop.invariant w.in_ok-month-in-Some-AtLeast.ensures)
+          subst from (sym w.month-is) (month_on c.args.problem.now c.args.start.planned.roster c.loop.month w.in_ok-month-in-Some-AtLeast.month c.loop.invariant w.in_ok-month-in-Some-AtLeast.ensures.month)
     ]
