@@ -7,11 +7,13 @@ use Rattle.roster_model.specs.Rules.{IsLegal}
 use Rattle.roster_cost.specs.Amounts.{IsWithin}
 use Rattle.roster_search.specs.Parts.{base_of_person}
 
--- The pairing at place p costs no less, be it left open or flown by one of the first n persons who is of the base
--- and for whom it is legal alone. The amount is within the limit of units, which is that of penalties too.
+-- The pairing at place p costs no less, be it left open or flown by one of the first n persons who is of the
+-- base and for whom it is legal alone. The amount is within the limit of units and penalties.
 pub record IsFloorAmong (problem : Problem) (base n p : ℕ) (floor : ℤ) : Type 0 where
-  pub unflown : (pairing : Pairing) → slice_get problem.pairings p ≡ Some pairing → floor ≤ℤ pos pairing.penalty
-  pub flown : (k : ℕ) → k < n → base_of_person problem k ≡ base → IsLegal problem k (p ∷ []) → floor ≤ℤ units_of problem k p
+  pub unflown : (pairing : Pairing) → slice_get problem.pairings p ≡ Some pairing
+      → floor ≤ℤ pos pairing.penalty
+  pub flown : (k : ℕ) → k < n → base_of_person problem k ≡ base → IsLegal problem k (p ∷ [])
+      → floor ≤ℤ units_of problem k p
   pub within : IsWithin MOST_UNITS floor
 
 -- the same of all persons

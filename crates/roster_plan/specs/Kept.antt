@@ -12,7 +12,8 @@ FitsNext problem kept k = k < open_number problem → IsLegal problem k (set_of 
 -- the number that is kept of the one given, behind those that are kept so far
 abbrev pub IsKeptNext : Problem → List ℕ → ℕ → ℕ → Type 0
 IsKeptNext problem kept given next =
-    (FitsNext problem kept given × (next ≡ given)) ⊎ ((¬ FitsNext problem kept given) × (next ≡ open_number problem))
+    (FitsNext problem kept given × (next ≡ given))
+    ⊎ ((¬ FitsNext problem kept given) × (next ≡ open_number problem))
 
 -- what is kept of the first numbers of a list, which makes no set that isn't legal
 pub record AreKept (problem : Problem) (given kept : List ℕ) : Type 0 where

@@ -13,10 +13,11 @@ use Rattle.roster_plan.specs.declared.parts.Part.{Part}
 
 -- nobody is of the base
 abbrev pub HasNoCrew : Problem → ℕ → Type 0
-HasNoCrew problem base = (k : ℕ) (person : Person) → slice_get problem.persons k ≡ Some person → person.base ≢ base
+HasNoCrew problem base =
+    (k : ℕ) (person : Person) → slice_get problem.persons k ≡ Some person → person.base ≢ base
 
--- The roster is legal, and only persons of the base fly. None of those rosters costs less than the bound. If the
--- roster is said to be the best one of the base, it isn't after any of them.
+-- The roster is legal, and only persons of the base fly. None of those rosters costs less than the bound. If
+-- the roster is said to be the best one of the base, it isn't after any of them.
 pub record IsPart (problem : Problem) (base : ℕ) (part : Part) : Type 0 where
   pub held : IsHeld problem part.roster
   pub home : IsHome problem base part.roster.places
@@ -37,10 +38,12 @@ abbrev pub IsOf : Problem → (ℕ → Bool) → List ℕ → Type 0
 IsOf problem bases places =
     (k : ℕ) → k < length problem.persons → bases (base_of_person problem k) ≡ false → set_of k places ≡ []
 
--- The same of the first bases together: their roster, what no roster of them costs less than, and whether theirs
--- is known to be the best one.
-pub record AreTogether (problem : Problem) (n : ℕ) (places : List ℕ) (bound : ℤ) (is_best : Bool) : Type 0 where
+-- The same of the first bases together: their roster, what no roster of them costs less than, and whether
+-- theirs is known to be the best one.
+pub record AreTogether (problem : Problem) (n : ℕ) (places : List ℕ) (bound : ℤ) (is_best : Bool)
+    : Type 0 where
   pub legal : IsLegalRoster problem places
   pub own : IsOf problem (before n) places
-  pub bounded : (others : List ℕ) → IsLegalRoster problem others → IsOf problem (before n) others → bound ≤ℤ cost_of problem others
+  pub bounded : (others : List ℕ) → IsLegalRoster problem others → IsOf problem (before n) others
+      → bound ≤ℤ cost_of problem others
   pub best : is_best ≡ true → IsNotAfter problem (IsOf problem (before n)) (key_of problem places)

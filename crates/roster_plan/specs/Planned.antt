@@ -5,8 +5,8 @@ use Rattle.roster_model.specs.Rosters.{Key, key_le}
 use Rattle.roster_model.specs.Settled.{Anywhere, IsHeld, IsLowerBound, IsNotAfter}
 use Rattle.roster_plan.specs.declared.known.Planned.{Planned}
 
--- The roster is legal. No legal roster costs less than the bound. If the roster is said to be the best one, it
--- isn't after any legal roster.
+-- The roster is legal. No legal roster costs less than the bound. If the roster is said to be the best one,
+-- it isn't after any legal roster.
 pub record IsKnown (problem : Problem) (planned : Planned) : Type 0 where
   pub held : IsHeld problem planned.roster
   pub bounded : IsLowerBound problem planned.bound

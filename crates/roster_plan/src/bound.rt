@@ -17,8 +17,8 @@ use roster_problem::{Problem, Set};
 const MOST_MISSED: i64 = 1 << 60;
 
 /// A number that no legal roster in which only persons of the base fly costs less than, in cost units: each
-/// pairing costs its penalty, or the units of a person who can fly it. Persons of other bases miss their targets
-/// by what their fixed duties leave of them; those of the base miss them by nothing or more.
+/// pairing costs its penalty, or the units of a person who can fly it. Persons of other bases miss their
+/// targets by what their fixed duties leave of them; those of the base miss them by nothing or more.
 pub(crate) fn lower_bound(problem: &Problem, pairs: &[Pairs], base: usize) -> i64
     requires { AreAllPairs problem.now pairs.now }
     ensures { IsHomeBound problem.now base result }
@@ -62,8 +62,8 @@ fn missed_by(problem: &Problem, base: usize, k: usize) -> i64
     line_cost(problem, k, &Set::empty())
 }
 
-/// What the pairing at place `p` costs at least: its penalty, or the units of a person of the base for whom it
-/// is legal alone. A set that isn't legal is part of none that is.
+/// What the pairing at place `p` costs at least: its penalty, or the units of a person of the base for whom
+/// it is legal alone. A set that isn't legal is part of none that is.
 fn floor(problem: &Problem, pairs: &[Pairs], base: usize, p: usize) -> i64
     requires pairs { AreAllPairs problem.now pairs.now }
     requires pairing { p < length problem.now.pairings }

@@ -1,8 +1,8 @@
 //! The best roster of a base, if its bound is near enough to what it costs.
 //!
 //! A roster of the base that costs at most so much more than the bound has lines of low reduced cost only. If
-//! these are few they are listed, and searched whole: the least of their rosters is then the best of the base,
-//! or none costs so little.
+//! these are few they are listed, and searched whole: the least of their rosters is then the best of the
+//! base, or none costs so little.
 
 ghost use Rattle.std.specs.Prelude.{◌≡◌, ◌⊎◌, ◌<◌, ◌^◌, ◌≤ℤ◌, ◌+ℤ◌, ◌-ℤ◌, pos, IfOk, IfSome};
 ghost use Rattle.roster_model.specs.declared.limits.TheConstants.{MOST_BASES as most_bases};
@@ -34,8 +34,8 @@ pub(crate) enum Found {
     AtLeast(i64),
 }
 
-/// The month with the best roster of the base, if that is found, or else with the greatest bound that is found
-/// on the way. Each search of a gap may take so much work.
+/// The month with the best roster of the base, if that is found, or else with the greatest bound that is
+/// found on the way. Each search of a gap may take so much work.
 pub(crate) fn close<W: Watcher>(
     alloc: Global,
     problem: &Problem,

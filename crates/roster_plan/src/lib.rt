@@ -1,11 +1,11 @@
 //! A legal roster of any month with its cost, and a number that no roster costs less than.
 //!
-//! `plan` answers every problem, also one with far more legal sets than can be listed. Nobody flies a pairing of
-//! another base, so each base is planned apart. If it has few legal sets, they are searched whole. Else `plan`
-//! begins with what is legal of a given roster, improves it by a fixed number of random changes, then by
-//! searches of neighbourhoods. Prices bound what the base costs, and what costs little more is searched. `plan`
-//! promises neither the best roster nor a near one: each step keeps the roster legal, and the result is the
-//! earliest of what was given, of no pairings at all, and of what was found. In reading order:
+//! `plan` answers every problem, also one with far more legal sets than can be listed. Nobody flies a pairing
+//! of another base, so each base is planned apart. If it has few legal sets, they are searched whole. Else
+//! `plan` begins with what is legal of a given roster, improves it by a fixed number of random changes, then
+//! by searches of neighbourhoods. Prices bound what the base costs, and what costs little more is searched.
+//! `plan` promises neither the best roster nor a near one: each step keeps the roster legal, and the result
+//! is the earliest of what was given, of no pairings at all, and of what was found. In reading order:
 //!
 //! - `kept`: what is legal of a given roster
 //! - `means`: what a plan may take

@@ -1,9 +1,11 @@
 //! What is known of each base apart, and of the whole month that they make.
 //!
-//! No person flies a pairing of another base. So what a month costs is what its bases do, each apart, and the best
-//! roster is put together from the best one of each base.
+//! No person flies a pairing of another base. So what a month costs is what its bases do, each apart, and the
+//! best roster is put together from the best one of each base.
 
-ghost use Rattle.std.specs.Prelude.{◌≡◌, ◌⊎◌, ◌<◌, ◌+◌, ◌*◌, ◌^◌, ◌==◌, ◌&&◌, ◌+ℤ◌, ◌-ℤ◌, ◌≤ℤ◌, true, false, not, All, IfOk, IfSome, MatchOption, neg_ℤ, pos, replicate, length, slice_get};
+ghost use Rattle.std.specs.Prelude.{◌≡◌, ◌⊎◌, ◌<◌, ◌+◌, ◌*◌, ◌^◌, ◌==◌, ◌&&◌, ◌+ℤ◌, ◌-ℤ◌, ◌≤ℤ◌};
+ghost use Rattle.std.specs.Prelude.{true, false, not, All, IfOk, IfSome, MatchOption, neg_ℤ, pos};
+ghost use Rattle.std.specs.Prelude.{length, replicate, slice_get};
 ghost use Rattle.roster_cost.specs.Amounts.{IsWithin};
 ghost use Rattle.roster_model.specs.declared.limits.TheConstants.{MOST_BASES as most_bases};
 ghost use Rattle.roster_model.specs.Rosters.{key_le};
@@ -137,7 +139,8 @@ impl Part {
         requires held { IsHeld problem.now known.now }
         ensures part { IfOk result (IsPart problem.now base) }
         ensures kept { IfOk result (λ part. key_le part.roster self.now.roster ≡ true) }
-        ensures same { IfOk result (λ part. (part.bound ≡ self.now.bound) × (part.is_best ≡ self.now.is_best)) }
+        ensures same { IfOk result
+            (λ part. (part.bound ≡ self.now.bound) × (part.is_best ≡ self.now.is_best)) }
     {
         let own = roster_of(alloc, problem, base, known)?;
         let roster = earlier(own, self.roster.copy(alloc)?);
@@ -148,8 +151,8 @@ impl Part {
         })
     }
 
-    /// The part of a base whose best roster was found: no roster of the base comes before the one that is given.
-    /// If others fly in that one, what the base has of it may come later, and then there is no part.
+    /// The part of a base whose best roster was found: no roster of the base comes before the one that is
+    /// given. If others fly in that one, what the base has of it may come later, and then there is no part.
     pub(crate) fn best(
         alloc: Global,
         problem: &Problem,
