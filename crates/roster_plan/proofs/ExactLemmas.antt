@@ -3,12 +3,12 @@ use Rattle.std.proofs.Common.{◌≡◌, ℕ, true, List, sym, subst, inl, inr, 
 use Rattle.std.proofs.lemmas.Int.{ints}
 use Rattle.roster_model.specs.Costs.{cost_of}
 use Rattle.roster_model.specs.Problem.{Problem}
-use Rattle.roster_model.specs.Rosters.{IsLegalRoster, Key, key_le, key_of}
+use Rattle.roster_model.specs.Rosters.{Key, key_le, key_of}
 use Rattle.roster_model.specs.Settled.{Anywhere, IsBest, IsHeld, IsLowerBound, IsNotAfter}
 use Rattle.roster_model.proofs.SettledLemmas.{held-key}
 use Rattle.roster_lines.specs.Entries.{Entry}
 use Rattle.roster_lines.specs.Person.{IsOfTable}
-use Rattle.roster_pricing.specs.Homes.{IsHome, IsHomeBound}
+use Rattle.roster_pricing.specs.Homes.{EachHomeRoster, IsHome, IsHomeBound}
 use Rattle.roster_search.specs.Least.{CostsAtLeast, IsLeast}
 use Rattle.roster_search.proofs.FindLemmas.{cost_cases}
 use Rattle.roster_search.proofs.Keys.{by_cost, no_dearer}
@@ -16,11 +16,13 @@ use Rattle.roster_search.proofs.Keys.{by_cost, no_dearer}
 -- each roster of the base that costs at most so much has lines of the table
 abbrev pub HasAllWithin : Problem → ℕ → List (List Entry) → ℤ → Type 0
 HasAllWithin problem base table most =
-    (places : List ℕ) → IsLegalRoster problem places → IsHome problem base places → cost_of problem places ≤ℤ most → IsOfTable table places
+    EachHomeRoster problem base (λ places. cost_of problem places ≤ℤ most → IsOfTable table places)
 
 -- so the least of the table is the best of the base, if it costs so little,
-pub best_of_base : (problem : Problem) (base : ℕ) (table : List (List Entry)) (most limit : ℤ) (key : Key) → HasAllWithin problem base table most → limit ≤ℤ (most +ℤ pos 1)
-    → IsLeast problem (IsOfTable table) key → key.cost <ℤ limit → IsHeld problem key × IsNotAfter problem (IsHome problem base) key
+pub best_of_base : (problem : Problem) (base : ℕ) (table : List (List Entry)) (most limit : ℤ) (key : Key)
+    → HasAllWithin problem base table most → limit ≤ℤ (most +ℤ pos 1)
+    → IsLeast problem (IsOfTable table) key → key.cost <ℤ limit
+    → IsHeld problem key × IsNotAfter problem (IsHome problem base) key
 best_of_base problem base table most limit key all near least cheap = (
   least.held,
   λ others legal home. elim (cost_cases most (cost_of problem others)) [
@@ -30,7 +32,8 @@ best_of_base problem base table most limit key all near least cheap = (
 )
 
 -- and no roster of the base costs so little if none of the table does
-pub none_below : (problem : Problem) (base : ℕ) (table : List (List Entry)) (most limit : ℤ) → HasAllWithin problem base table most → limit ≤ℤ (most +ℤ pos 1)
+pub none_below : (problem : Problem) (base : ℕ) (table : List (List Entry)) (most limit : ℤ)
+    → HasAllWithin problem base table most → limit ≤ℤ (most +ℤ pos 1)
     → CostsAtLeast problem (IsOfTable table) limit → IsHomeBound problem base limit
 none_below problem base table most limit all near above places legal home =
     elim (cost_cases most (cost_of problem places)) [
@@ -39,19 +42,25 @@ none_below problem base table most limit all near above places legal home =
     ]
 
 -- no roster costs less than the best one,
-pub best_is_bound : (problem : Problem) (key : Key) → IsNotAfter problem Anywhere key → IsLowerBound problem key.cost
+pub best_is_bound : (problem : Problem) (key : Key) → IsNotAfter problem Anywhere key
+    → IsLowerBound problem key.cost
 best_is_bound problem key best places legal = no_dearer key (key_of problem places) (best places legal tt)
 
 -- nor any of a base less than the best one of it,
-pub best_is_home_bound : (problem : Problem) (base : ℕ) (key : Key) → IsNotAfter problem (IsHome problem base) key → IsHomeBound problem base key.cost
-best_is_home_bound problem base key best places legal home = no_dearer key (key_of problem places) (best places legal home)
+pub best_is_home_bound : (problem : Problem) (base : ℕ) (key : Key)
+    → IsNotAfter problem (IsHome problem base) key → IsHomeBound problem base key.cost
+best_is_home_bound problem base key best places legal home =
+    no_dearer key (key_of problem places) (best places legal home)
 
 -- nor is any before it
-pub best_is_first : (problem : Problem) (key known : Key) → IsNotAfter problem Anywhere key → IsHeld problem known → key_le key known ≡ true
-best_is_first problem key known best is = subst (λ k. key_le key k ≡ true) (sym (held-key problem known is)) (best known.places is.legal tt)
+pub best_is_first : (problem : Problem) (key known : Key) → IsNotAfter problem Anywhere key
+    → IsHeld problem known → key_le key known ≡ true
+best_is_first problem key known best is =
+    subst (λ k. key_le key k ≡ true) (sym (held-key problem known is)) (best known.places is.legal tt)
 
 -- and it is the best of the definitions
-pub is_best : (problem : Problem) (key : Key) → IsHeld problem key → IsNotAfter problem Anywhere key → IsBest problem key.places
+pub is_best : (problem : Problem) (key : Key) → IsHeld problem key → IsNotAfter problem Anywhere key
+    → IsBest problem key.places
 is_best problem key is best = record {
   is_legal = is.legal;
   inside = tt;

@@ -12,7 +12,7 @@ use Rattle.roster_model.specs.Places.{set_of, open_number}
 use Rattle.roster_model.specs.Rules.{is_among, IsLegal}
 use Rattle.roster_model.specs.Costs.{cost_of, open_penalties, placed_units, missed_target, missed_targets}
 use Rattle.roster_model.specs.Rosters.{IsLegalRoster}
-use Rattle.roster_pricing.specs.Homes.{IsHome, IsHomeBound}
+use Rattle.roster_pricing.specs.Homes.{EachHomeRoster, IsHome, IsHomeBound}
 use Rattle.roster_search.specs.Parts.{base_of_person}
 use Rattle.roster_plan.proofs.PartLemmas.{of_home}
 use Rattle.roster_model.proofs.CostLemmas.{total-pos}
@@ -30,20 +30,26 @@ cost_behind problem p places =
 
 -- what is legal in parts
 abbrev pub PartsAreLegal : Problem → Type 0
-PartsAreLegal problem = (k : ℕ) (set part : List ℕ) → ((p : ℕ) → is_among part p ≡ true → is_among set p ≡ true) → IsLegal problem k set → IsLegal problem k part
+PartsAreLegal problem =
+    (k : ℕ) (set part : List ℕ) → ((p : ℕ) → is_among part p ≡ true → is_among set p ≡ true)
+    → IsLegal problem k set → IsLegal problem k part
 
 -- a pairing is legal alone for who has it in a legal roster
-alone_legal : (problem : Problem) (p k : ℕ) (places : List ℕ) → PartsAreLegal problem → IsLegalRoster problem places → p < length places → k < length problem.persons → get_or places p 0 ≡ k → IsLegal problem k (p ∷ [])
+alone_legal : (problem : Problem) (p k : ℕ) (places : List ℕ) → PartsAreLegal problem
+    → IsLegalRoster problem places → p < length places → k < length problem.persons → get_or places p 0 ≡ k
+    → IsLegal problem k (p ∷ [])
 alone_legal problem p k places parts roster inside person has =
     parts k (set_of k places) (p ∷ []) (λ q among.
     let same : q ≡ p = elim (cases_eq q p) [
       | inl e ↦ e
       | inr other ↦ absurd (false≢true (sym (is_among-later p q [] (λ e. other (sym e))) ∙ among))
     ] in
-    subst (λ i. is_among (set_of k places) i ≡ true) (sym same) (in_set_of_number k p places inside has)) (roster.legal k person)
+    subst (λ i. is_among (set_of k places) i ≡ true) (sym same)
+    (in_set_of_number k p places inside has)) (roster.legal k person)
 
 -- what one pairing costs, left open or flown
-amount : (n x : ℕ) (penalty : ℕ) (units floor : ℤ) → x ≤ n → floor ≤ℤ pos penalty → (x < n → floor ≤ℤ units) → floor ≤ℤ (pos (cond (eqb x n) penalty 0) +ℤ cond (ltb x n) units (pos 0))
+amount : (n x : ℕ) (penalty : ℕ) (units floor : ℤ) → x ≤ n → floor ≤ℤ pos penalty → (x < n → floor ≤ℤ units)
+    → floor ≤ℤ (pos (cond (eqb x n) penalty 0) +ℤ cond (ltb x n) units (pos 0))
 amount n x penalty units floor most unflown flown =
     elim (cases_eq x n) [
       | inl same ↦ rw (eq-eqb x n same, le-ltb x n (omega arith)) omega (arith, ints, unflown)
@@ -55,8 +61,12 @@ behind : (problem : Problem) (p : ℕ) (pairing : Pairing) (pairings : List Pair
     → cost_behind problem p left ≡ (pos (cond (eqb x (open_number problem)) pairing.penalty 0) +ℤ cond (ltb x (open_number problem)) (units_of problem x p) (pos 0)) +ℤ (pos (open_penalties (open_number problem) pairings places) +ℤ placed_units problem (p + 1) places)
 behind problem p pairing pairings x places left e f =
     let n = open_number problem in
-    let open_ones : open_penalties n (drop p problem.pairings) (drop p left) ≡ cond (eqb x n) pairing.penalty 0 + open_penalties n pairings places = rw (e, f) refl in
-    let placed : placed_units problem p (drop p left) ≡ cond (ltb x n) (units_of problem x p) (pos 0) +ℤ placed_units problem (p + 1) places = rw f refl in
+    let open_ones : open_penalties n (drop p problem.pairings) (drop p left)
+    ≡ cond (eqb x n) pairing.penalty 0 + open_penalties n pairings places =
+    rw (e, f) refl in
+    let placed : placed_units problem p (drop p left)
+    ≡ cond (ltb x n) (units_of problem x p) (pos 0) +ℤ placed_units problem (p + 1) places =
+    rw f refl in
     omega (arith, ints, open_ones, placed)
 
 -- a pairing of no list
@@ -64,15 +74,19 @@ none : Pairing
 none = record { id = []; base = 0; penalty = 0; row = 0 }
 
 -- who has a pairing in a roster of a base is of the base
-who_has : (problem : Problem) (base p k : ℕ) (places : List ℕ) → IsHome problem base places → p < length places → k < length problem.persons → get_or places p 0 ≡ k → base_of_person problem k ≡ base
+who_has : (problem : Problem) (base p k : ℕ) (places : List ℕ) → IsHome problem base places
+    → p < length places → k < length problem.persons → get_or places p 0 ≡ k → base_of_person problem k ≡ base
 who_has problem base p k places home inside person has =
     elim (cases_eq (base_of_person problem k) base) [
       | inl same ↦ same
       | inr other ↦ absurd (false≢true (subst (λ set. is_among set p ≡ true) (of_home problem base places home k person (ne_eqb (base_of_person problem k) base other)) (in_set_of_number k p places inside has)))
     ]
 
-pub one_more : (problem : Problem) (base p : ℕ) (floor bound missed : ℤ) (places : List ℕ) → PartsAreLegal problem → IsLegalRoster problem places → IsHome problem base places → p < length problem.pairings → IsFloor problem base p floor
-    → bound ≤ℤ (cost_behind problem (p + 1) places +ℤ missed) → (bound +ℤ floor) ≤ℤ (cost_behind problem p places +ℤ missed)
+pub one_more : (problem : Problem) (base p : ℕ) (floor bound missed : ℤ) (places : List ℕ)
+    → PartsAreLegal problem → IsLegalRoster problem places → IsHome problem base places
+    → p < length problem.pairings → IsFloor problem base p floor
+    → bound ≤ℤ (cost_behind problem (p + 1) places +ℤ missed)
+    → (bound +ℤ floor) ≤ℤ (cost_behind problem p places +ℤ missed)
 one_more problem base p floor bound missed places parts roster home inside floored below =
     let pairing : Pairing = get_or problem.pairings p none in
     let is : slice_get problem.pairings p ≡ Some pairing = slice_get-get_or problem.pairings p none inside in
@@ -82,19 +96,25 @@ one_more problem base p floor bound missed places parts roster home inside floor
     let there : p < length places = omega (arith, covers) in
     let most : x ≤ n = roster.numbers p 0 there in
     let e : drop p problem.pairings ≡ pairing ∷ drop (p + 1) problem.pairings = drop_more problem.pairings p pairing inside ∙ ap (λ q. q ∷ drop (p + 1) problem.pairings) (get_or_from_slice_get problem.pairings p pairing pairing is) in
-    let split = behind problem p pairing (drop (p + 1) problem.pairings) x (drop (p + 1) places) places e (drop_more places p 0 there) in
+    let split =
+    behind problem p pairing (drop (p + 1) problem.pairings) x (drop (p + 1) places) places e
+    (drop_more places p 0 there) in
     let own = amount n x pairing.penalty (units_of problem x p) floor most (floored.unflown pairing is) (λ person. floored.flown x person (who_has problem base p x places home there person refl) (alone_legal problem p x places parts roster there person refl)) in
     omega (arith, ints, split, own, below)
 
 -- behind the last pairing only missed targets are left
-pub nothing_behind : (problem : Problem) (p : ℕ) (missed others : ℤ) (places : List ℕ) → IsLegalRoster problem places → p ≡ length problem.pairings → others ≤ℤ missed → others ≤ℤ (cost_behind problem p places +ℤ missed)
+pub nothing_behind : (problem : Problem) (p : ℕ) (missed others : ℤ) (places : List ℕ)
+    → IsLegalRoster problem places → p ≡ length problem.pairings → others ≤ℤ missed
+    → others ≤ℤ (cost_behind problem p places +ℤ missed)
 nothing_behind problem p missed others places roster end less =
     let covers = roster.covers in
     let e : drop p problem.pairings ≡ [] = drop_all p problem.pairings (omega arith) in
     let f : drop p places ≡ [] = drop_all p places (omega arith) in
     rw (e, f) omega (arith, ints, less)
 
-pub one_person_more : (problem : Problem) (base k p : ℕ) (least floor : ℤ) → IsFloorAmong problem base k p least → IsFloorOf problem base k p least floor → IsFloorAmong problem base (k + 1) p floor
+pub one_person_more : (problem : Problem) (base k p : ℕ) (least floor : ℤ)
+    → IsFloorAmong problem base k p least → IsFloorOf problem base k p least floor
+    → IsFloorAmong problem base (k + 1) p floor
 one_person_more problem base k p least floor among is =
     let most = is.at_most in
     record {
@@ -110,11 +130,14 @@ one_person_more problem base k p least floor among is =
     }
 
 pub is_bound : (problem : Problem) (base p : ℕ) (bound : ℤ) → p ≡ 0
-    → ((places : List ℕ) → IsLegalRoster problem places → IsHome problem base places → bound ≤ℤ (cost_behind problem p places +ℤ missed_targets problem places))
+    → EachHomeRoster problem base (λ places.
+    bound ≤ℤ (cost_behind problem p places +ℤ missed_targets problem places))
     → IsHomeBound problem base bound
 unfolding cost_of
 is_bound problem base p bound first below places roster home =
-    let here : bound ≤ℤ (cost_behind problem 0 places +ℤ missed_targets problem places) = subst (λ q. bound ≤ℤ (cost_behind problem q places +ℤ missed_targets problem places)) first (below places roster home) in
+    let here : bound ≤ℤ (cost_behind problem 0 places +ℤ missed_targets problem places) =
+    subst (λ q. bound ≤ℤ (cost_behind problem q places +ℤ missed_targets problem places)) first
+    (below places roster home) in
     omega (arith, ints, here)
 
 -- ---- missed targets
@@ -126,15 +149,22 @@ missed_until problem places n = sum_by (λ k. missed_target problem k (set_of k 
 pub nobody_misses : (problem : Problem) (places : List ℕ) → pos 0 ≤ℤ pos (missed_until problem places 0)
 nobody_misses problem places = omega (arith, ints)
 
-pub one_misses_more : (problem : Problem) (places : List ℕ) (k : ℕ) (missed more sum : ℤ) → missed ≤ℤ pos (missed_until problem places k) → more ≤ℤ pos (missed_target problem k (set_of k places)) → sum ≤ℤ (missed +ℤ more)
+pub one_misses_more : (problem : Problem) (places : List ℕ) (k : ℕ) (missed more sum : ℤ)
+    → missed ≤ℤ pos (missed_until problem places k) → more ≤ℤ pos (missed_target problem k (set_of k places))
+    → sum ≤ℤ (missed +ℤ more)
     → sum ≤ℤ pos (missed_until problem places (k + 1))
 one_misses_more problem places k missed more sum before here less =
     let f : ℕ → ℕ = λ i. missed_target problem i (set_of i places) in
     let next : k + 1 ≡ suc k = omega arith in
-    let all : missed_until problem places (k + 1) ≡ missed_until problem places k + f k = ap (λ n. sum_by f (range_with_len 0 n)) next ∙ sum_by-range_more f 0 k k (omega arith) in
+    let all : missed_until problem places (k + 1) ≡ missed_until problem places k + f k =
+    ap (λ n. sum_by f (range_with_len 0 n)) next ∙ sum_by-range_more f 0 k k (omega arith) in
     omega (arith, ints, before, here, less, all)
 
-pub all_miss : (problem : Problem) (places : List ℕ) (missed : ℤ) → missed ≤ℤ pos (missed_until problem places (length problem.persons)) → missed ≤ℤ missed_targets problem places
+pub all_miss : (problem : Problem) (places : List ℕ) (missed : ℤ)
+    → missed ≤ℤ pos (missed_until problem places (length problem.persons))
+    → missed ≤ℤ missed_targets problem places
 all_miss problem places missed less =
-    let sum = total-pos (λ k. missed_target problem k (set_of k places)) (range_with_len 0 (length problem.persons)) in
+    let sum =
+    total-pos (λ k. missed_target problem k (set_of k places))
+    (range_with_len 0 (length problem.persons)) in
     omega (arith, ints, less, sum)

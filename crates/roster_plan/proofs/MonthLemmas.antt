@@ -13,30 +13,37 @@ use Rattle.roster_plan.specs.Months.{HasBound, IsMonth, IsMonthFrom}
 use Rattle.roster_plan.proofs.PlannedLemmas.{on_from, same_on}
 
 -- what goes on from a month goes on from what that goes on from,
-pub month_on : (problem : Problem) (before : Key) (mid month : Month) → IsMonthFrom problem before mid → IsMonthFrom problem mid.planned.roster month → IsMonthFrom problem before month
+pub month_on : (problem : Problem) (before : Key) (mid month : Month) → IsMonthFrom problem before mid
+    → IsMonthFrom problem mid.planned.roster month → IsMonthFrom problem before month
 month_on problem before mid month first then = record {
   parts = then.parts;
   planned = on_from problem before mid.planned month.planned first.planned then.planned;
 }
 
 -- so does one whose plan goes on from one that goes on,
-pub month_from : (problem : Problem) (before : Key) (mid planned : Planned) (parts : Vec Part Global) → AreParts problem parts.items → IsPlannedFrom problem before mid → IsPlannedFrom problem mid.roster planned
+pub month_from : (problem : Problem) (before : Key) (mid planned : Planned) (parts : Vec Part Global)
+    → AreParts problem parts.items → IsPlannedFrom problem before mid
+    → IsPlannedFrom problem mid.roster planned
     → IsMonthFrom problem before (record { parts = parts; planned = planned })
-month_from problem before mid planned parts are first then = record { parts = are; planned = on_from problem before mid planned first then }
+month_from problem before mid planned parts are first then =
+    record { parts = are; planned = on_from problem before mid planned first then }
 
 -- a month from itself,
-pub month_same : (problem : Problem) (month : Month) → IsMonth problem month → IsMonthFrom problem month.planned.roster month
+pub month_same : (problem : Problem) (month : Month) → IsMonth problem month
+    → IsMonthFrom problem month.planned.roster month
 month_same problem month is = record {
   parts = is.parts;
   planned = same_on problem month.planned.roster month.planned is.known refl;
 }
 
 -- and one that goes on from another is one
-pub month_of : (problem : Problem) (before : Key) (month : Month) → IsMonthFrom problem before month → IsMonth problem month
+pub month_of : (problem : Problem) (before : Key) (month : Month) → IsMonthFrom problem before month
+    → IsMonth problem month
 month_of problem before month from = record { parts = from.parts; known = from.planned.known }
 
 -- the part that stands at a base says what bound is known of it
-pub has_bound : (base : ℕ) (bound : ℤ) (month : Month) (made : Part) → slice_get month.parts.items base ≡ Some made
+pub has_bound : (base : ℕ) (bound : ℤ) (month : Month) (made : Part)
+    → slice_get month.parts.items base ≡ Some made
     → bound ≤ℤ made.bound → HasBound base bound month
 has_bound base bound month made stands least part at =
     let same : made ≡ part =

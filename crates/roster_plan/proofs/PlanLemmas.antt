@@ -9,24 +9,31 @@ use Rattle.roster_model.proofs.KeyLemmas.{key_le-trans}
 use Rattle.roster_model.proofs.RosterLemmas.{all_open_legal}
 
 -- a legal roster with its cost
-pub held : (problem : Problem) (places : List ℕ) (key : Key) → key ≡ key_of problem places → IsLegalRoster problem places → IsHeld problem key
+pub held : (problem : Problem) (places : List ℕ) (key : Key) → key ≡ key_of problem places
+    → IsLegalRoster problem places → IsHeld problem key
 held problem places key is legal = subst (IsHeld problem) (sym is) (record { legal = legal; cost = refl })
 
 -- one of two that are held is held
-either : (problem : Problem) (a b key : Key) → IsHeld problem a → IsHeld problem b → (key ≡ a) ⊎ (key ≡ b) → IsHeld problem key
+either : (problem : Problem) (a b key : Key) → IsHeld problem a → IsHeld problem b → (key ≡ a) ⊎ (key ≡ b)
+    → IsHeld problem key
 either problem a b key first second (inl is) = subst (IsHeld problem) (sym is) first
 either problem a b key first second (inr is) = subst (IsHeld problem) (sym is) second
 
 -- the earlier one of what is kept and of no pairings at all is held
-pub chosen_held : (problem : Problem) (kept : List ℕ) (start open_one known : Key) → IsLegalRoster problem kept
-    → start ≡ key_of problem kept → open_one ≡ key_of problem (all_open problem) → (known ≡ start) ⊎ (known ≡ open_one) → IsHeld problem known
+pub chosen_held : (problem : Problem) (kept : List ℕ) (start open_one known : Key)
+    → IsLegalRoster problem kept
+    → start ≡ key_of problem kept → open_one ≡ key_of problem (all_open problem)
+    → (known ≡ start) ⊎ (known ≡ open_one) → IsHeld problem known
 chosen_held problem kept start open_one known legal starts opens from =
-    either problem start open_one known (held problem kept start starts legal) (held problem (all_open problem) open_one opens (all_open_legal problem)) from
+    either problem start open_one known (held problem kept start starts legal)
+    (held problem (all_open problem) open_one opens (all_open_legal problem)) from
 
 -- and so is the earlier one of what is found and of a roster that is held
-pub found_held : (problem : Problem) (found : List ℕ) (best known key : Key) → IsLegalRoster problem found → IsHeld problem known
+pub found_held : (problem : Problem) (found : List ℕ) (best known key : Key) → IsLegalRoster problem found
+    → IsHeld problem known
     → best ≡ key_of problem found → (key ≡ best) ⊎ (key ≡ known) → IsHeld problem key
-found_held problem found best known key legal is finds from = either problem best known key (held problem found best finds legal) is from
+found_held problem found best known key legal is finds from =
+    either problem best known key (held problem found best finds legal) is from
 
 pub planned : (problem : Problem) (given kept : List ℕ) (start open_one known final : Key) (bound : ℤ)
     → IsKeptOf problem given kept → IsHeld problem final → IsLowerBound problem bound
@@ -38,7 +45,9 @@ planned problem given kept start open_one known final bound is_kept is_held boun
       held = is_held;
       kept = kept;
       is_kept = is_kept;
-      not_after_kept = subst (λ k. key_le final k ≡ true) starts (key_le-trans final known start better not_after_start);
-      not_after_open = subst (λ k. key_le final k ≡ true) opens (key_le-trans final known open_one better not_after_open);
+      not_after_kept =
+          subst (λ k. key_le final k ≡ true) starts (key_le-trans final known start better not_after_start);
+      not_after_open =
+          subst (λ k. key_le final k ≡ true) opens (key_le-trans final known open_one better not_after_open);
       bounded = bounded;
     }

@@ -9,23 +9,30 @@ use Rattle.roster_plan.specs.Planned.{IsKnown, IsPlannedFrom}
 use Rattle.roster_plan.proofs.ExactLemmas.{best_is_first}
 
 -- what goes on from a plan goes on from what that goes on from
-pub on_from : (problem : Problem) (before : Key) (mid planned : Planned) → IsPlannedFrom problem before mid → IsPlannedFrom problem mid.roster planned → IsPlannedFrom problem before planned
+pub on_from : (problem : Problem) (before : Key) (mid planned : Planned) → IsPlannedFrom problem before mid
+    → IsPlannedFrom problem mid.roster planned → IsPlannedFrom problem before planned
 on_from problem before mid planned first then = record {
   known = then.known;
   kept = key_le-trans planned.roster mid.roster before then.kept first.kept;
 }
 
 -- a plan of a roster that isn't after the one before,
-pub roster_on : (problem : Problem) (before key : Key) (planned : Planned) → IsKnown problem planned → planned.roster ≡ key → key_le key before ≡ true → IsPlannedFrom problem before planned
+pub roster_on : (problem : Problem) (before key : Key) (planned : Planned) → IsKnown problem planned
+    → planned.roster ≡ key → key_le key before ≡ true → IsPlannedFrom problem before planned
 roster_on problem before key planned known is kept = record {
   known = known;
   kept = subst (λ k. key_le k before ≡ true) (sym is) kept;
 }
 
 -- of the same roster,
-pub same_on : (problem : Problem) (before : Key) (planned : Planned) → IsKnown problem planned → planned.roster ≡ before → IsPlannedFrom problem before planned
-same_on problem before planned known is = roster_on problem before before planned known is (key_le-refl before)
+pub same_on : (problem : Problem) (before : Key) (planned : Planned) → IsKnown problem planned
+    → planned.roster ≡ before → IsPlannedFrom problem before planned
+same_on problem before planned known is =
+    roster_on problem before before planned known is (key_le-refl before)
 
 -- and of the best one
-pub best_on : (problem : Problem) (before key : Key) (planned : Planned) → IsKnown problem planned → planned.roster ≡ key → IsNotAfter problem Anywhere key → IsHeld problem before → IsPlannedFrom problem before planned
-best_on problem before key planned known is best held = roster_on problem before key planned known is (best_is_first problem key before best held)
+pub best_on : (problem : Problem) (before key : Key) (planned : Planned) → IsKnown problem planned
+    → planned.roster ≡ key → IsNotAfter problem Anywhere key → IsHeld problem before
+    → IsPlannedFrom problem before planned
+best_on problem before key planned known is best held =
+    roster_on problem before key planned known is (best_is_first problem key before best held)

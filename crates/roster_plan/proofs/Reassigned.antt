@@ -14,11 +14,13 @@ use Rattle.roster_model.proofs.SetLemmas.{Ascends-from_rising}
 use Rattle.roster_problem.specs.Placing.{IsPut}
 
 -- what a number becomes at a place
-there : (number : ℕ) (set old new : List ℕ) (p : ℕ) → IsPut number set old new → p < length old → is_among set p ≡ true → get_or new p 0 ≡ number
+there : (number : ℕ) (set old new : List ℕ) (p : ℕ) → IsPut number set old new → p < length old
+    → is_among set p ≡ true → get_or new p 0 ≡ number
 there number set old new p put inside member =
     put.each p inside ∙ ap (λ b. cond b number (get_or old p 0)) member
 
-elsewhere : (number : ℕ) (set old new : List ℕ) (p : ℕ) → IsPut number set old new → p < length old → is_among set p ≡ false → get_or new p 0 ≡ get_or old p 0
+elsewhere : (number : ℕ) (set old new : List ℕ) (p : ℕ) → IsPut number set old new → p < length old
+    → is_among set p ≡ false → get_or new p 0 ≡ get_or old p 0
 elsewhere number set old new p put inside other =
     put.each p inside ∙ ap (λ b. cond b number (get_or old p 0)) other
 
@@ -27,12 +29,15 @@ record IsAnew (n k : ℕ) (set old new : List ℕ) : Type 0 where
   covers : length new ≡ length old
   given : (p : ℕ) → p < length old → is_among set p ≡ true → get_or new p 0 ≡ k
   opened : (p : ℕ) → p < length old → is_among set p ≡ false → get_or old p 0 ≡ k → get_or new p 0 ≡ n
-  same : (p : ℕ) → p < length old → is_among set p ≡ false → (get_or old p 0 ≡ k → ⊥) → get_or new p 0 ≡ get_or old p 0
+  same : (p : ℕ) → p < length old → is_among set p ≡ false → (get_or old p 0 ≡ k → ⊥)
+      → get_or new p 0 ≡ get_or old p 0
 
-not_had : (k p : ℕ) (old : List ℕ) → p < length old → (get_or old p 0 ≡ k → ⊥) → is_among (set_of k old) p ≡ false
+not_had : (k p : ℕ) (old : List ℕ) → p < length old → (get_or old p 0 ≡ k → ⊥)
+    → is_among (set_of k old) p ≡ false
 not_had k p old inside other = is_among-set_of_at k p old 0 inside ∙ ne_eqb (get_or old p 0) k other
 
-anew : (n k : ℕ) (set old mid new : List ℕ) → IsPut n (set_of k old) old mid → IsPut k set mid new → IsAnew n k set old new
+anew : (n k : ℕ) (set old mid new : List ℕ) → IsPut n (set_of k old) old mid → IsPut k set mid new
+    → IsAnew n k set old new
 anew n k set old mid new first second =
     let long = first.covers in
     let longer = second.covers in
@@ -44,7 +49,8 @@ anew n k set old mid new first second =
     }
 
 -- each number is that of a person or of nobody
-all_numbers : (n k : ℕ) (set old new : List ℕ) → IsAnew n k set old new → k < n → All (λ x. x ≤ n) old → (p : ℕ) → p < length old → get_or new p 0 ≤ n
+all_numbers : (n k : ℕ) (set old new : List ℕ) → IsAnew n k set old new → k < n → All (λ x. x ≤ n) old
+    → (p : ℕ) → p < length old → get_or new p 0 ≤ n
 all_numbers n k set old new is person most p inside =
     elim (cases_Bool (is_among set p)) [
       | inl member ↦ let e = is.given p inside member in omega arith
@@ -55,9 +61,11 @@ all_numbers n k set old new is person most p inside =
     ]
 
 -- the person has the set
-set_of_person : (n k : ℕ) (set old new : List ℕ) → IsAnew n k set old new → k < n → IsStrictlyIncreasing set → All (λ p. p < length old) set → set_of k new ≡ set
+set_of_person : (n k : ℕ) (set old new : List ℕ) → IsAnew n k set old new → k < n → IsStrictlyIncreasing set
+    → All (λ p. p < length old) set → set_of k new ≡ set
 set_of_person n k set old new is person rising within =
-    set_of_is k new set (Ascends-from_rising set rising) (λ i d h. let w = within i d h in let long = is.covers in omega arith) (λ p inside.
+    set_of_is k new set (Ascends-from_rising set rising)
+    (λ i d h. let w = within i d h in let long = is.covers in omega arith) (λ p inside.
     let long = is.covers in
     let before : p < length old = omega arith in
     elim (cases_Bool (is_among set p)) [
@@ -69,7 +77,8 @@ set_of_person n k set old new is person rising within =
     ])
 
 -- who else has something had it before
-set_of_other : (n k j : ℕ) (set old new : List ℕ) → IsAnew n k set old new → j < n → (j ≡ k → ⊥) → (p : ℕ) → is_among (set_of j new) p ≡ true → is_among (set_of j old) p ≡ true
+set_of_other : (n k j : ℕ) (set old new : List ℕ) → IsAnew n k set old new → j < n → (j ≡ k → ⊥) → (p : ℕ)
+    → is_among (set_of j new) p ≡ true → is_among (set_of j old) p ≡ true
 set_of_other n k j set old new is person differs p member =
     elim (cases_lt p (length old)) [
       | inl inside ↦
@@ -87,7 +96,8 @@ set_of_other n k j set old new is person differs p member =
 
 pub reassigned : (problem : Problem) (k : ℕ) (set old mid new : List ℕ)
     → ((j : ℕ) (all part : List ℕ) → ((p : ℕ) → is_among part p ≡ true → is_among all p ≡ true) → IsLegal problem j all → IsLegal problem j part)
-    → IsLegalRoster problem old → k < length problem.persons → IsStrictlyIncreasing set → All (λ p. p < length problem.pairings) set → IsLegal problem k set
+    → IsLegalRoster problem old → k < length problem.persons → IsStrictlyIncreasing set
+    → All (λ p. p < length problem.pairings) set → IsLegal problem k set
     → IsPut (open_number problem) (set_of k old) old mid → IsPut k set mid new → IsLegalRoster problem new
 reassigned problem k set old mid new part roster person rising within legal first second =
     let n = length problem.persons in

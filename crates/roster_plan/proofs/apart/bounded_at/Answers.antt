@@ -24,7 +24,8 @@ loop-init g c = record {
 }
 
 pub raised-requires-in-loop-clause-month : goal.raised-requires-in-loop-clause-month
-raised-requires-in-loop-clause-month g c = month_of c.args.problem.now c.args.start.planned.roster c.loop.month c.loop.invariant.from
+raised-requires-in-loop-clause-month g c =
+    month_of c.args.problem.now c.args.start.planned.roster c.loop.month c.loop.invariant.from
 
 pub raised-requires-in-loop-clause-bound : goal.raised-requires-in-loop-clause-bound
 raised-requires-in-loop-clause-bound g c =
@@ -33,7 +34,8 @@ raised-requires-in-loop-clause-bound g c =
     let fits : FitsSigned w64 bound = search rules in
     subst (IsHomeBound c.args.problem.now c.args.base) (sym (to_z-of_z w64 bound fits))
     (same_home_bound priced.problem c.args.problem.now priced.base c.args.base bound
-    (c.raise.ensures.problem ∙ c.loop.invariant.problem) (c.raise.ensures.base ∙ c.loop.invariant.base) c.bound-bound.ensures.bound)
+    (c.raise.ensures.problem ∙ c.loop.invariant.problem)
+    (c.raise.ensures.base ∙ c.loop.invariant.base) c.bound-bound.ensures.bound)
 
 pub loop-preserved : goal.loop-preserved
 loop-preserved g c = record {
@@ -45,5 +47,6 @@ loop-preserved g c = record {
 pub returns : goal.returns
 returns g c =
     let problem = c.args.problem.now in
-    IfOk-weaker c.close.result (IsMonthFrom problem c.loop.month.planned.roster) (IsMonthFrom problem c.args.start.planned.roster)
+    IfOk-weaker c.close.result (IsMonthFrom problem c.loop.month.planned.roster)
+    (IsMonthFrom problem c.args.start.planned.roster)
     (λ month from. month_on problem c.args.start.planned.roster c.loop.month month c.loop.invariant.from from) c.close.ensures

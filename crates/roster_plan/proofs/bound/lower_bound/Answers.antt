@@ -12,7 +12,8 @@ loop-p-init c =
     let high = c.missed_by_others-bound.ensures.high in
     let fits : FitsSigned w64 missed = search rules in
     let told : to_z w64 (of_z w64 missed) ≡ missed = to_z-of_z w64 missed fits in
-    let count : length c.pairings-p.result.now ≡ length problem.pairings = ap length c.pairings-p.ensures.value in
+    let count : length c.pairings-p.result.now ≡ length problem.pairings =
+    ap length c.pairings-p.ensures.value in
     record {
       inside = omega (arith, count);
       within = (omega (arith, ints, low, told), omega (arith, ints, high, told));
@@ -36,7 +37,8 @@ loop-p-preserved c =
     let floor_told : to_z w64 (of_z w64 floor) ≡ floor = to_z-of_z w64 floor floor_fits in
     let sum : ℤ = bound +ℤ to_z w64 (of_z w64 floor) in
     let sum_fits : FitsSigned w64 sum = search rules in
-    let told : to_z w64 (of_z w64 sum) ≡ bound +ℤ floor = to_z-of_z w64 sum sum_fits ∙ ap (λ z. bound +ℤ z) floor_told in
+    let told : to_z w64 (of_z w64 sum) ≡ bound +ℤ floor =
+    to_z-of_z w64 sum sum_fits ∙ ap (λ z. bound +ℤ z) floor_told in
     record {
       inside = omega arith;
       within = (omega (arith, ints, low, high, few.0, few.1, told, before, c.loop-p.invariant.inside), omega (arith, ints, low, high, few.0, few.1, told, before, c.loop-p.invariant.inside));
@@ -48,4 +50,6 @@ loop-p-preserved c =
     }
 
 pub returns : goal.returns
-returns c = is_bound c.args.problem.now c.args.base c.loop-p.p (to_z w64 c.loop-p.bound-bits) (omega (arith, c.loop-p-test.false)) c.loop-p.invariant.below
+returns c =
+    is_bound c.args.problem.now c.args.base c.loop-p.p (to_z w64 c.loop-p.bound-bits)
+    (omega (arith, c.loop-p-test.false)) c.loop-p.invariant.below

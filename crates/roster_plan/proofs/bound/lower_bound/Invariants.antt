@@ -1,9 +1,8 @@
-use Rattle.std.proofs.Common.{ℕ, ◌+◌, ◌-◌, ◌*◌, ◌^◌, ◌≤◌, List, length, ◌≤ℤ◌, ◌+ℤ◌}
+use Rattle.std.proofs.Common.{◌+◌, ◌-◌, ◌*◌, ◌^◌, ◌≤◌, length, ◌≤ℤ◌, ◌+ℤ◌}
 use Rattle.roster_model.specs.declared.limits.TheConstants.{MOST_UNITS}
 use Rattle.roster_model.specs.Costs.{missed_targets}
-use Rattle.roster_model.specs.Rosters.{IsLegalRoster}
 use Rattle.roster_cost.specs.Amounts.{IsWithin}
-use Rattle.roster_pricing.specs.Homes.{IsHome}
+use Rattle.roster_pricing.specs.Homes.{EachHomeRoster}
 use Rattle.roster_plan.proofs.FloorLemmas.{cost_behind}
 use Rattle.roster_plan.proofs.bound.lower_bound.Given as goal
 
@@ -12,8 +11,8 @@ abbrev pub invariant-loop-p : goal.invariant-loop-p
 invariant-loop-p l = record {
   inside : l.p ≤ length l.problem.pairings;
   within : IsWithin (2 ^ 60 + (length l.problem.pairings - l.p) * MOST_UNITS) l.bound;
-  below : (places : List ℕ) → IsLegalRoster l.problem places → IsHome l.problem l.base places
-      → l.bound ≤ℤ (cost_behind l.problem l.p places +ℤ missed_targets l.problem places);
+  below : EachHomeRoster l.problem l.base (λ places.
+      l.bound ≤ℤ (cost_behind l.problem l.p places +ℤ missed_targets l.problem places));
 }
 
 abbrev pub decreases-loop-p : goal.decreases-loop-p

@@ -7,7 +7,8 @@ use Rattle.roster_model.proofs.CostLemmas.{total-nil}
 use Rattle.roster_plan.proofs.bound.missed_by.Goals as goal
 
 -- what the person misses without a pairing
-idle : (c : goal.After-line_cost) → to_z w64 (of_z w64 c.line_cost.result) ≡ pos (missed_target c.args.problem.now c.args.k [])
+idle : (c : goal.After-line_cost)
+    → to_z w64 (of_z w64 c.line_cost.result) ≡ pos (missed_target c.args.problem.now c.args.k [])
 idle c =
     let cost : ℤ = c.line_cost.result in
     let near = c.line_cost.ensures.bound in
@@ -19,9 +20,12 @@ idle c =
 
 pub returns-clause-below : goal.returns-clause-below
 returns-clause-below c places home =
-    let other : c.person.result.now.base ≢ c.args.base = λ same. c.if-person-base.false (ap (λ v. v.base) c.behind-problem.view_is ∙ same) in
+    let other : c.person.result.now.base ≢ c.args.base =
+    λ same. c.if-person-base.false (ap (λ v. v.base) c.behind-problem.view_is ∙ same) in
     let none : set_of c.args.k places ≡ [] = home c.args.k c.person.result.now c.person.ensures other in
-    let misses : missed_target c.args.problem.now c.args.k (set_of c.args.k places) ≡ missed_target c.args.problem.now c.args.k [] = ap (missed_target c.args.problem.now c.args.k) none in
+    let misses : missed_target c.args.problem.now c.args.k (set_of c.args.k places)
+    ≡ missed_target c.args.problem.now c.args.k [] =
+    ap (missed_target c.args.problem.now c.args.k) none in
     omega (arith, ints, idle c, misses)
 
 pub returns-clause-low : goal.returns-clause-low

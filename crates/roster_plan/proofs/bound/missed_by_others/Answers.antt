@@ -19,8 +19,10 @@ loop-k-preserved c =
     let more_told : to_z w64 (of_z w64 more) ≡ more = to_z-of_z w64 more more_fits in
     let both : ℤ = missed +ℤ to_z w64 (of_z w64 more) in
     let both_fits : FitsSigned w64 both = search rules in
-    let both_told : to_z w64 (of_z w64 both) ≡ missed +ℤ more = to_z-of_z w64 both both_fits ∙ ap (λ z. missed +ℤ z) more_told in
-    let least : sum ≡ int_min (missed +ℤ more) (pos (2 ^ 60)) = c.min-missed.ensures.value ∙ ap (λ z. int_min z (pos (2 ^ 60))) both_told in
+    let both_told : to_z w64 (of_z w64 both) ≡ missed +ℤ more =
+    to_z-of_z w64 both both_fits ∙ ap (λ z. missed +ℤ z) more_told in
+    let least : sum ≡ int_min (missed +ℤ more) (pos (2 ^ 60)) =
+    c.min-missed.ensures.value ∙ ap (λ z. int_min z (pos (2 ^ 60))) both_told in
     let is = int_min_is (missed +ℤ more) (pos (2 ^ 60)) in
     let under : sum ≤ℤ (missed +ℤ more) = omega (arith, ints, least, is) in
     let sum_low : pos 0 ≤ℤ sum = omega (arith, ints, least, is, low, more_low) in
@@ -36,5 +38,6 @@ loop-k-preserved c =
 
 pub returns-clause-below : goal.returns-clause-below
 returns-clause-below c places home =
-    let all : c.loop-k.k ≡ length c.args.problem.now.persons = omega (arith, c.loop-k-test.false, c.loop-k.auto.k-end, ap length c.persons-k-end.ensures.value) in
+    let all : c.loop-k.k ≡ length c.args.problem.now.persons =
+    omega (arith, c.loop-k-test.false, c.loop-k.auto.k-end, ap length c.persons-k-end.ensures.value) in
     all_miss c.args.problem.now places (to_z w64 c.loop-k.missed-bits) (subst (λ n. to_z w64 c.loop-k.missed-bits ≤ℤ pos (missed_until c.args.problem.now places n)) all (c.loop-k.invariant.below places home))

@@ -8,7 +8,8 @@ use Rattle.roster_plan.proofs.exact.close.Goals.{else-loop-test, then-loop-test+
 pub returns-in-Some-Best : goal.returns-in-Some-Best
 returns-in-Some-Best g c =
     let problem = c.args.problem.now in
-    IfOk-weaker c.settled.result (IsMonthFrom problem c.loop.month.planned.roster) (IsMonthFrom problem c.args.start.planned.roster)
+    IfOk-weaker c.settled.result (IsMonthFrom problem c.loop.month.planned.roster)
+    (IsMonthFrom problem c.args.start.planned.roster)
     (λ month from. month_on problem c.args.start.planned.roster c.loop.month month c.loop.invariant from) c.settled.ensures
 
 pub loop-preserved : goal.loop-preserved

@@ -11,8 +11,11 @@ loop-number-preserved c =
     let long = c.loop-number.invariant.long in
     let number : ℕ = get_or given c.loop-number.number-index 0 in
     let fits : IsKeptNext problem kept number c.in_ok-next.next = subst (λ front. IsKeptNext problem front number c.in_ok-next.next) c.deref.ensures.value c.in_ok-next.ensures.next in
-    let most : number ≤ length problem.persons = c.requires.numbers c.loop-number.number-index 0 (omega (arith, c.loop-number-test.true)) in
-    let more = one_more problem given kept number c.in_ok-next.next c.loop-number.invariant.are (ap (λ i. get_or given i 0) (sym long)) most fits in
+    let most : number ≤ length problem.persons =
+    c.requires.numbers c.loop-number.number-index 0 (omega (arith, c.loop-number-test.true)) in
+    let more =
+    one_more problem given kept number c.in_ok-next.next c.loop-number.invariant.are
+    (ap (λ i. get_or given i 0) (sym long)) most fits in
     record {
       judge = c.next_kept.ensures.judge;
       long = search rules;
@@ -20,7 +23,11 @@ loop-number-preserved c =
     }
 
 pub returns-clause-legal : goal.returns-clause-legal
-returns-clause-legal c = roster_kept c.args.problem.now c.args.given.now c.loop-number.kept.items c.loop-number.invariant.are (search rules)
+returns-clause-legal c =
+    roster_kept c.args.problem.now c.args.given.now c.loop-number.kept.items c.loop-number.invariant.are
+    (search rules)
 
 pub returns-clause-kept : goal.returns-clause-kept
-returns-clause-kept c = all_kept c.args.problem.now c.args.given.now c.loop-number.kept.items c.loop-number.invariant.are (search rules)
+returns-clause-kept c =
+    all_kept c.args.problem.now c.args.given.now c.loop-number.kept.items c.loop-number.invariant.are
+    (search rules)

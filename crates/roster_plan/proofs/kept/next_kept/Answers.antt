@@ -9,7 +9,8 @@ is_legal-requires-clause-places c =
     let kept = c.args.kept.now in
     let number = c.args.number in
     let set = next_set kept c.of_places-set.result c.put.new.self c.from-k.result number c.of_places-set.ensures c.from-k.ensures c.put.ensures.last in
-    next_places kept c.put.new.self number (length c.args.judge.now.pairings) set (subst (λ problem. length kept < length problem.pairings) (sym c.requires.judge) c.requires.more)
+    next_places kept c.put.new.self number (length c.args.judge.now.pairings) set
+    (subst (λ problem. length kept < length problem.pairings) (sym c.requires.judge) c.requires.more)
 
 pub returns-then-branch-clause-next : goal.returns-then-branch-clause-next
 returns-then-branch-clause-next c =

@@ -9,7 +9,8 @@ returns-clause-known c =
     let problem = c.args.problem.now in
     let cost : ℤ = c.roster.inside.cost in
     let fits : FitsSigned w64 cost = search rules in
-    let told : to_z w64 (of_z w64 cost) ≡ c.args.roster.cost = to_z-of_z w64 cost fits ∙ ap (λ key. key.cost) c.roster.view_is in
+    let told : to_z w64 (of_z w64 cost) ≡ c.args.roster.cost =
+    to_z-of_z w64 cost fits ∙ ap (λ key. key.cost) c.roster.view_is in
     record {
       held = c.requires.held;
       bounded = subst (IsLowerBound problem) (sym told) (best_is_bound problem c.args.roster c.requires.best);

@@ -9,7 +9,8 @@ pub greater-bound-requires-clause-first : goal.greater-bound-requires-clause-fir
 greater-bound-requires-clause-first c =
     let bound : ℤ = c.in_ok-whole.whole.bound in
     let fits : FitsSigned w64 bound = search rules in
-    subst (IsLowerBound c.args.problem.now) (sym (to_z-of_z w64 bound fits)) c.in_ok-whole.ensures.known.bounded
+    subst (IsLowerBound c.args.problem.now)
+    (sym (to_z-of_z w64 bound fits)) c.in_ok-whole.ensures.known.bounded
 
 pub greater-bound-requires-clause-second : goal.greater-bound-requires-clause-second
 greater-bound-requires-clause-second c =

@@ -12,7 +12,8 @@ returns c =
     let key = c.costed-roster.result in
     let cost : ℤ = c.roster.inside.cost in
     let fits : FitsSigned w64 cost = search rules in
-    let told : to_z w64 (of_z w64 cost) ≡ key.cost = to_z-of_z w64 cost fits ∙ ap (λ k. k.cost) c.roster.view_is in
+    let told : to_z w64 (of_z w64 cost) ≡ key.cost =
+    to_z-of_z w64 cost fits ∙ ap (λ k. k.cost) c.roster.view_is in
     let is = nobody_part problem base c.in_ok-all_open.field-0.items key c.requires c.in_ok-all_open.ensures c.costed-roster.ensures in
     record {
       held = is.0;

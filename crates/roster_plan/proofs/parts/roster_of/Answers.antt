@@ -10,10 +10,13 @@ pub costed-requires : goal.costed-requires
 costed-requires c =
     let problem = c.args.problem.now in
     let none : List ℕ = c.deref.result.now in
-    let covers : length none ≡ length problem.pairings = ap length (c.deref.ensures.value ∙ c.in_ok-open.ensures) ∙ length-replicate (length problem.pairings) (length problem.persons) in
+    let covers : length none ≡ length problem.pairings =
+    ap length (c.deref.ensures.value ∙ c.in_ok-open.ensures)
+    ∙ length-replicate (length problem.pairings) (length problem.persons) in
     ap length c.in_ok-places.ensures ∙ length-merge problem (λ b. eqb b c.args.base) c.args.known.now.places none (c.requires.legal.covers ∙ sym covers) ∙ covers
 
-own : (c : goal.After-drop-open-2) → IsHeld c.args.problem.now c.costed.result × IsHome c.args.problem.now c.args.base c.costed.result.places
+own : (c : goal.After-drop-open-2)
+    → IsHeld c.args.problem.now c.costed.result × IsHome c.args.problem.now c.args.base c.costed.result.places
 own c = base_roster c.args.problem.now c.args.base c.args.known.now.places c.deref.result.now c.in_ok-places.places.items c.costed.result c.requires.legal
     (c.deref.ensures.value ∙ c.in_ok-open.ensures) c.in_ok-places.ensures c.costed.ensures
 

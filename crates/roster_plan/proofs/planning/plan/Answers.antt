@@ -7,14 +7,16 @@ use Rattle.roster_plan.proofs.planning.plan.Goals as goal
 pub planned_from-requires-clause-held : goal.planned_from-requires-clause-held
 planned_from-requires-clause-held g c = λ lifetimes outlive.
     let problem = c.args.problem.now in
-    let items : c.in_ok-open.open.items ≡ replicate (length problem.pairings) (length problem.persons) = search rules in
+    let items : c.in_ok-open.open.items ≡ replicate (length problem.pairings) (length problem.persons) =
+    search rules in
     chosen_held problem c.in_ok-start.start.items c.costed.result c.costed-2.result c.earlier-known.result c.in_ok-start.ensures.legal
     c.costed.ensures (c.costed-2.ensures ∙ ap (key_of problem) items) c.earlier-known.ensures.from
 
 pub returns-clause-plan : goal.returns-clause-plan
 returns-clause-plan g c =
     let problem = c.args.problem.now in
-    let items : c.in_ok-open.open.items ≡ replicate (length problem.pairings) (length problem.persons) = search rules in
+    let items : c.in_ok-open.open.items ≡ replicate (length problem.pairings) (length problem.persons) =
+    search rules in
     let planned_one = c.in_ok-planned.planned in
     planned problem c.args.given.now c.in_ok-start.start.items c.costed.result c.costed-2.result c.earlier-known.result planned_one.roster planned_one.bound
     c.in_ok-start.ensures.kept c.in_ok-planned.ensures.known.held c.in_ok-planned.ensures.known.bounded

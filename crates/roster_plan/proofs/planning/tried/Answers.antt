@@ -10,7 +10,8 @@ pub so_far-known-requires-clause-bound : goal.so_far-known-requires-clause-bound
 so_far-known-requires-clause-bound g c =
     let bound : ℤ = c.in_ok-month.month.planned.bound in
     let fits : FitsSigned w64 bound = search rules in
-    subst (IsLowerBound c.args.problem.now) (sym (to_z-of_z w64 bound fits)) c.in_ok-month.ensures.planned.known.bounded
+    subst (IsLowerBound c.args.problem.now)
+    (sym (to_z-of_z w64 bound fits)) c.in_ok-month.ensures.planned.known.bounded
 
 pub returns : goal.returns
 returns g c =

@@ -27,7 +27,9 @@ returns-then-bound-part-clause-raised g c =
     let told : to_z w64 (of_z w64 bound) ≡ bound = to_z-of_z w64 bound fits in
     let own_told : to_z w64 (of_z w64 own) ≡ own = to_z-of_z w64 own own_fits in
     let least : bound ≤ℤ own = omega (arith, ints, told, own_told, c.if-bound-part.true) in
-    let stands = slice_get-get_or parts c.args.base part (omega (arith, c.requires.base, c.requires.month.parts.covers))
+    let stands =
+    slice_get-get_or parts c.args.base part
+    (omega (arith, c.requires.base, c.requires.month.parts.covers))
     ∙ ap (λ (p : Part). Some p) (sym c.index-part.ensures) in
     has_bound c.args.base bound c.args.self part stands least
 

@@ -13,12 +13,15 @@ loop-base-preserved g c =
 
 pub told-requires-clause-parts : goal.told-requires-clause-parts
 told-requires-clause-parts g c =
-    let all : c.loop-base.base ≡ MOST_BASES = omega (arith, c.loop-base-test.false, c.loop-base.auto.base-end) in
-    subst (AreParts c.args.problem.now) (sym c.deref.ensures.value) (subst (λ n. ArePartsOf c.args.problem.now n c.loop-base.parts.items) all c.loop-base.invariant)
+    let all : c.loop-base.base ≡ MOST_BASES =
+    omega (arith, c.loop-base-test.false, c.loop-base.auto.base-end) in
+    subst (AreParts c.args.problem.now) (sym c.deref.ensures.value)
+    (subst (λ n. ArePartsOf c.args.problem.now n c.loop-base.parts.items) all c.loop-base.invariant)
 
 pub returns : goal.returns
 returns g c =
-    let all : c.loop-base.base ≡ MOST_BASES = omega (arith, c.loop-base-test.false, c.loop-base.auto.base-end) in
+    let all : c.loop-base.base ≡ MOST_BASES =
+    omega (arith, c.loop-base-test.false, c.loop-base.auto.base-end) in
     record {
       parts = subst (λ n. ArePartsOf c.args.problem.now n c.loop-base.parts.items) all c.loop-base.invariant;
       planned = c.in_ok-planned.ensures;

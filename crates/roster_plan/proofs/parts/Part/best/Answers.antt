@@ -11,11 +11,14 @@ returns-clause-part c =
     let own = c.in_ok-own.own in
     let cost : ℤ = c.own.inside.cost in
     let fits : FitsSigned w64 cost = search rules in
-    let told : to_z w64 (of_z w64 cost) ≡ own.cost = to_z-of_z w64 cost fits ∙ ap (λ key. key.cost) c.own.view_is in
+    let told : to_z w64 (of_z w64 cost) ≡ own.cost =
+    to_z-of_z w64 cost fits ∙ ap (λ key. key.cost) c.own.view_is in
     let best = best_of_found problem c.args.base own c.args.found.now c.requires.best c.if-comes_before.ensures.value in
     record {
       held = c.in_ok-own.ensures.held;
       home = c.in_ok-own.ensures.home;
-      bounded = subst (IsHomeBound problem c.args.base) (sym told) (best_is_home_bound problem c.args.base own best);
+      bounded =
+          subst (IsHomeBound problem c.args.base) (sym told)
+          (best_is_home_bound problem c.args.base own best);
       best = λ _. best;
     }

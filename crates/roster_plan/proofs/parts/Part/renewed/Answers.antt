@@ -19,7 +19,8 @@ returns-clause-part c =
     let key = c.earlier-roster.result in
     let own = either_part problem base c.in_ok-own.own c.in_ok-copy.field-0 key c.in_ok-own.ensures.held c.in_ok-own.ensures.home
     (subst (IsHeld problem) (sym is) part.held) (subst (λ (k : Key). IsHome problem base k.places) (sym is) part.home) c.earlier-roster.ensures.from in
-    let kept : key_le key c.args.self.now.roster ≡ true = subst (λ k. key_le key k ≡ true) is c.earlier-roster.ensures.second in
+    let kept : key_le key c.args.self.now.roster ≡ true =
+    subst (λ k. key_le key k ≡ true) is c.earlier-roster.ensures.second in
     record {
       held = own.0;
       home = own.1;
