@@ -54,7 +54,7 @@ fn plan<'a>(alloc: Global) -> Result<Command<'a>, AllocError> {
         .value_name("N")
         .value_parser(builder::ValueParser::unsigned(1, MOST_LINES as u64))
         .help(
-            "How many legal sets a person may have in one step, eight times as many in a gap, up to 200000; else effort says it",
+            "How many legal sets a person may have in one step, and eight times as many in a gap",
         );
     let start = Arg::new(alloc, "start")
         .long("start")

@@ -27,7 +27,8 @@ const FEWEST_WORK: u64 = 1 << 19;
 pub struct Means {
     /// How much is tried, from 0 to 9: each one more doubles it. What is more counts as 9.
     pub effort: u32,
-    /// So many threads at most, and one at least, share searches, runs of changes and looks at prices.
+    /// So many threads at most, and one at least, share what is done for
+    /// each person, runs of changes, and searches.
     pub workers: usize,
     /// So many legal sets at most a person may have in one step, from 1 to 200000; less counts as 1, and more
     /// as 200000. If somebody has more, that base, gap or neighbourhood isn't searched. In a gap it is eight

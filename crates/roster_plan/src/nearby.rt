@@ -1,15 +1,15 @@
 //! Neighbourhoods of a roster, searched whole.
 //!
 //! In a neighbourhood each person keeps some pairings and may have some others. Its lines are listed,
-//! and the least of its rosters is found. The best roster of a base with few legal sets is found so too: in that
-//! neighbourhood nobody keeps anything, persons of the base may have all, and nobody else has anything.
+//! and the least of its rosters is found. The best roster of a base with few legal sets is found so too: in
+//! that neighbourhood nobody keeps anything, persons of the base may have all, and nobody else has anything.
 
-ghost use Rattle.std.specs.Prelude.{◌≡◌, ◌<◌, ◌≤◌, ℕ, false, true, List, IfOk, IfSome, length};
+ghost use Rattle.std.specs.Prelude.{◌≡◌, ◌<◌, ◌≤◌, false, true, IfOk, IfSome, length};
 ghost use Rattle.roster_lines.specs.Listing.{AreAllPairs};
 ghost use Rattle.roster_lines.specs.Person.{AreListed};
-ghost use Rattle.roster_model.specs.Rosters.{IsLegalRoster, key_le};
+ghost use Rattle.roster_model.specs.Rosters.{key_le};
 ghost use Rattle.roster_model.specs.Settled.{IsHeld, IsNotAfter};
-ghost use Rattle.roster_pricing.specs.Homes.{IsHome};
+ghost use Rattle.roster_pricing.specs.Homes.{EachHomeRoster, IsHome};
 ghost use Rattle.roster_plan.specs.Near.{HasAllNear, IsNear};
 
 use crate::known::earlier;
@@ -134,12 +134,12 @@ fn table_near(
     }
 }
 
-/// The neighbourhood of all legal rosters in which only persons of the base fly: they keep nothing and may have
-/// all, and nobody else has anything.
+/// The neighbourhood of all legal rosters in which only persons of the base fly: they keep nothing and may
+/// have all, and nobody else has anything.
 fn free_at(alloc: Global, problem: &Problem, base: usize) -> Result<Vec<Between>, AllocError>
     ensures covers { IfOk result (λ wanted. length wanted.items ≡ length problem.now.persons) }
-    ensures all { IfOk result (λ wanted. (places : List ℕ) → IsLegalRoster problem.now places
-        → IsHome problem.now base places → IsNear wanted.items places) }
+    ensures all { IfOk result
+        (λ wanted. EachHomeRoster problem.now base (IsNear wanted.items)) }
 {
     problem.is_sound();
     let all = all_of(problem.pairings().len());

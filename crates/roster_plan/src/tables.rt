@@ -279,7 +279,7 @@ fn targets(alloc: Global, problem: &Problem) -> Result<Vec<i64>, AllocError> {
     Ok(targets)
 }
 
-/// What it costs to leave each pairing open.
+/// What it costs to leave each pairing open, in cost units.
 pub(crate) fn penalties(alloc: Global, problem: &Problem) -> Result<Vec<i64>, AllocError> {
     let mut penalties = Vec::new(alloc);
     for pairing in problem.pairings() {

@@ -91,7 +91,7 @@ impl DualPrices {
     }
 
     /// These prices, each in so many parts of a cost unit, or one if that is 0. A pairing that has none there
-    /// has price 0.
+    /// has price 0. The softness is that of the penalties, whatever these prices are.
     pub fn of_parts(
         alloc: Global,
         problem: &Problem,

@@ -19,7 +19,7 @@ use std::alloc::{AllocError, Global};
 /// What comes of a search that may be given up.
 #[derive(Debug, Drop)]
 pub enum Searched {
-    /// The least roster, if one costs less than the limit, or comes before the known one.
+    /// The least roster, if one costs less than the limit.
     Settled(Option<Roster>),
     /// The work was done before that was known.
     GivenUp,
