@@ -74,6 +74,14 @@ impl<'a> Watcher for Companion<'a> {
             self.has_failed = true;
         }
     }
+
+    fn leave_out(&mut self, problem: &Problem, p: usize, k: usize) {
+        let pairing = problem.pairings()[p].id.as_bytes();
+        let person = problem.person(k).id.as_bytes();
+        if let (Ok(pairing), Ok(person)) = (str::from_utf8(pairing), str::from_utf8(person)) {
+            let _ = eprintln!(self.rt; "left out of the start: {pairing} of {person}");
+        }
+    }
 }
 
 /// The name of the base at the place, if somebody is of it.

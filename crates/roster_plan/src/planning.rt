@@ -17,7 +17,7 @@ use crate::together::improved_nearby;
 use crate::watching::{Step, Watcher};
 use roster_cost::keys_are_in_order;
 use roster_lines::{Pairs, all_pairs};
-use roster_problem::{Problem, Roster};
+use roster_problem::{Problem, Roster, open_number};
 use roster_search::all_open;
 use std::alloc::{AllocError, Global};
 use std::thread::Threads;
@@ -45,9 +45,24 @@ pub fn plan<R: Threads + Sync, W: Watcher>(
 {
     let open = all_open(alloc, problem)?;
     let start = kept(alloc, problem, given)?;
+    tell_left_out(problem, given, &start, watcher);
     let known = earlier(costed(problem, start), costed(problem, open));
     let planned = planned_from(rt, alloc, problem, known, means, watcher)?;
     Ok(planned)
+}
+
+/// Tells each pairing that the given places give to somebody, and of which nothing was kept.
+fn tell_left_out<W: Watcher>(problem: &Problem, given: &[u16], kept: &[u16], watcher: &mut W)
+    requires given { length given.now ≡ length problem.now.pairings }
+    requires kept { length kept.now ≡ length problem.now.pairings }
+{
+    let nobody = usize::from(open_number(problem));
+    for p in 0..problem.pairings().len() {
+        let k = usize::from(given[p]);
+        if k < nobody && kept[p] != given[p] {
+            watcher.leave_out(problem, p, k);
+        }
+    }
 }
 
 /// The plan that comes of a known roster: the best one if all bases are settled.

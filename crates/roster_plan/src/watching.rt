@@ -1,5 +1,6 @@
 //! Who is told what is known of a plan while it is made.
 
+ghost use Rattle.std.specs.Prelude.{◌<◌, length};
 ghost use Rattle.roster_plan.specs.Planned.{IsKnown};
 
 use crate::known::Planned;
@@ -43,6 +44,12 @@ pub trait Watcher {
     /// time that it is another one, and so the last one too. A step of a single base tells its place.
     fn tell(&mut self, problem: &Problem, base: Option<usize>, step: Step, planned: &Planned)
         requires { IsKnown problem.now planned.now };
+
+    /// Tells a pairing that the given roster gives to somebody and that isn't kept: the one at place `p`,
+    /// given to person `k`, isn't legal with what that person keeps of those before it in the book.
+    fn leave_out(&mut self, problem: &Problem, p: usize, k: usize)
+        requires pairing { p < length problem.now.pairings }
+        requires person { k < length problem.now.persons };
 }
 
 /// Nobody, for a plan of which only the end is wanted.
@@ -51,4 +58,6 @@ pub struct Unwatched;
 
 impl Watcher for Unwatched {
     fn tell(&mut self, _problem: &Problem, _base: Option<usize>, _step: Step, _planned: &Planned) {}
+
+    fn leave_out(&mut self, _problem: &Problem, _p: usize, _k: usize) {}
 }
