@@ -76,10 +76,15 @@ impl<'a> Watcher for Companion<'a> {
     }
 
     fn leave_out(&mut self, problem: &Problem, p: usize, k: usize) {
-        let pairing = problem.pairings()[p].id.as_bytes();
-        let person = problem.person(k).id.as_bytes();
-        if let (Ok(pairing), Ok(person)) = (str::from_utf8(pairing), str::from_utf8(person)) {
-            let _ = eprintln!(self.rt; "left out of the start: {pairing} of {person}");
+        let rt = self.rt;
+        let pairing = &problem.pairings()[p];
+        let person = problem.person(k);
+        let names = (
+            str::from_utf8(pairing.id.as_bytes()),
+            str::from_utf8(person.id.as_bytes()),
+        );
+        if let (Ok(pairing), Ok(person)) = names {
+            let _ = eprintln!(rt; "left out of the start: {pairing} of {person}");
         }
     }
 }

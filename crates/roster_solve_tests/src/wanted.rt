@@ -14,6 +14,7 @@ use roster_problem::{Problem, Set};
 use std::alloc::Global;
 use std::process::Abort;
 use std::test::Fail;
+use std::thread::Threads;
 
 /// No line is wanted.
 #[derive(Clone, Copy)]
@@ -136,8 +137,8 @@ fn the_empty_line_is_there_if_nothing_is_wanted(rt: HostRuntime) -> Result<(), F
 
 /// The table of the lines of the one person that hold the sixth pairing, and may hold the first and the
 /// last, no more than `most`.
-fn table_with_the_sixth(
-    rt: &HostRuntime,
+fn table_with_the_sixth<R: Abort + Threads + Sync>(
+    rt: &R,
     alloc: Global,
     problem: &Problem,
     most: usize,
