@@ -7,7 +7,8 @@ use Rattle.roster_model.specs.Problem.{Problem}
 use Rattle.roster_model.specs.records.Duty.{is_held_by_person}
 use Rattle.roster_model.specs.records.Leave.{is_leave_of}
 
-any_of_person : {X T : Type 0} (test : X → Bool) (time : X → T) (shares : T → Bool) (xs : List X) → list_any (λ x. test x && shares (time x)) xs ≡ list_any shares (map time (filter test xs))
+any_of_person : {X T : Type 0} (test : X → Bool) (time : X → T) (shares : T → Bool) (xs : List X)
+    → list_any (λ x. test x && shares (time x)) xs ≡ list_any shares (map time (filter test xs))
 any_of_person test time shares [] = refl
 any_of_person {X} {T} test time shares (x ∷ xs) =
     let P : Bool → Type 0 = λ b. ((b && shares (time x)) || list_any (λ y. test y && shares (time y)) xs) ≡ list_any shares (map time (cond b (x ∷ filter test xs) (filter test xs))) in

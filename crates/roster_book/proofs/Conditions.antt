@@ -20,14 +20,16 @@ abbrev pub IsMet : Code → List (Code × Bool) → Type 0
 IsMet code conditions = test_of code conditions ≡ true
 
 -- if none is unmet, that of each code is met
-pub is_met : (conditions : List (Code × Bool)) → first_unmet conditions ≡ None → (code : Code) → IsMet code conditions
+pub is_met : (conditions : List (Code × Bool)) → first_unmet conditions ≡ None → (code : Code)
+    → IsMet code conditions
 is_met [] h code = refl
 is_met ((other, true) ∷ conditions) h code =
     let P : Bool → Type 0 = λ b. cond b true (test_of code conditions) ≡ true in
     elim (number_of_code other == number_of_code code) as P [ true ↦ refl | false ↦ is_met conditions h code ]
 is_met ((other, false) ∷ conditions) h code = cc
 
-found : (i n : ℕ) (b : Bool) → nat_lt i n ≡ b → is_some (cond {A = Option ℕ} b (Some i) None) ≡ true → unwrap_or (cond b (Some i) None) 0 < n
+found : (i n : ℕ) (b : Bool) → nat_lt i n ≡ b → is_some (cond {A = Option ℕ} b (Some i) None) ≡ true
+    → unwrap_or (cond b (Some i) None) 0 < n
 found i n true h some = grind (arith, nat_tests)
 found i n false h some = cc
 
@@ -35,17 +37,20 @@ pub below : (n most : ℕ) → nat_lt n most ≡ true → n < most
 below n most h = grind (arith, nat_tests)
 
 -- a name that is known has a place
-pub place-below : {X : Type 0} (id_of : X → List ℕ) (name : List ℕ) (xs : List X) → is_some (place_named id_of name xs) ≡ true → unwrap_or (place_named id_of name xs) 0 < length xs
+pub place-below : {X : Type 0} (id_of : X → List ℕ) (name : List ℕ) (xs : List X)
+    → is_some (place_named id_of name xs) ≡ true → unwrap_or (place_named id_of name xs) 0 < length xs
 unfolding place_named
 place-below id_of name xs some =
     let place : ℕ = position_or_len (λ x. bytes_eq (id_of x) name) xs in
     found place (length xs) (nat_lt place (length xs)) refl some
 
-within : (i n : ℕ) (b : Bool) → nat_lt i n ≡ b → IfSome (cond {A = Option ℕ} b (Some i) None) (λ place. place < n)
+within : (i n : ℕ) (b : Bool) → nat_lt i n ≡ b
+    → IfSome (cond {A = Option ℕ} b (Some i) None) (λ place. place < n)
 within i n true h = grind (arith, nat_tests)
 within i n false h = tt
 
-pub place-within : {X : Type 0} (id_of : X → List ℕ) (name : List ℕ) (xs : List X) → IfSome (place_named id_of name xs) (λ place. place < length xs)
+pub place-within : {X : Type 0} (id_of : X → List ℕ) (name : List ℕ) (xs : List X)
+    → IfSome (place_named id_of name xs) (λ place. place < length xs)
 unfolding place_named
 place-within id_of name xs =
     let place : ℕ = position_or_len (λ x. bytes_eq (id_of x) name) xs in

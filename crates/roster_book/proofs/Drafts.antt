@@ -17,20 +17,23 @@ use Rattle.roster_model.specs.records.Assign.{assign_of}
 use Rattle.roster_model.specs.records.Step.{step_of}
 use Rattle.roster_book.proofs.Tables.{contents_with, entries_of-append, tables_in-append}
 
-found_is : (kinds : List Kind) (kind : Kind) (fields : Record) → find (λ k. is_of k fields) kinds ≡ Some kind → is_of kind fields ≡ true
+found_is : (kinds : List Kind) (kind : Kind) (fields : Record) → find (λ k. is_of k fields) kinds ≡ Some kind
+    → is_of kind fields ≡ true
 found_is [] kind fields h = cc
 found_is (first ∷ kinds) kind fields h =
     let P : Bool → Type 0 = λ b. is_of first fields ≡ b → cond b (Some first) (find (λ k. is_of k fields) kinds) ≡ Some kind → is_of kind fields ≡ true in
     elim (is_of first fields) as P [ true ↦ λ e s. (let same : first ≡ kind = cc in rw (← same) e) | false ↦ λ e s. found_is kinds kind fields s ] refl h
 
-pub kind_is : (command : Command) (kind : Kind) (fields : Record) → kind_in command fields ≡ Some kind → is_of kind fields ≡ true
+pub kind_is : (command : Command) (kind : Kind) (fields : Record) → kind_in command fields ≡ Some kind
+    → is_of kind fields ≡ true
 kind_is command kind fields h = found_is (kinds_of command) kind fields h
 
 not_empty : (before : List Record) → 0 < length before → (length before == 0) ≡ false
 not_empty before h = grind (arith, nat_tests)
 
 -- the code of a record that isn't the first
-pub code_of-later : (command : Command) (kind : Kind) (before : List Record) (fields : Record) → 0 < length before
+pub code_of-later : (command : Command) (kind : Kind) (before : List Record) (fields : Record)
+    → 0 < length before
     → kind_in command fields ≡ Some kind → code_of command before fields ≡ code_of_kind kind before fields
 unfolding code_of
 code_of-later command kind before fields h k = rw (not_empty before h, k) refl
@@ -41,8 +44,10 @@ unfolding code_of
 code_of-unknown command before fields h k = rw (not_empty before h, k) refl
 
 -- the draft with what a record of the kind adds
-pub IsDraftOf-append : (command : Command) (row : ℕ) (kind : Kind) (before : List Record) (fields : Record) (contents : Contents)
-    → IsDraftOf command row before contents → kind_in command fields ≡ Some kind → code_of_kind kind before fields ≡ None
+pub IsDraftOf-append : (command : Command) (row : ℕ) (kind : Kind) (before : List Record) (fields : Record)
+    (contents : Contents)
+    → IsDraftOf command row before contents → kind_in command fields ≡ Some kind
+    → code_of_kind kind before fields ≡ None
     → (code_of command before fields ≡ None) × IsDraftOf command (row + 1) (before ++ fields ∷ []) (contents_with kind before fields contents)
 IsDraftOf-append command row kind before fields contents d k none =
     let own = code_of-later command kind before fields d.begun k ∙ none in
@@ -51,20 +56,27 @@ IsDraftOf-append command row kind before fields contents d k none =
       record {
         begun = omega arith;
         row_is = omega (arith, d.row_is);
-        tables_are = rw d.tables_are (sym (tables_in-append kind before fields d.begun (kind_is command kind fields k)));
+        tables_are =
+            rw d.tables_are
+            (sym (tables_in-append kind before fields d.begun (kind_is command kind fields k)));
         assigns_are = rw d.assigns_are (sym (entries_of-append kind AssignRecord assign_of before fields (kind_is command kind fields k)));
-        steps_are = rw d.steps_are (sym (entries_of-append kind StepRecord step_of before fields (kind_is command kind fields k)));
+        steps_are =
+            rw d.steps_are
+            (sym (entries_of-append kind StepRecord step_of before fields (kind_is command kind fields k)));
         faultless = faultless-more command [] before fields d.faultless own;
       },
     )
 
 -- a draft has records
-pub HasRecords-draft : (command : Command) (row : ℕ) (before : List Record) (contents : Contents) → IsDraftOf command row before contents → HasRecords contents
+pub HasRecords-draft : (command : Command) (row : ℕ) (before : List Record) (contents : Contents)
+    → IsDraftOf command row before contents → HasRecords contents
 unfolding HasRecords
 HasRecords-draft command row before contents d = ∣ (command, row, before, d) ∣₁
 
 -- the record is taken where the entry that it makes is pushed
-pub Takes-pushed : {X : Type 0} (command : Command) (row : ℕ) (kind : Kind) (before : List Record) (fields : Record) (contents new : Contents) (entry : X) (entries longer : List X) (r : Result (Unit {0}) Refusal)
+pub Takes-pushed : {X : Type 0} (command : Command) (row : ℕ) (kind : Kind) (before : List Record)
+    (fields : Record) (contents new : Contents) (entry : X) (entries longer : List X)
+    (r : Result (Unit {0}) Refusal)
     → IsDraftOf command row before contents → Some kind ≡ kind_in command fields
     → Pushes (code_of_kind kind before fields) entry entries longer r
     → (longer ≡ entries ++ entry ∷ [] → new ≡ contents_with kind before fields contents)
@@ -75,7 +87,8 @@ Takes-pushed command row kind before fields contents new entry entries longer (E
     rw (code_of-later command kind before fields d.begun (sym k)) p
 
 -- nor is it taken where it is refused on the way
-pub Takes-refused : {command : Command} {row : ℕ} {kind : Kind} {before : List Record} {contents : Contents} (fields : Record) (new : Contents) (refusal : Refusal) (r : Result (Unit {0}) Refusal)
+pub Takes-refused : {command : Command} {row : ℕ} {kind : Kind} {before : List Record} {contents : Contents}
+    (fields : Record) (new : Contents) (refusal : Refusal) (r : Result (Unit {0}) Refusal)
     → IsDraftOf command row before contents → Some kind ≡ kind_in command fields
     → IsErrAnd r (λ e. e ≡ refusal) → Refuses refusal (code_of_kind kind before fields)
     → Takes command row before fields new r
@@ -84,8 +97,10 @@ Takes-refused {command = command} {kind = kind} {before = before} fields new ref
     rw (err, code_of-later command kind before fields d.begun (sym k)) told
 
 -- the record of a sector is taken where its duty has it behind its others
-pub IsDraftOf-sector : (command : Command) (row : ℕ) (before : List Record) (fields : Record) (contents : Contents) (place : ℕ) (sector : Sector)
-    → IsDraftOf command row before contents → Some SectorRecord ≡ kind_in command fields → code_of_kind SectorRecord before fields ≡ None
+pub IsDraftOf-sector : (command : Command) (row : ℕ) (before : List Record) (fields : Record)
+    (contents : Contents) (place : ℕ) (sector : Sector)
+    → IsDraftOf command row before contents → Some SectorRecord ≡ kind_in command fields
+    → code_of_kind SectorRecord before fields ≡ None
     → sector_of before fields ≡ record { duty = Some place; sector = sector }
     → (code_of command before fields ≡ None)
     × IsDraftOf command (row + 1) (before ++ fields ∷ [])

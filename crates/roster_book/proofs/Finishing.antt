@@ -19,7 +19,8 @@ use mathlib.Core.Logic.{∥∥₁_map}
 abbrev pub row_without_duty : Problem → Option ℕ
 row_without_duty tables = option_map (λ (entry : ℕ × Pairing). entry.1.row) (pairing_without_duty tables)
 
-none_told : (o : Option (ℕ × Pairing)) → option_map (λ (entry : ℕ × Pairing). entry.1.row) o ≡ None → option_map {U = Fault} (λ (entry : ℕ × Pairing). fault_at entry.1.row NoDuty) o ≡ None
+none_told : (o : Option (ℕ × Pairing)) → option_map (λ (entry : ℕ × Pairing). entry.1.row) o ≡ None
+    → option_map {U = Fault} (λ (entry : ℕ × Pairing). fault_at entry.1.row NoDuty) o ≡ None
 none_told None h = refl
 none_told (Some x) h = cc
 
@@ -27,22 +28,26 @@ some_told : (o : Option (ℕ × Pairing)) (n : ℕ) → option_map (λ (entry : 
 some_told None n h = cc
 some_told (Some x) n h = cc
 
-pub first_fault-none : (command : Command) (row : ℕ) (book : List Record) (contents : Contents) → IsDraftOf command row book contents
+pub first_fault-none : (command : Command) (row : ℕ) (book : List Record) (contents : Contents)
+    → IsDraftOf command row book contents
     → row_without_duty contents.tables ≡ None → first_fault command book ≡ None
 unfolding missing_duty
 first_fault-none command row book contents d h =
     first_fault-at-end command book d.faultless d.begun ∙ none_told _ (rw d.tables_are at h)
 
-pub first_fault-missing : (command : Command) (row : ℕ) (book : List Record) (contents : Contents) (n : ℕ) → IsDraftOf command row book contents
+pub first_fault-missing : (command : Command) (row : ℕ) (book : List Record) (contents : Contents) (n : ℕ)
+    → IsDraftOf command row book contents
     → row_without_duty contents.tables ≡ Some n → first_fault command book ≡ Some (fault_at n NoDuty)
 unfolding missing_duty
 first_fault-missing command row book contents n d h =
     first_fault-at-end command book d.faultless d.begun ∙ some_told _ n (rw d.tables_are at h)
 
 -- the tables with their duties in their order in time are the problem of the records
-pub problem_of-draft : (command : Command) (row : ℕ) (book : List Record) (contents : Contents) → IsDraftOf command row book contents
+pub problem_of-draft : (command : Command) (row : ℕ) (book : List Record) (contents : Contents)
+    → IsDraftOf command row book contents
     → record contents.tables { duties = in_order contents.tables.duties } ≡ problem_of book
-problem_of-draft command row book contents d = ap (λ (t : Problem). record t { duties = in_order t.duties }) d.tables_are
+problem_of-draft command row book contents d =
+    ap (λ (t : Problem). record t { duties = in_order t.duties }) d.tables_are
 
 pub IsFaultless-draft : (contents : Contents) → HasRecords contents → row_without_duty contents.tables ≡ None
     → IsFaultless (record contents.tables { duties = in_order contents.tables.duties })
@@ -63,5 +68,7 @@ IsBookOf-draft command row records contents book d none problem assigned steps =
   assigned_is = rw (d.tables_are, d.assigns_are) at assigned;
   steps_are = steps ∙ d.steps_are;
   covers = rw (assigned, problem) (length-assigned_by _ _ contents.assigns);
-  numbers = rw (assigned, problem) (assigned_at_most _ _ contents.assigns (assigned-draft command row records contents d));
+  numbers =
+      rw (assigned, problem)
+      (assigned_at_most _ _ contents.assigns (assigned-draft command row records contents d));
 }

@@ -32,7 +32,8 @@ first_fault-is-after command [] some = absurd (omega arith)
 first_fault-is-after command (fields ∷ rest) some = refl
 
 -- the first fault, at a record after others without one
-pub first_fault-at : (command : Command) (seen : List Record) (fields : Record) (rest : List Record) (code : Code)
+pub first_fault-at : (command : Command) (seen : List Record) (fields : Record) (rest : List Record)
+    (code : Code)
     → IsFaultlessSoFar command seen → code_of command seen fields ≡ Some code
     → first_fault command (seen ++ fields ∷ rest) ≡ Some (fault_at (length seen + 1) code)
 unfolding first_fault_after
@@ -42,7 +43,8 @@ first_fault-at command seen fields rest code faultless e =
     ∙ ap (λ (o : Option Code). fault_or o (next_row seen) (first_fault_after command (seen ++ fields ∷ []) rest)) e
 
 -- the same if no record has one
-pub first_fault-at-end : (command : Command) (records : List Record) → IsFaultlessSoFar command records → 0 < length records
+pub first_fault-at-end : (command : Command) (records : List Record) → IsFaultlessSoFar command records
+    → 0 < length records
     → first_fault command records ≡ missing_duty records
 unfolding first_fault_after
 first_fault-at-end command records faultless some =

@@ -4,12 +4,14 @@ use Rattle.std.specs.List.{cons_option}
 use Rattle.std.proofs.Math.Seq.{append_snoc}
 use Rattle.roster_model.specs.Record.{Record, gather_after}
 
-cons_option-append : {X : Type 0} (o : Option X) (xs ys : List X) → cons_option o (xs ++ ys) ≡ cons_option o xs ++ ys
+cons_option-append : {X : Type 0} (o : Option X) (xs ys : List X)
+    → cons_option o (xs ++ ys) ≡ cons_option o xs ++ ys
 cons_option-append None xs ys = refl
 cons_option-append (Some x) xs ys = refl
 
 -- the entries, and the one that one more record adds
-pub gather_after-append : {X : Type 0} (entry : List Record → Record → Option X) (before records : List Record) (fields : Record)
+pub gather_after-append : {X : Type 0} (entry : List Record → Record → Option X)
+    (before records : List Record) (fields : Record)
     → gather_after entry before (records ++ fields ∷ []) ≡ gather_after entry before records ++ cons_option (entry (before ++ records) fields) []
 unfolding gather_after
 gather_after-append entry before [] fields = rw append-nil refl

@@ -8,7 +8,8 @@ last_or-push : {X : Type 0} (o : Option X) (xs : List X) (x : X) → last_or o (
 last_or-push o [] x = refl
 last_or-push o (y ∷ xs) x = last_or-push (Some y) xs x
 
-last_of_more : (held : Bool) (so_far : List Duty) (duty : Duty) → last_or None (so_far ++ cond held (duty ∷ []) []) ≡ cond held (Some duty) (last_or None so_far)
+last_of_more : (held : Bool) (so_far : List Duty) (duty : Duty)
+    → last_or None (so_far ++ cond held (duty ∷ []) []) ≡ cond held (Some duty) (last_or None so_far)
 last_of_more true so_far duty = last_or-push None so_far duty
 last_of_more false so_far duty = rw append-nil refl
 

@@ -16,7 +16,8 @@ use Rattle.roster_book.specs.Reading.{AreSeen, records_between}
 abbrev EndsBetween : State × Action → Type 0
 EndsBetween q = is_end q.1 ≡ true → ends_at_end q.0 ≡ false
 
-either-ends : (b : Bool) (x y : State × Action) → EndsBetween x → EndsBetween y → EndsBetween (if b then x else y)
+either-ends : (b : Bool) (x y : State × Action) → EndsBetween x → EndsBetween y
+    → EndsBetween (if b then x else y)
 either-ends true x y p q = p
 either-ends false x y p q = q
 
@@ -101,7 +102,9 @@ turns-enough : (m n : ℕ) (s : State) (xs : List ℕ) → ends_at_end s ≡ fal
 unfolding records_from
 turns-enough zero n s xs between lm ln = absurd (omega arith)
 turns-enough (suc m) zero s xs between lm ln = absurd (omega arith)
-turns-enough (suc m) (suc n) s xs between lm ln = next-same (records_from default_config m) (records_from default_config n) (next_record default_config s [] [] xs) (λ p e.
+turns-enough (suc m) (suc n) s xs between lm ln =
+    next-same (records_from default_config m) (records_from default_config n)
+    (next_record default_config s [] [] xs) (λ p e.
     let taken = record-takes s xs p between e in
     turns-enough m n p.1 p.2 taken.0 (omega arith) (omega arith))
 
@@ -117,12 +120,14 @@ unfolding records_from
 records-none n s xs e = rw add-one (ap (records_next (records_from default_config n)) e)
 
 -- a record that begins between two is the first of those that are left, and the others are left then
-record-left : (s : State) (xs : List ℕ) (p : Read) → ends_at_end s ≡ false → next_record default_config s [] [] xs ≡ Some p
+record-left : (s : State) (xs : List ℕ) (p : Read) → ends_at_end s ≡ false
+    → next_record default_config s [] [] xs ≡ Some p
     → AreSeen (records_between s (Some xs)) (p.0 ∷ []) (records_between p.1 (Some p.2))
 record-left s xs p between e =
     let taken = record-takes s xs p between e in
     let others = turns-enough (length xs) (length p.2 + 1) p.1 p.2 taken.0 taken.1 (omega arith) in
-    rw (between, taken.0) (records-first (length xs) s xs p e ∙ ap (λ (t : List (List (List ℕ))). p.0 ∷ t) others)
+    rw (between, taken.0)
+    (records-first (length xs) s xs p e ∙ ap (λ (t : List (List (List ℕ))). p.0 ∷ t) others)
 
 -- the same, as a read tells it
 pub found-left : (s s2 : State) (before after : Option (List ℕ)) (fields : List (List ℕ))
@@ -130,12 +135,15 @@ pub found-left : (s s2 : State) (before after : Option (List ℕ)) (fields : Lis
     → AreSeen (records_between s before) (fields ∷ []) (records_between s2 after)
 found-left s s2 before after fields r = by (ends_at_end s) refl before after r
   where
-    found : (xs ys : List ℕ) → ends_at_end s ≡ false → (o : Option Read) → next_record default_config s [] [] xs ≡ o
-        → NextIs o true fields s2 ys → AreSeen (records_between s (Some xs)) (fields ∷ []) (records_between s2 (Some ys))
+    found : (xs ys : List ℕ) → ends_at_end s ≡ false → (o : Option Read)
+        → next_record default_config s [] [] xs ≡ o
+        → NextIs o true fields s2 ys
+        → AreSeen (records_between s (Some xs)) (fields ∷ []) (records_between s2 (Some ys))
     found xs ys between None e r = cc r
     found xs ys between (Some p) e r = rw (r.1, r.2, r.3) (record-left s xs p between e)
 
-    by : (b : Bool) → ends_at_end s ≡ b → (before after : Option (List ℕ)) → ReadsNext default_config s before after true fields s2
+    by : (b : Bool) → ends_at_end s ≡ b → (before after : Option (List ℕ))
+        → ReadsNext default_config s before after true fields s2
         → AreSeen (records_between s before) (fields ∷ []) (records_between s2 after)
     by true is before after r = rw is tt
     by false is None after r = rw is tt
@@ -144,15 +152,18 @@ found-left s s2 before after fields r = by (ends_at_end s) refl before after r
 
 -- a read that found none had none left
 pub none-left : (s s2 : State) (before after : Option (List ℕ)) (fields : List (List ℕ))
-    → ReadsNext default_config s before after false fields s2 → IfSome (records_between s before) (λ left. left ≡ [])
+    → ReadsNext default_config s before after false fields s2
+    → IfSome (records_between s before) (λ left. left ≡ [])
 none-left s s2 before after fields r = by (ends_at_end s) refl before after r
   where
-    none : (xs ys : List ℕ) → ends_at_end s ≡ false → (o : Option Read) → next_record default_config s [] [] xs ≡ o
+    none : (xs ys : List ℕ) → ends_at_end s ≡ false → (o : Option Read)
+        → next_record default_config s [] [] xs ≡ o
         → NextIs o false fields s2 ys → IfSome (records_between s (Some xs)) (λ left. left ≡ [])
     none xs ys between None e r = rw between (records-none (length xs) s xs e)
     none xs ys between (Some p) e r = cc r.0
 
-    by : (b : Bool) → ends_at_end s ≡ b → (before after : Option (List ℕ)) → ReadsNext default_config s before after false fields s2
+    by : (b : Bool) → ends_at_end s ≡ b → (before after : Option (List ℕ))
+        → ReadsNext default_config s before after false fields s2
         → IfSome (records_between s before) (λ left. left ≡ [])
     by true is before after r = rw is tt
     by false is None after r = rw is tt

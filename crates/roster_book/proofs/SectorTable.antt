@@ -19,7 +19,8 @@ use Rattle.roster_book.proofs.Gather.{gather_after-append}
 
 -- ---- one more sector
 
-one_more_of : (b : Bool) (sectors : List Sector) (given : GivenSector) → sectors ++ map (λ g. g.sector) (cond b (given ∷ []) []) ≡ cond b (sectors ++ given.sector ∷ []) sectors
+one_more_of : (b : Bool) (sectors : List Sector) (given : GivenSector)
+    → sectors ++ map (λ g. g.sector) (cond b (given ∷ []) []) ≡ cond b (sectors ++ given.sector ∷ []) sectors
 one_more_of true sectors given = refl
 one_more_of false sectors given = append-nil sectors
 
@@ -89,7 +90,8 @@ flown-append given d [] duty =
 flown-append given d (first ∷ duties) duty =
     let same : d + 1 + length duties ≡ d + suc (length duties) = omega arith in
     let made : ℕ → List Duty = λ n. record first { sectors = sectors_at given d } ∷ flown_from given (d + 1) duties ++ record duty { sectors = sectors_at given n } ∷ [] in
-    ap (λ rest. record first { sectors = sectors_at given d } ∷ rest) (flown-append given (d + 1) duties duty) ∙ ap made same
+    ap (λ rest. record first { sectors = sectors_at given d } ∷ rest) (flown-append given (d + 1) duties duty)
+    ∙ ap made same
 
 -- the place is one of the first n, or there is none
 abbrev IsPlaceBelow : ℕ → Option ℕ → Type 0
@@ -110,18 +112,22 @@ place_found p xs =
     let P : Bool → Type 0 = λ b. nat_lt i (length xs) ≡ b → IsPlaceBelow (length xs) (cond b (Some i) None) in
     elim (nat_lt i (length xs)) as P [ true ↦ λ e. grind (arith, nat_tests) | false ↦ λ e. tt ] refl
 
-duties_longer : (before records : List Record) → length (duties_in before) ≤ length (duties_in (before ++ records))
+duties_longer : (before records : List Record)
+    → length (duties_in before) ≤ length (duties_in (before ++ records))
 duties_longer before [] = rw append-nil (omega arith)
 duties_longer before (fields ∷ records) =
     let next : List Record = before ++ fields ∷ [] in
     let entry : Option Duty = entry_of DutyRecord duty_of before fields in
     let one : length (duties_in next) ≡ length (duties_in before) + length (cons_option entry []) =
-    ap length (gather_after-append (entry_of DutyRecord duty_of) [] before fields) ∙ length-append (duties_in before) (cons_option entry []) in
+    ap length (gather_after-append (entry_of DutyRecord duty_of) [] before fields)
+    ∙ length-append (duties_in before) (cons_option entry []) in
     let more : length (duties_in next) ≤ length (duties_in (before ++ fields ∷ records)) =
-    subst (λ all. length (duties_in next) ≤ length (duties_in all)) (append_snoc before fields records) (duties_longer next records) in
+    subst (λ all. length (duties_in next) ≤ length (duties_in all)) (append_snoc before fields records)
+    (duties_longer next records) in
     omega arith
 
-entry-kept : {X : Type 0} (P : X → Type 0) (b : Bool) (x : X) (xs : List X) → P x → All P xs → All P (cons_option (cond b (Some x) None) xs)
+entry-kept : {X : Type 0} (P : X → Type 0) (b : Bool) (x : X) (xs : List X) → P x → All P xs
+    → All P (cons_option (cond b (Some x) None) xs)
 entry-kept P true x xs h all = All-cons P x xs h all
 entry-kept P false x xs h all = all
 
@@ -134,17 +140,21 @@ sectors_below before (fields ∷ records) =
     let rest : All (IsBelow n) (gather_after (entry_of SectorRecord sector_of) (before ++ fields ∷ []) records) =
     subst (λ all. All (IsBelow (length (duties_in all))) (gather_after (entry_of SectorRecord sector_of) (before ++ fields ∷ []) records)) (append_snoc before fields records) (sectors_below (before ++ fields ∷ []) records) in
     let own : IsBelow n (sector_of before fields) =
-    place_longer (length (duties_in before)) n (duty_place before (duty_name_in fields)) (duties_longer before (fields ∷ records)) (place_found (λ duty. bytes_eq duty.id (duty_name_in fields)) (duties_in before)) in
+    place_longer (length (duties_in before)) n (duty_place before (duty_name_in fields))
+    (duties_longer before (fields ∷ records))
+    (place_found (λ duty. bytes_eq duty.id (duty_name_in fields)) (duties_in before)) in
     entry-kept (IsBelow n) (is_of SectorRecord fields) (sector_of before fields) _ own rest
 
-none_there : (n : ℕ) (place : Option ℕ) → IsPlaceBelow n place → option_map_or (λ p. p == n) place false ≡ false
+none_there : (n : ℕ) (place : Option ℕ) → IsPlaceBelow n place
+    → option_map_or (λ p. p == n) place false ≡ false
 none_there n None h = refl
 none_there n (Some place) h = not_later place n h
 
 none_at : (n : ℕ) (given : List GivenSector) → All (IsBelow n) given → sectors_at given n ≡ []
 none_at n [] h = refl
 none_at n (first ∷ given) h =
-    rw (none_there n first.duty (All-head (IsBelow n) first given h)) (none_at n given (All-tail (IsBelow n) first given h))
+    rw (none_there n first.duty (All-head (IsBelow n) first given h))
+    (none_at n given (All-tail (IsBelow n) first given h))
 
 -- a duty comes without a sector
 pub flown-duty : (before : List Record) (fields : Record)
@@ -152,14 +162,17 @@ pub flown-duty : (before : List Record) (fields : Record)
 unfolding duty_of
 flown-duty before fields =
     let n : ℕ = length (duties_in before) in
-    let none : sectors_at (sectors_in before) n ≡ [] = none_at n (sectors_in before) (sectors_below [] before) in
+    let none : sectors_at (sectors_in before) n ≡ [] =
+    none_at n (sectors_in before) (sectors_below [] before) in
     let first : 0 + n ≡ n = omega arith in
     let all : List Sector → List Duty = λ sectors. flown (sectors_in before) (duties_in before) ++ record (duty_of before fields) { sectors = sectors } ∷ [] in
-    flown-append (sectors_in before) 0 (duties_in before) (duty_of before fields) ∙ ap (λ k. all (sectors_at (sectors_in before) k)) first ∙ ap all none
+    flown-append (sectors_in before) 0 (duties_in before) (duty_of before fields)
+    ∙ ap (λ k. all (sectors_at (sectors_in before) k)) first ∙ ap all none
 
 -- ---- what sectors leave as it is
 
-flown-length : (given : List GivenSector) (d : ℕ) (duties : List Duty) → length (flown_from given d duties) ≡ length duties
+flown-length : (given : List GivenSector) (d : ℕ) (duties : List Duty)
+    → length (flown_from given d duties) ≡ length duties
 unfolding flown_from
 flown-length given d [] = refl
 flown-length given d (duty ∷ duties) = ap suc (flown-length given (d + 1) duties)
@@ -176,13 +189,15 @@ pub flown_position : (name : List ℕ) (given : List GivenSector) (duties : List
 unfolding place_named
 flown_position name given duties = rw (flown-place name given 0 duties, flown-length given 0 duties) refl
 
-pub flown_count : (given : List GivenSector) (duties : List Duty) → length (flown given duties) ≡ length duties
+pub flown_count : (given : List GivenSector) (duties : List Duty)
+    → length (flown given duties) ≡ length duties
 flown_count given duties = flown-length given 0 duties
 
 abbrev release_of : Option Duty → Option ℕ
 release_of duty = option_map (λ d. d.release) duty
 
-flown-last : (p : ℕ) (given : List GivenSector) (d : ℕ) (duties : List Duty) (one other : Option Duty) → release_of one ≡ release_of other
+flown-last : (p : ℕ) (given : List GivenSector) (d : ℕ) (duties : List Duty) (one other : Option Duty)
+    → release_of one ≡ release_of other
     → release_of (last_or one (filter (λ duty. is_held_by_pairing p duty.holder) (flown_from given d duties))) ≡ release_of (last_or other (filter (λ duty. is_held_by_pairing p duty.holder) duties))
 unfolding flown_from
 flown-last p given d [] one other h = h
@@ -196,10 +211,12 @@ flown-last p given d (duty ∷ duties) one other h =
     ]
 
 -- the last duty of a pairing is released when it is
-pub flown-last_duty : (p : ℕ) (given : List GivenSector) (duties : List Duty) → release_of (last_duty (flown given duties) p) ≡ release_of (last_duty duties p)
+pub flown-last_duty : (p : ℕ) (given : List GivenSector) (duties : List Duty)
+    → release_of (last_duty (flown given duties) p) ≡ release_of (last_duty duties p)
 flown-last_duty p given duties = flown-last p given 0 duties None None refl
 
-in_sequence-by : (one other : Option Duty) (report release : ℕ) → release_of one ≡ release_of other → is_in_sequence one report release ≡ is_in_sequence other report release
+in_sequence-by : (one other : Option Duty) (report release : ℕ) → release_of one ≡ release_of other
+    → is_in_sequence one report release ≡ is_in_sequence other report release
 in_sequence-by None None report release h = refl
 in_sequence-by None (Some other) report release h = cc
 in_sequence-by (Some one) None report release h = cc
@@ -207,7 +224,9 @@ in_sequence-by (Some one) (Some other) report release h =
     let same : one.release ≡ other.release = cc in
     ap (λ n. nat_lt report release && nat_le n report) same
 
-starts_well-by : (one other : Option Duty) (base : Base) (station : List ℕ) (report : ℕ) → release_of one ≡ release_of other → starts_well one base station report ≡ starts_well other base station report
+starts_well-by : (one other : Option Duty) (base : Base) (station : List ℕ) (report : ℕ)
+    → release_of one ≡ release_of other
+    → starts_well one base station report ≡ starts_well other base station report
 starts_well-by None None base station report h = refl
 starts_well-by None (Some other) base station report h = cc
 starts_well-by (Some one) None base station report h = cc
@@ -215,21 +234,26 @@ starts_well-by (Some one) (Some other) base station report h = refl
 
 pub flown_in_sequence : (p : ℕ) (given : List GivenSector) (duties : List Duty) (report release : ℕ)
     → is_in_sequence (last_duty (flown given duties) p) report release ≡ is_in_sequence (last_duty duties p) report release
-flown_in_sequence p given duties report release = in_sequence-by _ _ report release (flown-last_duty p given duties)
+flown_in_sequence p given duties report release =
+    in_sequence-by _ _ report release (flown-last_duty p given duties)
 
-pub flown_starts_well : (p : ℕ) (given : List GivenSector) (duties : List Duty) (base : Base) (station : List ℕ) (report : ℕ)
+pub flown_starts_well : (p : ℕ) (given : List GivenSector) (duties : List Duty) (base : Base)
+    (station : List ℕ) (report : ℕ)
     → starts_well (last_duty (flown given duties) p) base station report ≡ starts_well (last_duty duties p) base station report
-flown_starts_well p given duties base station report = starts_well-by _ _ base station report (flown-last_duty p given duties)
+flown_starts_well p given duties base station report =
+    starts_well-by _ _ base station report (flown-last_duty p given duties)
 
 -- ---- one more sector among duties
 
-pub with_sector_at-is : (duties : List Duty) (place : ℕ) (sector : Sector) (duty : Duty) → slice_get duties place ≡ Some duty
+pub with_sector_at-is : (duties : List Duty) (place : ℕ) (sector : Sector) (duty : Duty)
+    → slice_get duties place ≡ Some duty
     → with_sector_at duties (Some place) sector ≡ set duties place (with_sector duty sector)
 with_sector_at-is [] place sector duty e = cc
 with_sector_at-is (first ∷ duties) zero sector duty e =
     let same : first ≡ duty = cc in
     ap (λ d. with_sector d sector ∷ duties) same
-with_sector_at-is (first ∷ duties) (suc place) sector duty e = ap (λ rest. first ∷ rest) (with_sector_at-is duties place sector duty e)
+with_sector_at-is (first ∷ duties) (suc place) sector duty e =
+    ap (λ rest. first ∷ rest) (with_sector_at-is duties place sector duty e)
 
 one_more : (new old own longer : ℕ) → new + own ≡ old + longer → longer ≡ own + 1 → new ≡ old + 1
 one_more new old own longer h k = omega arith
@@ -250,14 +274,17 @@ no_more : (new old : ℕ) → new ≡ old + (0 + 0) → new ≡ old
 no_more new old h = omega arith
 
 -- a duty without a sector adds none
-pub sector_count_bare : (duties : List Duty) (duty : Duty) → duty.sectors ≡ [] → sector_count (duties ++ duty ∷ []) ≡ sector_count duties
+pub sector_count_bare : (duties : List Duty) (duty : Duty) → duty.sectors ≡ []
+    → sector_count (duties ++ duty ∷ []) ≡ sector_count duties
 unfolding sector_count
 sector_count_bare duties duty none =
-    let P : List Sector → Type 0 = λ sectors. sector_count (duties ++ duty ∷ []) ≡ sector_count duties + (0 + length sectors) in
+    let P : List Sector → Type 0 =
+    λ sectors. sector_count (duties ++ duty ∷ []) ≡ sector_count duties + (0 + length sectors) in
     no_more _ _ (subst P none (sum_by-append (λ d. length d.sectors) duties (duty ∷ [])))
 
 -- a sector fits where there is a duty
-pub fits-within : (duties : List Duty) (place : ℕ) (sector : Sector) → fits_at duties place sector ≡ true → place < length duties
+pub fits-within : (duties : List Duty) (place : ℕ) (sector : Sector) → fits_at duties place sector ≡ true
+    → place < length duties
 fits-within duties place sector h =
     elim (slice_get_cases duties place).1 [ inl (duty, within, there, same) ↦ within | inr (past, none) ↦ cc (rw none at h) ]
 
@@ -265,16 +292,22 @@ pub sector_count_none : sector_count [] ≡ 0
 unfolding sector_count
 sector_count_none = refl
 
-pub length-with_sector_at : (duties : List Duty) (place : Option ℕ) (sector : Sector) → length (with_sector_at duties place sector) ≡ length duties
+pub length-with_sector_at : (duties : List Duty) (place : Option ℕ) (sector : Sector)
+    → length (with_sector_at duties place sector) ≡ length duties
 length-with_sector_at duties None sector = refl
 length-with_sector_at [] (Some place) sector = refl
 length-with_sector_at (duty ∷ duties) (Some zero) sector = refl
-length-with_sector_at (duty ∷ duties) (Some (suc place)) sector = ap suc (length-with_sector_at duties (Some place) sector)
+length-with_sector_at (duty ∷ duties) (Some (suc place)) sector =
+    ap suc (length-with_sector_at duties (Some place) sector)
 
-pub All-with_sector_at : (P : Holder → Type 0) (duties : List Duty) (place : Option ℕ) (sector : Sector) → All (λ duty. P duty.holder) duties → All (λ duty. P duty.holder) (with_sector_at duties place sector)
+pub All-with_sector_at : (P : Holder → Type 0) (duties : List Duty) (place : Option ℕ) (sector : Sector)
+    → All (λ duty. P duty.holder) duties → All (λ duty. P duty.holder) (with_sector_at duties place sector)
 All-with_sector_at P duties None sector h = h
 All-with_sector_at P [] (Some place) sector h = h
 All-with_sector_at P (duty ∷ duties) (Some zero) sector h =
-    All-cons (λ d. P d.holder) (with_sector duty sector) duties (All-head (λ d. P d.holder) duty duties h) (All-tail (λ d. P d.holder) duty duties h)
+    All-cons (λ d. P d.holder) (with_sector duty sector) duties (All-head (λ d. P d.holder) duty duties h)
+    (All-tail (λ d. P d.holder) duty duties h)
 All-with_sector_at P (duty ∷ duties) (Some (suc place)) sector h =
-    All-cons (λ d. P d.holder) duty (with_sector_at duties (Some place) sector) (All-head (λ d. P d.holder) duty duties h) (All-with_sector_at P duties (Some place) sector (All-tail (λ d. P d.holder) duty duties h))
+    All-cons (λ d. P d.holder) duty (with_sector_at duties (Some place) sector)
+    (All-head (λ d. P d.holder) duty duties h)
+    (All-with_sector_at P duties (Some place) sector (All-tail (λ d. P d.holder) duty duties h))

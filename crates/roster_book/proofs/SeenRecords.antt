@@ -23,7 +23,8 @@ pub seen-more : (all left rest : Option (List Record)) (seen : List Record) (fie
 seen-more None left rest seen fields h next = tt
 seen-more (Some records) None rest seen fields h next = absurd h
 seen-more (Some records) (Some others) None seen fields h next = absurd next
-seen-more (Some records) (Some others) (Some last) seen fields h next = h ∙ ap (λ (t : List Record). seen ++ t) next ∙ sym (append_assoc seen (fields ∷ []) last)
+seen-more (Some records) (Some others) (Some last) seen fields h next =
+    h ∙ ap (λ (t : List Record). seen ++ t) next ∙ sym (append_assoc seen (fields ∷ []) last)
 
 -- if none is left, those seen are all
 pub seen-all : (all left : Option (List Record)) (seen : List Record) (P : List Record → Type 0)
@@ -35,7 +36,8 @@ seen-all (Some records) (Some others) seen P h none holds =
     rw same holds
 
 -- what holds whatever follows the records seen and the next one holds of all
-pub seen-next : (all left rest : Option (List Record)) (seen : List Record) (fields : Record) (P : List Record → Type 0)
+pub seen-next : (all left rest : Option (List Record)) (seen : List Record) (fields : Record)
+    (P : List Record → Type 0)
     → AreSeen all seen left → AreSeen left (fields ∷ []) rest
     → ((last : List Record) → P (seen ++ fields ∷ last)) → OfKnown P all
 seen-next None left rest seen fields P h next holds = (seen ++ fields ∷ [], holds [])
@@ -46,15 +48,18 @@ seen-next (Some records) (Some others) (Some last) seen fields P h next holds =
     rw same (holds last)
 
 -- a refusal of a record after others without a fault tells the first fault, whatever follows
-pub refused-first : (command : Command) (row : ℕ) (seen : List Record) (fields : Record) (last : List Record) (e : Refusal) (fault : BookFault)
-    → row ≡ next_row seen → IsFaultlessSoFar command seen → Refuses e (code_of command seen fields) → ToldAt row e fault
+pub refused-first : (command : Command) (row : ℕ) (seen : List Record) (fields : Record) (last : List Record)
+    (e : Refusal) (fault : BookFault)
+    → row ≡ next_row seen → IsFaultlessSoFar command seen → Refuses e (code_of command seen fields)
+    → ToldAt row e fault
     → TellsFirst command (seen ++ fields ∷ last) fault
 refused-first command row seen fields last (refusals.Fault code) fault at faultless refuses told =
     rw (told, at) (first_fault-at command seen fields last _ faultless refuses)
 refused-first command row seen fields last refusals.Memory fault at faultless refuses told = rw told tt
 
 -- want of memory tells no fault of the records
-pub memory-told : (command : Command) (all : Option (List Record)) (r : Result Book BookFault) → IsErrAnd r (λ fault. fault ≡ Memory)
+pub memory-told : (command : Command) (all : Option (List Record)) (r : Result Book BookFault)
+    → IsErrAnd r (λ fault. fault ≡ Memory)
     → MatchResult r (λ book. OfKnown (λ records. IsBookOf command records book) all) (λ fault. OfKnown (λ records. TellsFirst command records fault) all)
 memory-told command all (Ok book) h = absurd h
 memory-told command None (Err fault) h = rw h ([], tt)

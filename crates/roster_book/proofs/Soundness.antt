@@ -35,19 +35,24 @@ pub has_room : {X : Type 0} (most : ℕ) (xs : List X) (x : X) → length xs < m
 has_room most xs x h = let longer = one_more xs x in record { longer = longer; few = omega arith }
 
 -- places in a table are places in a longer one
-pub places_of_more : {X Y : Type 0} (place_of : X → ℕ) (xs : List X) (ys : List Y) (y : Y) → All (λ x. place_of x < length ys) xs → All (λ x. place_of x < length (ys ++ y ∷ [])) xs
+pub places_of_more : {X Y : Type 0} (place_of : X → ℕ) (xs : List X) (ys : List Y) (y : Y)
+    → All (λ x. place_of x < length ys) xs → All (λ x. place_of x < length (ys ++ y ∷ [])) xs
 places_of_more place_of xs ys y =
     let n = one_more ys y in
     All-weaker (λ x. place_of x < length ys) (λ x. place_of x < length (ys ++ y ∷ [])) (λ x h. omega arith) xs
 
 -- a holder who is there still is where there are more, and so are those of all duties
-holder_of_more : {pairings persons more most : ℕ} (holder : Holder) → pairings ≤ more → persons ≤ most → IsHolder pairings persons holder → IsHolder more most holder
+holder_of_more : {pairings persons more most : ℕ} (holder : Holder) → pairings ≤ more → persons ≤ most
+    → IsHolder pairings persons holder → IsHolder more most holder
 holder_of_more (OfPairing p) first second h = omega (arith, h)
 holder_of_more (OfPerson k) first second h = omega (arith, h)
 
-pub holders_of_more : {pairings persons : ℕ} (more most : ℕ) (duties : List Duty) → pairings ≤ more → persons ≤ most → All (λ d. IsHolder pairings persons d.holder) duties → All (λ d. IsHolder more most d.holder) duties
+pub holders_of_more : {pairings persons : ℕ} (more most : ℕ) (duties : List Duty) → pairings ≤ more
+    → persons ≤ most → All (λ d. IsHolder pairings persons d.holder) duties
+    → All (λ d. IsHolder more most d.holder) duties
 holders_of_more {pairings = pairings} {persons = persons} more most duties first second =
-    All-weaker (λ d. IsHolder pairings persons d.holder) (λ d. IsHolder more most d.holder) (λ d. holder_of_more d.holder first second) duties
+    All-weaker (λ d. IsHolder pairings persons d.holder) (λ d. IsHolder more most d.holder)
+    (λ d. holder_of_more d.holder first second) duties
 
 -- ---- assignments
 
@@ -60,31 +65,43 @@ pub record AreAssigned (pairings persons : ℕ) (assigns : List Assign) : Type 0
   pub assignees : All (λ assign. IfSome assign.person (λ k. k < persons)) assigns
   pub once : IsDistinct eqb (paired assigns)
 
-person_of_more : {persons most : ℕ} (person : Option ℕ) → persons ≤ most → IfSome person (λ k. k < persons) → IfSome person (λ k. k < most)
+person_of_more : {persons most : ℕ} (person : Option ℕ) → persons ≤ most → IfSome person (λ k. k < persons)
+    → IfSome person (λ k. k < most)
 person_of_more None more h = tt
 person_of_more (Some k) more h = omega (arith, h)
 
-pub assigned_of_more : {pairings persons : ℕ} (more most : ℕ) (assigns : List Assign) → pairings ≤ more → persons ≤ most → AreAssigned pairings persons assigns → AreAssigned more most assigns
+pub assigned_of_more : {pairings persons : ℕ} (more most : ℕ) (assigns : List Assign) → pairings ≤ more
+    → persons ≤ most → AreAssigned pairings persons assigns → AreAssigned more most assigns
 assigned_of_more {pairings = pairings} {persons = persons} more most assigns first second are = record {
-  named = All-weaker (λ assign. assign.pairing < pairings) (λ assign. assign.pairing < more) (λ assign l. omega arith) assigns are.named;
-  assignees = All-weaker (λ assign. IfSome assign.person (λ k. k < persons)) (λ assign. IfSome assign.person (λ k. k < most)) (λ assign. person_of_more assign.person second) assigns are.assignees;
+  named =
+      All-weaker (λ assign. assign.pairing < pairings) (λ assign. assign.pairing < more)
+      (λ assign l. omega arith) assigns are.named;
+  assignees =
+      All-weaker (λ assign. IfSome assign.person (λ k. k < persons))
+      (λ assign. IfSome assign.person (λ k. k < most))
+      (λ assign. person_of_more assign.person second) assigns are.assignees;
   once = are.once;
 }
 
-paired-below : (n : ℕ) (assigns : List Assign) (q : ℕ) → All (λ assign. assign.pairing < n) assigns → list_any (eqb q) (paired assigns) ≡ true → q < n
+paired-below : (n : ℕ) (assigns : List Assign) (q : ℕ) → All (λ assign. assign.pairing < n) assigns
+    → list_any (eqb q) (paired assigns) ≡ true → q < n
 paired-below n [] q named h = cc
 paired-below n (assign ∷ assigns) q named h =
-    let P : Bool → Type 0 = λ b. eqb q assign.pairing ≡ b → (b || list_any (eqb q) (paired assigns)) ≡ true → q < n in
+    let P : Bool → Type 0 =
+    λ b. eqb q assign.pairing ≡ b → (b || list_any (eqb q) (paired assigns)) ≡ true → q < n in
     elim (eqb q assign.pairing) as P [
       | true ↦ λ e any. (let own = All-head (λ a. a.pairing < n) assign assigns named in let same : q ≡ assign.pairing = eqb-true _ _ e in omega arith)
       | false ↦ λ e any. paired-below n assigns q (All-tail (λ a. a.pairing < n) assign assigns named) any
     ] refl h
 
 -- they are no more than the pairings
-pub few_assigned : (pairings persons : ℕ) (assigns : List Assign) → AreAssigned pairings persons assigns → length assigns ≤ pairings
+pub few_assigned : (pairings persons : ℕ) (assigns : List Assign) → AreAssigned pairings persons assigns
+    → length assigns ≤ pairings
 few_assigned pairings persons assigns are =
     let long = length-map assigns (λ (assign : Assign). assign.pairing) in
-    let few = length-le_from_distinct_below (paired assigns) pairings are.once (λ q h. paired-below pairings assigns q are.named h) in
+    let few =
+    length-le_from_distinct_below (paired assigns) pairings are.once
+    (λ q h. paired-below pairings assigns q are.named h) in
     omega arith
 
 -- ---- the contents
@@ -98,11 +115,13 @@ pub record AreSound (count sectors : ℕ) (contents : Contents) : Type 0 where
   pub sound : IsSound contents.tables
   pub room : sectors ≤ MOST_SECTORS
   pub sectors_are : sector_count contents.tables.duties ≡ sectors
-  pub assigned : AreAssigned (length contents.tables.pairings) (length contents.tables.persons) contents.assigns
+  pub assigned : AreAssigned (length contents.tables.pairings)
+      (length contents.tables.persons) contents.assigns
   pub few_steps : length contents.steps ≤ MOST_STEPS
   pub count_is : count ≤ 1 + entries contents.tables + length contents.assigns + length contents.steps + sectors
 
-pub sound-none : {period : Period} → AreSound 1 0 (record { tables = tables_of_period period; assigns = []; steps = [] })
+pub sound-none : {period : Period}
+    → AreSound 1 0 (record { tables = tables_of_period period; assigns = []; steps = [] })
 unfolding IsDistinct
 sound-none = record {
   sound = search (arith, All-nil);
@@ -114,7 +133,8 @@ sound-none = record {
 }
 
 -- what is known where a record of the kind is taken
-pub record IsTaken (count : ℕ) (kind : Kind) (before : List Record) (fields : Record) (contents : Contents) : Type 0 where
+pub record IsTaken (count : ℕ) (kind : Kind) (before : List Record) (fields : Record)
+    (contents : Contents) : Type 0 where
   pub sound : AreSound count (length (sectors_in before)) contents
   pub tables_are : contents.tables ≡ tables_in before
   pub assigns_are : contents.assigns ≡ assigns_in before
@@ -123,13 +143,17 @@ pub record IsTaken (count : ℕ) (kind : Kind) (before : List Record) (fields : 
 
 -- Records of the kind keep the contents sound.
 abbrev pub KeepsSound : Kind → Type 0
-KeepsSound kind = (count : ℕ) (before : List Record) (fields : Record) (contents : Contents) → IsTaken count kind before fields contents
+KeepsSound kind =
+    (count : ℕ) (before : List Record) (fields : Record) (contents : Contents)
+    → IsTaken count kind before fields contents
     → AreSound (count + 1) (length (grown (is_same kind SectorRecord) (sectors_in before) (sector_of before fields))) (contents_with kind before fields contents)
 
 -- they do where a table has an entry more, and sectors and what else is kept are as before
 pub sound-more : {count sectors : ℕ} {contents : Contents} {more : Problem} → AreSound count sectors contents
-    → IsSound more → sector_count more.duties ≡ sector_count contents.tables.duties → AreAssigned (length more.pairings) (length more.persons) contents.assigns
-    → entries contents.tables + 1 ≤ entries more → AreSound (count + 1) sectors (record contents { tables = more })
+    → IsSound more → sector_count more.duties ≡ sector_count contents.tables.duties
+    → AreAssigned (length more.pairings) (length more.persons) contents.assigns
+    → entries contents.tables + 1 ≤ entries more
+    → AreSound (count + 1) sectors (record contents { tables = more })
 sound-more s sound same assigned longer = record {
   sound = sound;
   room = s.room;

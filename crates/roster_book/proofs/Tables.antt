@@ -29,27 +29,32 @@ abbrev pub is_same : Kind → Kind → Bool
 is_same kind other = bytes_eq (word_of kind) (word_of other)
 
 -- a record is of one kind
-is_of-other : (kind other : Kind) (fields : Record) → is_of kind fields ≡ true → is_of other fields ≡ is_same kind other
-is_of-other kind other fields h = ap (λ word. bytes_eq word (word_of other)) ((bytes_eq-Decides (field fields 0) (word_of kind)).0 h)
+is_of-other : (kind other : Kind) (fields : Record) → is_of kind fields ≡ true
+    → is_of other fields ≡ is_same kind other
+is_of-other kind other fields h =
+    ap (λ word. bytes_eq word (word_of other)) ((bytes_eq-Decides (field fields 0) (word_of kind)).0 h)
 
 -- a table with one more entry, or as it is
 abbrev pub grown : {X : Type 0} → Bool → List X → X → List X
 grown true entries entry = entries ++ entry ∷ []
 grown false entries entry = entries
 
-grown-by : {X : Type 0} (b : Bool) (entries : List X) (entry : X) → entries ++ cons_option (cond b (Some entry) None) [] ≡ grown b entries entry
+grown-by : {X : Type 0} (b : Bool) (entries : List X) (entry : X)
+    → entries ++ cons_option (cond b (Some entry) None) [] ≡ grown b entries entry
 grown-by true entries entry = refl
 grown-by false entries entry = append-nil entries
 
 -- a table grows by records of its own kind alone
-pub entries_of-append : {X : Type 0} (kind other : Kind) (made : List Record → Record → X) (before : List Record) (fields : Record)
+pub entries_of-append : {X : Type 0} (kind other : Kind) (made : List Record → Record → X)
+    (before : List Record) (fields : Record)
     → is_of kind fields ≡ true → entries_of other made (before ++ fields ∷ []) ≡ grown (is_same kind other) (entries_of other made before) (made before fields)
 entries_of-append kind other made before fields h =
     gather_after-append (entry_of other made) [] before fields
     ∙ ap (λ b. entries_of other made before ++ cons_option (cond b (Some (made before fields)) None) []) (is_of-other kind other fields h)
     ∙ grown-by (is_same kind other) (entries_of other made before) (made before fields)
 
-period_in-append : (before : List Record) (fields : Record) → 0 < length before → period_in (before ++ fields ∷ []) ≡ period_in before
+period_in-append : (before : List Record) (fields : Record) → 0 < length before
+    → period_in (before ++ fields ∷ []) ≡ period_in before
 unfolding period_in
 period_in-append [] fields h = absurd (omega arith)
 period_in-append (first ∷ rest) fields h = refl
@@ -59,7 +64,8 @@ abbrev pub weight_with : Bool → Option ℕ → ℕ → Option ℕ
 weight_with true given weight = option_or given (Some weight)
 weight_with false given weight = given
 
-first_of_grown : (b : Bool) (weights : List ℕ) (weight : ℕ) → slice_get (grown b weights weight) 0 ≡ weight_with b (slice_get weights 0) weight
+first_of_grown : (b : Bool) (weights : List ℕ) (weight : ℕ)
+    → slice_get (grown b weights weight) 0 ≡ weight_with b (slice_get weights 0) weight
 first_of_grown true [] weight = refl
 first_of_grown true (first ∷ weights) weight = refl
 first_of_grown false weights weight = refl
@@ -67,7 +73,8 @@ first_of_grown false weights weight = refl
 weight_in-append : (kind : Kind) (before : List Record) (fields : Record) → is_of kind fields ≡ true
     → weight_in (before ++ fields ∷ []) ≡ weight_with (is_same kind WeightRecord) (weight_in before) (weight_of before fields)
 weight_in-append kind before fields h =
-    ap (λ (weights : List ℕ). slice_get weights 0) (entries_of-append kind WeightRecord weight_of before fields h)
+    ap (λ (weights : List ℕ). slice_get weights 0)
+    (entries_of-append kind WeightRecord weight_of before fields h)
     ∙ first_of_grown (is_same kind WeightRecord) (weights_in before) (weight_of before fields)
 
 -- duties with a sector more, or with a duty more
@@ -77,19 +84,25 @@ duties_by false of_duty given duty duties = grown of_duty duties duty
 
 -- duties with what a record of the kind adds
 abbrev pub duties_with : Kind → List Record → Record → List Duty → List Duty
-duties_with kind before fields duties = duties_by (is_same kind SectorRecord) (is_same kind DutyRecord) (sector_of before fields) (duty_of before fields) duties
+duties_with kind before fields duties =
+    duties_by (is_same kind SectorRecord) (is_same kind DutyRecord) (sector_of before fields)
+    (duty_of before fields) duties
 
-duties_by-is : (of_sector of_duty : Bool) (before : List Record) (fields : Record) → (of_sector ≡ true → of_duty ≡ false)
+duties_by-is : (of_sector of_duty : Bool) (before : List Record) (fields : Record)
+    → (of_sector ≡ true → of_duty ≡ false)
     → flown (grown of_sector (sectors_in before) (sector_of before fields)) (grown of_duty (duties_in before) (duty_of before fields))
     ≡ duties_by of_sector of_duty (sector_of before fields) (duty_of before fields) (flown (sectors_in before) (duties_in before))
 duties_by-is true true before fields one = cc (one refl)
-duties_by-is true false before fields one = flown-sector (sectors_in before) (sector_of before fields) (duties_in before)
+duties_by-is true false before fields one =
+    flown-sector (sectors_in before) (sector_of before fields) (duties_in before)
 duties_by-is false true before fields one = flown-duty before fields
 duties_by-is false false before fields one = refl
 
 -- no kind is that of sectors and that of duties
 one_of_both : (kind : Kind) → is_same kind SectorRecord ≡ true → is_same kind DutyRecord ≡ false
-one_of_both kind h = ap (λ word. bytes_eq word (word_of DutyRecord)) ((bytes_eq-Decides (word_of kind) (word_of SectorRecord)).0 h)
+one_of_both kind h =
+    ap (λ word. bytes_eq word (word_of DutyRecord))
+    ((bytes_eq-Decides (word_of kind) (word_of SectorRecord)).0 h)
 
 -- the tables with what a record of the kind adds
 abbrev pub tables_with : Kind → List Record → Record → Problem → Problem
@@ -127,13 +140,15 @@ tables_in-grown kind before fields h = rw (
 )
 
 -- the month stays that of the first record
-pub tables_in-append : (kind : Kind) (before : List Record) (fields : Record) → 0 < length before → is_of kind fields ≡ true
+pub tables_in-append : (kind : Kind) (before : List Record) (fields : Record) → 0 < length before
+    → is_of kind fields ≡ true
     → tables_in (before ++ fields ∷ []) ≡ tables_with kind before fields (tables_in before)
 tables_in-append kind before fields begun h =
     tables_in-grown kind before fields h
     ∙ ap (λ month. record (tables_with kind before fields (tables_in before)) { period = month }) (period_in-append before fields begun)
 
-pub tables_in-first : (fields : Record) → is_of PeriodRecord fields ≡ true → tables_in (fields ∷ []) ≡ tables_of_period (period_in (fields ∷ []))
+pub tables_in-first : (fields : Record) → is_of PeriodRecord fields ≡ true
+    → tables_in (fields ∷ []) ≡ tables_of_period (period_in (fields ∷ []))
 unfolding gather_after flown_from
 tables_in-first fields h = tables_in-grown PeriodRecord [] fields h
 

@@ -69,7 +69,8 @@ Reads told entry (Ok x) = (told ≡ None) × (x ≡ entry)
 Reads told entry (Err e) = Refuses e told
 
 -- The entry stands behind the others, or the record is refused.
-abbrev pub Pushes : {X : Type 0} → Option model.Code → X → List X → List X → Result (Unit {0}) Refusal → Type 0
+abbrev pub Pushes : {X : Type 0} → Option model.Code → X → List X → List X → Result (Unit {0}) Refusal
+    → Type 0
 Pushes told entry old new (Ok done) = (told ≡ None) × (new ≡ old ++ entry ∷ [])
 Pushes told entry old new (Err e) = Refuses e told
 

@@ -27,7 +27,8 @@ pub record IsBookOf (command : Command) (records : List Record) (book : Book) : 
 
 -- if the fault is a record's, it is the first fault of the records
 abbrev pub TellsFirst : Command → List Record → BookFault → Type 0
-TellsFirst command records (At row code) = first_fault command records ≡ Some (record { row = row; code = code })
+TellsFirst command records (At row code) =
+    first_fault command records ≡ Some (record { row = row; code = code })
 TellsFirst command records Device = ⊤
 TellsFirst command records Memory = ⊤
 
@@ -53,7 +54,8 @@ pub record IsOpen {R : Type 0} (rows : Reader R) : Type 0 where
 -- the records of known bytes, for a machine that stands between two records
 abbrev pub records_between : State → Option (List ℕ) → Option (List Record)
 records_between s bytes =
-    if ends_at_end s then None else option_map (λ known. records_from default_config (length known + 1) s known) bytes
+    if ends_at_end s then None else option_map
+    (λ known. records_from default_config (length known + 1) s known) bytes
 
 -- the records that a reader between two records has still to give, if its bytes are known
 abbrev pub records_left : {R : Type 0} → (R → Option (List ℕ)) → Reader R → Option (List Record)

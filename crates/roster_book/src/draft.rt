@@ -1,6 +1,7 @@
 //! What is kept of the records taken so far.
 
-ghost use Rattle.std.specs.Prelude.{◌≡◌, ◌≢◌, ◌<◌, ◌∷◌, [], ℕ, List, Option, Some, None, MatchResult, IfErr, IsErrOf, option_map, vec_len};
+ghost use Rattle.std.specs.Prelude.{◌≡◌, ◌≢◌, ◌<◌, ◌∷◌, [], ℕ, List, Option, Some, None, MatchResult, IfErr};
+ghost use Rattle.std.specs.Prelude.{IsErrOf, option_map, vec_len};
 ghost use Rattle.std.specs.List.{list_any};
 ghost use Rattle.csv.specs.Records.{fields_of};
 ghost use Rattle.roster_model.specs.Code as model;
@@ -10,7 +11,8 @@ ghost use Rattle.roster_model.specs.Problem.{home_of};
 ghost use Rattle.roster_model.specs.Faults.{code_of, first_fault, pairing_without_duty};
 ghost use Rattle.roster_model.specs.records.Pairing as pairings;
 ghost use Rattle.roster_model.specs.records.Duty.{is_held_by_pairing, last_duty};
-ghost use Rattle.roster_book.specs.Draft.{HasRecords, IsDraftOf, Judges, Pushes, base_of_pairing, contents_of, tables_of_draft};
+ghost use Rattle.roster_book.specs.Draft.{HasRecords, IsDraftOf, Judges, Pushes, base_of_pairing};
+ghost use Rattle.roster_book.specs.Draft.{contents_of, tables_of_draft};
 ghost use Rattle.roster_book.specs.Reading.{IsBookOf, TellsFirst};
 ghost use Rattle.roster_problem.specs.View.{command_of};
 ghost use Rattle.roster_book.specs.View as view;

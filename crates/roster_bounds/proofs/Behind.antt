@@ -10,12 +10,16 @@ use Rattle.roster_model.proofs.PlacesOrder.{by_less}
 heads : (xs ys : List ℕ) (p : ℕ) → p < length xs → length xs ≡ length ys → places_le (drop p xs) (drop p ys) ≡ places_le (get_or xs p 0 ∷ drop (p + 1) xs) (get_or ys p 0 ∷ drop (p + 1) ys)
 heads xs ys p inside long = ap₂ places_le (drop_more xs p 0 inside) (drop_more ys p 0 (omega (arith, long)))
 
-pub earlier_head : (xs ys : List ℕ) (p least : ℕ) → p < length xs → length xs ≡ length ys → ((x : ℕ) → slice_get ys p ≡ Some x → least ≤ x) → ltb (get_or xs p 0) least ≡ true → places_le (drop p xs) (drop p ys) ≡ true
+pub earlier_head : (xs ys : List ℕ) (p least : ℕ) → p < length xs → length xs ≡ length ys
+    → ((x : ℕ) → slice_get ys p ≡ Some x → least ≤ x) → ltb (get_or xs p 0) least ≡ true
+    → places_le (drop p xs) (drop p ys) ≡ true
 earlier_head xs ys p least inside long most less =
     let x = most (get_or ys p 0) (slice_get-get_or ys p 0 (omega (arith, long))) in
     heads xs ys p inside long ∙ by_less (get_or xs p 0) (get_or ys p 0) (drop (p + 1) xs) (drop (p + 1) ys) (omega (arith, x, ltb-true (get_or xs p 0) least less))
 
-pub same_head : (xs ys : List ℕ) (p least : ℕ) → p < length xs → length xs ≡ length ys → ((x : ℕ) → slice_get ys p ≡ Some x → least ≤ x) → get_or xs p 0 ≡ least → places_le (drop (p + 1) xs) (drop (p + 1) ys) ≡ true → places_le (drop p xs) (drop p ys) ≡ true
+pub same_head : (xs ys : List ℕ) (p least : ℕ) → p < length xs → length xs ≡ length ys
+    → ((x : ℕ) → slice_get ys p ≡ Some x → least ≤ x) → get_or xs p 0 ≡ least
+    → places_le (drop (p + 1) xs) (drop (p + 1) ys) ≡ true → places_le (drop p xs) (drop p ys) ≡ true
 same_head xs ys p least inside long most same rest =
     let a : ℕ = get_or xs p 0 in
     let b : ℕ = get_or ys p 0 in

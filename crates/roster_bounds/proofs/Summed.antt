@@ -14,7 +14,8 @@ use Rattle.roster_bounds.specs.Chosen.{line_set, penalty_at, penalty_or_price, p
 use Rattle.roster_bounds.proofs.OfNode.{has_line}
 
 -- what the pairings from p on add, where the next has the number x
-pub next_pairing : (tables : PricedTable) (places : List ℕ) (p x : ℕ) → p < length tables.problem.pairings → slice_get places p ≡ Some x
+pub next_pairing : (tables : PricedTable) (places : List ℕ) (p x : ℕ) → p < length tables.problem.pairings
+    → slice_get places p ≡ Some x
     → penalties_and_prices (price_at tables.prices) (length tables.problem.persons) p (drop p tables.problem.pairings) (drop p places)
     ≡ penalty_or_price tables p x +ℤ penalties_and_prices (price_at tables.prices) (length tables.problem.persons) (p + 1) (drop (p + 1) tables.problem.pairings) (drop (p + 1) places)
 next_pairing tables places p x inside at =
@@ -24,7 +25,8 @@ next_pairing tables places p x inside at =
     elim (slice_get_cases pairings p).1 [
       | inl found ↦
           let pairing = found.0 in
-          let penalty : penalty_at tables.problem p ≡ pairing.penalty = ap (λ (o : Option Pairing). unwrap_or (option_map (λ q. q.penalty) o) 0) found.2 in
+          let penalty : penalty_at tables.problem p ≡ pairing.penalty =
+          ap (λ (o : Option Pairing). unwrap_or (option_map (λ q. q.penalty) o) 0) found.2 in
           let rest : ℤ = penalties_and_prices price n (p + 1) (drop (p + 1) pairings) (drop (p + 1) places) in
           ap₂ (λ (qs : List Pairing) (xs : List ℕ). penalties_and_prices price n p qs xs)
           (drop_more pairings p pairing inside ∙ ap (λ (q : Pairing). q ∷ drop (p + 1) pairings) found.3)
@@ -34,7 +36,8 @@ next_pairing tables places p x inside at =
     ]
 
 -- the sum over some persons, and one more
-pub total-range_more : (f : ℕ → ℤ) (first n last : ℕ) → first + n ≡ last → total f (range_with_len first (suc n)) ≡ total f (range_with_len first n) +ℤ f last
+pub total-range_more : (f : ℕ → ℤ) (first n last : ℕ) → first + n ≡ last
+    → total f (range_with_len first (suc n)) ≡ total f (range_with_len first n) +ℤ f last
 total-range_more f first zero last at =
     let same = ap f (let here : first ≡ last = omega arith in here) in
     omega (arith, ints, total-cons f first [], total-nil f, same)
@@ -48,7 +51,9 @@ front tables first [] places same = total-nil (λ k. reduced_at tables k (set_of
 front tables first (i ∷ lines) places same =
     let f : ℕ → ℤ = λ k. reduced_at tables k (set_of k places) in
     let here : first + 0 ≡ first = omega arith in
-    let head = ap (reduced_at tables first) (subst (λ n. line_set tables.table n i ≡ set_of n places) here (same 0 i refl)) in
+    let head =
+    ap (reduced_at tables first)
+    (subst (λ n. line_set tables.table n i ≡ set_of n places) here (same 0 i refl)) in
     let later = front tables (first + 1) lines places (λ k h at. let next : first + suc k ≡ first + 1 + k = omega arith in subst (λ n. line_set tables.table n h ≡ set_of n places) next (same (suc k) h at)) in
     omega (arith, ints, total-cons f first (range_with_len (first + 1) (length lines)), head, later)
 

@@ -50,7 +50,8 @@ IsReducedBound problem prices k bound =
 -- the first sums are what the pairings of so many lines of person k have for prices, in all
 pub record AreSums (table : List (List Entry)) (prices : List ℤ) (k count : ℕ) (sums : List ℤ) : Type 0 where
   pub covers : length sums ≡ count
-  pub each : (i : ℕ) → i < count → slice_index_or sums i (pos 0) ≡ total (price_at prices) (line_set table k i)
+  pub each : (i : ℕ) → i < count
+      → slice_index_or sums i (pos 0) ≡ total (price_at prices) (line_set table k i)
 
 -- for each of so many persons a bound on the reduced costs of their lines
 pub record AreReducedBounds (problem : Problem) (prices : List ℤ) (count : ℕ) (bounds : List ℤ) : Type 0 where

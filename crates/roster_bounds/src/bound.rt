@@ -1,6 +1,7 @@
 //! What every roster of a node costs at least.
 
-ghost use Rattle.std.specs.Prelude.{◌≡◌, ◌<◌, ◌≤◌, ◌≤ℤ◌, ◌^◌, ℕ, true, IsTrue, List, Some, length, neg_ℤ, pos, slice_get};
+ghost use Rattle.std.specs.Prelude.{◌≡◌, ◌<◌, ◌≤◌, ◌≤ℤ◌, ◌^◌, ℕ, true, IsTrue, List, Some, length, neg_ℤ};
+ghost use Rattle.std.specs.Prelude.{pos, slice_get};
 ghost use Rattle.std.specs.List.{range_with_len};
 ghost use Rattle.roster_model.specs.Costs.{cost_of, total};
 ghost use Rattle.roster_model.specs.Lines.{IsLine};
@@ -10,7 +11,8 @@ ghost use Rattle.roster_cost.specs.Amounts.{IsWithin};
 ghost use Rattle.roster_cost.specs.Priced.{penalties_and_prices};
 ghost use Rattle.roster_lines.specs.Person.{lines_at};
 ghost use Rattle.roster_bounds.specs.Amounts.{most_prices, AreReduced};
-ghost use Rattle.roster_bounds.specs.Chosen.{line_set, penalty_or_price, price_at, reduced_at, IsOfNode, Meets};
+ghost use Rattle.roster_bounds.specs.Chosen.{line_set, penalty_or_price, price_at, reduced_at, IsOfNode};
+ghost use Rattle.roster_bounds.specs.Chosen.{Meets};
 ghost use Rattle.roster_bounds.specs.declared.prices.TheConstants.{MOST_PRICE};
 
 use crate::node::Node;

@@ -1,6 +1,7 @@
 //! Lines that are chosen for the first persons.
 
-ghost use Rattle.std.specs.Prelude.{◌≡◌, ◌<◌, ◌↔◌, ◌||◌, ◌++◌, ◌∷◌, [], ℕ, IfOk, IsTrue, MatchOption, Some, length, slice_get, List, ◌≤◌};
+ghost use Rattle.std.specs.Prelude.{◌≡◌, ◌<◌, ◌↔◌, ◌||◌, ◌++◌, ◌∷◌, [], ℕ, IfOk, IsTrue, MatchOption, Some};
+ghost use Rattle.std.specs.Prelude.{length, slice_get, List, ◌≤◌};
 ghost use Rattle.roster_model.specs.Rules.{is_among};
 ghost use Rattle.roster_lines.specs.Person.{lines_at};
 ghost use Rattle.roster_bounds.specs.Chosen.{line_set, one_line_more, placing_person, IsOfNode, Meets};

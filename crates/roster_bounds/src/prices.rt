@@ -1,6 +1,7 @@
 //! Prices of pairings.
 
-ghost use Rattle.std.specs.Prelude.{◌≡◌, ◌<◌, ◌≤◌, ◌*◌, ◌/◌, ◌↔◌, All, IfErr, IfOk, IsOk, IsTrue, [], length, pos};
+ghost use Rattle.std.specs.Prelude.{◌≡◌, ◌<◌, ◌≤◌, ◌*◌, ◌/◌, ◌↔◌, All, IfErr, IfOk, IsOk, IsTrue, [], length};
+ghost use Rattle.std.specs.Prelude.{pos};
 ghost use Rattle.roster_model.specs.Costs.{total};
 ghost use Rattle.roster_model.specs.declared.limits.TheConstants.{MOST_PENALTY};
 ghost use Rattle.roster_cost.specs.Amounts.{IsWithin};

@@ -8,7 +8,8 @@ ghost use Rattle.roster_lines.specs.Person.{lines_at, IsTableOf};
 ghost use Rattle.roster_cost.specs.Amounts.{IsWithin};
 ghost use Rattle.roster_bounds.specs.declared.prices.TheConstants.{MOST_PRICE};
 ghost use Rattle.roster_bounds.specs.Amounts.{AreReduced};
-ghost use Rattle.roster_bounds.specs.Chosen.{halves_of, line_set, priced_table, reduced_at, ArePriced, AreReducedBounds, IsReducedBound, penalty_at, price_at};
+ghost use Rattle.roster_bounds.specs.Chosen.{halves_of, line_set, priced_table, reduced_at, ArePriced};
+ghost use Rattle.roster_bounds.specs.Chosen.{AreReducedBounds, IsReducedBound, penalty_at, price_at};
 
 use crate::prices::Prices;
 use crate::reduced::{least_of_any, least_reduced, reduced};

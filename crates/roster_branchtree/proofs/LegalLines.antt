@@ -17,7 +17,8 @@ use Rattle.roster_bounds.proofs.PricedLines.{line_is, line_set-at, number_of_lin
 abbrev pub Finds : List (List Entry) → ℕ → List ℕ → Option ℕ → Type 0
 Finds table k set found = (i : ℕ) → (found ≡ Some i) ↔ (slice_get (sets_of (lines_at table k)) i ≡ Some set)
 
-legal_line : (problem : Problem) (k : ℕ) (places : List ℕ) → length places ≡ length problem.pairings → IsLegal problem k (set_of k places) → IsLine problem k (set_of k places)
+legal_line : (problem : Problem) (k : ℕ) (places : List ℕ) → length places ≡ length problem.pairings
+    → IsLegal problem k (set_of k places) → IsLine problem k (set_of k places)
 legal_line problem k places covers legal = record {
   ascending = rising_from_Ascends (set_of k places) (Ascends-set_of k places);
   places = subst (λ n. All (λ p. p < n) (set_of k places)) covers (places_of_number k places);
@@ -29,11 +30,15 @@ pub found_is_legal : (problem : Problem) (table : List (List Entry)) (k : ℕ) (
 found_is_legal problem table k places (Some i) is person covers finds =
     let at = (finds i).0 refl in
     let inside : i < length (lines_at table k) = omega (arith, slice_get_within (sets_of (lines_at table k)) i (set_of k places) at, length-map (lines_at table k) (λ entry. entry.set)) in
-    let line = subst (IsLine problem k) (line_set-at table k i (set_of k places) at) (line_is problem table k i is person inside) in
+    let line =
+    subst (IsLine problem k) (line_set-at table k i (set_of k places) at)
+    (line_is problem table k i is person inside) in
     ((λ yes. line.legal), λ legal. refl)
 found_is_legal problem table k places None is person covers finds = (
   (λ no. absurd (false≢true no)),
   λ legal.
-      let there = number_of_line problem table k (set_of k places) is person (legal_line problem k places covers legal) in
+      let there =
+      number_of_line problem table k (set_of k places) is person
+      (legal_line problem k places covers legal) in
       absurd (none-some there.0 ((finds there.0).1 there.2)),
 )

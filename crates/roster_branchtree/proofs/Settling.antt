@@ -15,11 +15,14 @@ abbrev pub watch_of : Problem → ℕ → Key → Watched
 watch_of problem every known = record { problem = problem; every = every; best = known }
 
 -- its roster is that of a legal roster of the problem
-pub watch_held : (problem : Problem) (every : ℕ) (known : Key) (now : Watched) → IsHeld problem known → KeepsWatch (watch_of problem every known) now → IsHeld problem now.best
+pub watch_held : (problem : Problem) (every : ℕ) (known : Key) (now : Watched) → IsHeld problem known
+    → KeepsWatch (watch_of problem every known) now → IsHeld problem now.best
 watch_held problem every known now held keeps = subst (λ p. IsHeld p now.best) keeps.problem (keeps.held held)
 
 -- the best of what was seen before, found and seen since
-earlier : (found : Option Key) (before since best : Key) → key_le since before ≡ true → MatchOption found (best ≡ since) (λ key. IsEarlierOf key since best) → IsEarlierOf (unwrap_or found before) since best
+earlier : (found : Option Key) (before since best : Key) → key_le since before ≡ true
+    → MatchOption found (best ≡ since) (λ key. IsEarlierOf key since best)
+    → IsEarlierOf (unwrap_or found before) since best
 earlier None before since best kept same = record {
   first = subst (λ key. key_le key before ≡ true) (sym same) kept;
   second = subst (λ key. key_le key since ≡ true) (sym same) (key_le-refl since);
@@ -29,7 +32,8 @@ earlier (Some key) before since best kept is = is
 
 pub found_settles : (problem : Problem) (Region : List ℕ → Type 0) (every : ℕ) (known : Key) (mid now : Watched) (found : Option Key) (best : Key) → IsHeld problem known
     → KeepsWatch (watch_of problem every known) mid → KeepsWatch mid now
-    → Settles problem Region (λ places. every ≡ 0 → Region places) (Some mid.best) (unwrap_or found mid.best) → MatchOption found (best ≡ now.best) (λ key. IsEarlierOf key now.best best)
+    → Settles problem Region (λ places. every ≡ 0 → Region places) (Some mid.best) (unwrap_or found mid.best)
+    → MatchOption found (best ≡ now.best) (λ key. IsEarlierOf key now.best best)
     → Settles problem Region (λ places. every ≡ 0 → Region places) (Some known) best
 found_settles problem Region every known mid now found best held first second settled one =
     let start = watch_of problem every known in

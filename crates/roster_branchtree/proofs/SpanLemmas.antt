@@ -22,17 +22,20 @@ use Rattle.roster_spans.specs.Spans.{Span}
 
 -- ---- ranges
 
-pub range_of_path : (table : List (List Entry)) (span : Span) (k i : ℕ) → slice_get span.path k ≡ Some i → range_at table span k ≡ (i, i + 1)
+pub range_of_path : (table : List (List Entry)) (span : Span) (k i : ℕ) → slice_get span.path k ≡ Some i
+    → range_at table span k ≡ (i, i + 1)
 range_of_path table span k i at =
     ap (λ (number : Option ℕ). range_or number (cond (eqb k (length span.path)) (span.lo, span.hi) (0, length (lines_at table k)))) at
 
-pub range_of_next : (table : List (List Entry)) (span : Span) (k : ℕ) → k ≡ length span.path → range_at table span k ≡ (span.lo, span.hi)
+pub range_of_next : (table : List (List Entry)) (span : Span) (k : ℕ) → k ≡ length span.path
+    → range_at table span k ≡ (span.lo, span.hi)
 range_of_next table span k is =
     let past = slice_get_past span.path k (omega (arith, is)) in
     let same = eq-eqb k (length span.path) is in
     rw (past, same) refl
 
-pub range_of_later : (table : List (List Entry)) (span : Span) (k : ℕ) → length span.path < k → range_at table span k ≡ (0, length (lines_at table k))
+pub range_of_later : (table : List (List Entry)) (span : Span) (k : ℕ) → length span.path < k
+    → range_at table span k ≡ (0, length (lines_at table k))
 range_of_later table span k later =
     let past = slice_get_past span.path k (omega arith) in
     let other = ne_eqb k (length span.path) (λ e. omega (arith, e)) in
@@ -41,12 +44,14 @@ range_of_later table span k later =
 -- ---- rosters of the path
 
 -- the number of a line that a roster has is below the width
-pub number_within : (table : List (List Entry)) (path places : List ℕ) (k i : ℕ) → HasLines table path places → slice_get path k ≡ Some i → i < length (lines_at table k)
+pub number_within : (table : List (List Entry)) (path places : List ℕ) (k i : ℕ) → HasLines table path places
+    → slice_get path k ≡ Some i → i < length (lines_at table k)
 number_within table path places k i has at =
     omega (arith, slice_get_within (sets_of (lines_at table k)) i (set_of k places) (has k i at), length-map (lines_at table k) (λ entry. entry.set))
 
 -- a roster that has the lines of the path has those of its front,
-has_front : (table : List (List Entry)) (path places : List ℕ) (k : ℕ) → HasLines table path places → k ≤ length path → HasLines table (take k path) places
+has_front : (table : List (List Entry)) (path places : List ℕ) (k : ℕ) → HasLines table path places
+    → k ≤ length path → HasLines table (take k path) places
 has_front table path places k has few j i at =
     let front : length (take k path) ≡ k = length-take-le k path few in
     let inside : j < k = omega (arith, front, slice_get_within (take k path) j i at) in
@@ -54,34 +59,43 @@ has_front table path places k has few j i at =
     has j i (slice_get-get_or path j 0 (omega arith) ∙ ap (λ n. Some n) here)
 
 -- and its next line shares no pairing with them
-pub meets_none : (table : List (List Entry)) (path places : List ℕ) (k : ℕ) → HasLines table path places → k < length path → Meets table (take k path) (line_set table k (get_or path k 0)) → ⊥
+pub meets_none : (table : List (List Entry)) (path places : List ℕ) (k : ℕ) → HasLines table path places
+    → k < length path → Meets table (take k path) (line_set table k (get_or path k 0)) → ⊥
 meets_none table path places k has inside meets =
     let line = has_line table path places k (get_or path k 0) has (slice_get-get_or path k 0 inside) in
     let front : length (take k path) ≡ k = length-take-le k path (omega arith) in
-    later_is_apart table (take k path) places k (has_front table path places k has (omega arith)) (omega (arith, front)) (subst (Meets table (take k path)) line meets)
+    later_is_apart table (take k path) places k (has_front table path places k has (omega arith))
+    (omega (arith, front)) (subst (Meets table (take k path)) line meets)
 
 -- ---- rosters of a span
 
-pub sets_at : (table : List (List Entry)) (k : ℕ) → k < length table → slice_get (map sets_of table) k ≡ Some (sets_of (lines_at table k))
+pub sets_at : (table : List (List Entry)) (k : ℕ) → k < length table
+    → slice_get (map sets_of table) k ≡ Some (sets_of (lines_at table k))
 sets_at table k inside =
     let none : List Entry = [] in
     slice_get-map sets_of table k ∙ ap (option_map sets_of) (slice_get-get_or table k none inside)
 
-pub in_span_has_lines : (table : List (List Entry)) (span : Span) (places : List ℕ) → IsInSpan table span places → HasLines table span.path places
+pub in_span_has_lines : (table : List (List Entry)) (span : Span) (places : List ℕ)
+    → IsInSpan table span places → HasLines table span.path places
 in_span_has_lines table span places inside k i at =
     let number = inside.2.front k i at in
-    let few : k < length table = omega (arith, slice_get_within inside.0 k i number, inside.1.box.covers, length-map table sets_of) in
+    let few : k < length table =
+    omega (arith, slice_get_within inside.0 k i number, inside.1.box.covers, length-map table sets_of) in
     inside.1.sets k i (sets_of (lines_at table k)) number (sets_at table k few)
 
-pub in_span_short : (table : List (List Entry)) (span : Span) (places : List ℕ) → IsInSpan table span places → length span.path < length table
+pub in_span_short : (table : List (List Entry)) (span : Span) (places : List ℕ) → IsInSpan table span places
+    → length span.path < length table
 in_span_short table span places inside =
     omega (arith, slice_get_within inside.0 (length span.path) inside.2.next.0 inside.2.next.1, inside.1.box.covers, length-map table sets_of)
 
 -- a line in the range that has the person's set
 abbrev pub HasInRange : List (List Entry) → List ℕ → ℕ → ℕ × ℕ → Type 0
-HasInRange table places k range = (i : ℕ) × (range.0 ≤ i) × (i < range.1) × (slice_get (sets_of (lines_at table k)) i ≡ Some (set_of k places))
+HasInRange table places k range =
+    (i : ℕ) × (range.0 ≤ i) × (i < range.1)
+    × (slice_get (sets_of (lines_at table k)) i ≡ Some (set_of k places))
 
-in_range : (table : List (List Entry)) (span : Span) (places : List ℕ) (k : ℕ) → IsInSpan table span places → k < length table → HasInRange table places k (range_at table span k)
+in_range : (table : List (List Entry)) (span : Span) (places : List ℕ) (k : ℕ) → IsInSpan table span places
+    → k < length table → HasInRange table places k (range_at table span k)
 in_range table span places k inside few =
     let numbers = inside.0 in
     let long : length numbers ≡ length table = inside.1.box.covers ∙ length-map table sets_of in
@@ -99,17 +113,23 @@ in_range table span places k inside few =
             (i, omega arith, omega arith, in_span_has_lines table span places inside k i at)
         | inr later ↦
             let j : ℕ = get_or numbers k 0 in
-            let found = inside.1.sets k j (sets_of (lines_at table k)) (slice_get-get_or numbers k 0 (omega (arith, long))) (sets_at table k few) in
+            let found =
+            inside.1.sets k j (sets_of (lines_at table k))
+            (slice_get-get_or numbers k 0 (omega (arith, long))) (sets_at table k few) in
             let below : j < length (lines_at table k) = omega (arith, slice_get_within (sets_of (lines_at table k)) j (set_of k places) found, length-map (lines_at table k) (λ entry. entry.set)) in
-            subst (HasInRange table places k) (sym (range_of_later table span k later)) (j, omega arith, below, found)
+            subst (HasInRange table places k) (sym (range_of_later table span k later))
+            (j, omega arith, below, found)
       ]
     ]
 
 -- what lies in the span is in its ranges,
-pub in_ranges : (table : List (List Entry)) (span : Span) (ranges : List (ℕ × ℕ)) (places : List ℕ) → AreRangesOf table span (length table) ranges → IsInSpan table span places → IsInRanges table ranges places
+pub in_ranges : (table : List (List Entry)) (span : Span) (ranges : List (ℕ × ℕ)) (places : List ℕ)
+    → AreRangesOf table span (length table) ranges → IsInSpan table span places
+    → IsInRanges table ranges places
 in_ranges table span ranges places are inside k range at =
     let few : k < length table = omega (arith, slice_get_within ranges k range at, are.covers) in
-    subst (HasInRange table places k) (same_Some _ _ (sym (are.each k few) ∙ at)) (in_range table span places k inside few)
+    subst (HasInRange table places k) (same_Some _ _ (sym (are.each k few) ∙ at))
+    (in_range table span places k inside few)
 
 -- and a legal roster in them lies in the span
 pub in_span : (problem : Problem) (table : List (List Entry)) (span : Span) (ranges : List (ℕ × ℕ)) (places : List ℕ) → IsTableOf problem table → IsLegalRoster problem places → length span.path < length problem.persons → AreRangesOf table span (length table) ranges → IsInRanges table ranges places → IsInSpan table span places
@@ -118,30 +138,43 @@ in_span problem table span ranges places is legal short are inside =
     let numbers = found.0 in
     let many : length table ≡ length problem.persons = sym (length-map table sets_of) ∙ is.sets.covers in
     let long : length numbers ≡ length table = found.1.box.covers ∙ length-map table sets_of in
-    let one : (k i : ℕ) → k < length table → slice_get (sets_of (lines_at table k)) i ≡ Some (set_of k places) → slice_get numbers k ≡ Some i = λ k i few at.
+    let one : (k i : ℕ) → k < length table → slice_get (sets_of (lines_at table k)) i ≡ Some (set_of k places)
+    → slice_get numbers k ≡ Some i =
+    λ k i few at.
     let number = slice_get-get_or numbers k 0 (omega (arith, long)) in
-    let also = found.1.sets k (get_or numbers k 0) (sets_of (lines_at table k)) number (sets_at table k few) in
+    let also =
+    found.1.sets k (get_or numbers k 0) (sets_of (lines_at table k)) number (sets_at table k few) in
     let ordered = (lines_of_person problem table k is (omega (arith, many))).some.ordered in
     number ∙ ap (λ (n : ℕ). Some n) (one_place (sets_of (lines_at table k)) ordered (get_or numbers k 0) i (set_of k places) also at) in
     let front : (k i : ℕ) → slice_get span.path k ≡ Some i → slice_get numbers k ≡ Some i = λ k i at.
     let few : k < length table = omega (arith, slice_get_within span.path k i at, many, short) in
-    let there = subst (HasInRange table places k) (range_of_path table span k i at) (inside k (range_at table span k) (are.each k few)) in
+    let there =
+    subst (HasInRange table places k) (range_of_path table span k i at)
+    (inside k (range_at table span k) (are.each k few)) in
     let same : there.0 ≡ i = omega (arith, there.1, there.2) in
-    one k i few (subst (λ n. slice_get (sets_of (lines_at table k)) n ≡ Some (set_of k places)) same there.3) in
+    one k i few
+    (subst (λ n. slice_get (sets_of (lines_at table k)) n ≡ Some (set_of k places)) same there.3) in
     let k : ℕ = length span.path in
     let few : k < length table = omega (arith, many, short) in
-    let there = subst (HasInRange table places k) (range_of_next table span k refl) (inside k (range_at table span k) (are.each k few)) in
+    let there =
+    subst (HasInRange table places k) (range_of_next table span k refl)
+    (inside k (range_at table span k) (are.each k few)) in
     (numbers, found.1, record { front = front; next = (there.0, one k there.0 few there.3, there.1, there.2) })
 
 -- so what settles the ranges settles the span
 pub settles_span : (problem : Problem) (table : List (List Entry)) (span : Span) (ranges : List (ℕ × ℕ)) (Own : List ℕ → Type 0) (old new : Key) → IsTableOf problem table → length span.path < length problem.persons → AreRangesOf table span (length table) ranges
-    → Settles problem (IsInRanges table ranges) Own (Some old) new → Settles problem (IsInSpan table span) Own (Some old) new
+    → Settles problem (IsInRanges table ranges) Own (Some old) new
+    → Settles problem (IsInSpan table span) Own (Some old) new
 settles_span problem table span ranges Own old new is short are settled =
-    Settles-within problem (IsInRanges table ranges) (IsInSpan table span) Own (Some old) new settled (λ others legal inside. in_ranges table span ranges others are inside)
+    Settles-within problem (IsInRanges table ranges) (IsInSpan table span) Own (Some old) new settled
+    (λ others legal inside. in_ranges table span ranges others are inside)
 
 -- and what lies in the ranges lies in the span
 pub settles_in_span : (problem : Problem) (table : List (List Entry)) (span : Span) (ranges : List (ℕ × ℕ)) (Own : List ℕ → Type 0) (old new : Key) → IsTableOf problem table → length span.path < length problem.persons → AreRangesOf table span (length table) ranges
-    → ((places : List ℕ) → IsInSpan table span places → Own places) → Settles problem (IsInRanges table ranges) (IsInRanges table ranges) (Some old) new → Settles problem (IsInSpan table span) Own (Some old) new
+    → ((places : List ℕ) → IsInSpan table span places → Own places)
+    → Settles problem (IsInRanges table ranges) (IsInRanges table ranges) (Some old) new
+    → Settles problem (IsInSpan table span) Own (Some old) new
 settles_in_span problem table span ranges Own old new is short are wider settled =
-    Settles-wider problem (IsInSpan table span) (IsInRanges table ranges) Own (Some old) new (settles_span problem table span ranges (IsInRanges table ranges) old new is short are settled)
+    Settles-wider problem (IsInSpan table span) (IsInRanges table ranges) Own (Some old) new
+    (settles_span problem table span ranges (IsInRanges table ranges) old new is short are settled)
     (λ places legal inside. wider places (in_span problem table span ranges places is legal short are inside))

@@ -7,7 +7,8 @@ use Rattle.roster_spans.specs.Spans.{LiesIn, Span}
 
 -- the places have a list of line numbers that lies in the span
 abbrev pub IsInSpan : List (List Entry) → Span → List ℕ → Type 0
-IsInSpan table span places = (numbers : List ℕ) × AreNumbersOf (map sets_of table) places numbers × LiesIn span numbers
+IsInSpan table span places =
+    (numbers : List ℕ) × AreNumbersOf (map sets_of table) places numbers × LiesIn span numbers
 
 -- the range of one line number, if there is one
 abbrev pub range_or : Option ℕ → ℕ × ℕ → ℕ × ℕ
@@ -21,7 +22,8 @@ range_at table span k =
     (if k == length span.path then (span.lo, span.hi) else (0, length (lines_at table k)))
 
 -- the ranges of the first persons, so many of them
-pub record AreRangesOf (table : List (List Entry)) (span : Span) (count : ℕ) (ranges : List (ℕ × ℕ)) : Type 0 where
+pub record AreRangesOf (table : List (List Entry)) (span : Span) (count : ℕ)
+    (ranges : List (ℕ × ℕ)) : Type 0 where
   pub covers : length ranges ≡ count
   pub each : (k : ℕ) → k < count → slice_get ranges k ≡ Some (range_at table span k)
 

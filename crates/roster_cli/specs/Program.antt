@@ -22,7 +22,8 @@ Asks (Err error) command = ⊥
 
 -- The words ask for a command, and it holds of this command and of the records of the bytes that the
 -- reader told, or, if they aren't known, of some.
-abbrev pub OfAsked : {A B E : Type 0} → (model.Command → List Record → Type 0) → Result (Vec (String A) B) E → Option (List ℕ) → Type 0
+abbrev pub OfAsked : {A B E : Type 0} → (model.Command → List Record → Type 0) → Result (Vec (String A) B) E
+    → Option (List ℕ) → Type 0
 OfAsked Says words told = (command : Command) × Asks words command × OfTold (Says (command_of command)) told
 
 -- what standard error is told if a word is no text

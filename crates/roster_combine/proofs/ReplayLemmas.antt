@@ -20,7 +20,8 @@ use Rattle.roster_combine.proofs.PartLemmas.{spans_by-more}
 -- ---- what was handed in
 
 -- at first nothing
-pub replays-opening : (task : Task) (widths : List ℕ) (workers : ℕ) (lists : List (List Part)) (best : Key) → IsHeld task.problem best → widths ≡ map length task.table → lists ≡ replicate workers []
+pub replays-opening : (task : Task) (widths : List ℕ) (workers : ℕ) (lists : List (List Part)) (best : Key)
+    → IsHeld task.problem best → widths ≡ map length task.table → lists ≡ replicate workers []
     → IsReplaying task (opening widths workers) lists best
 replays-opening task widths workers lists best held same none = record {
   held = held;
@@ -38,19 +39,25 @@ replays-opening task widths workers lists best held same none = record {
   no_span : Option Span
   no_span = None
 
-held_less : (problem : Problem) (old new : Key) (b : Bool) → key_le old new ≡ b → IsHeld problem old → IsHeld problem new → IsHeld problem (less_of old new)
-held_less problem old new true is first second = subst (λ (key : Key). IsHeld problem key) (sym (ap (λ b. if b then old else new) is)) first
-held_less problem old new false is first second = subst (λ (key : Key). IsHeld problem key) (sym (ap (λ b. if b then old else new) is)) second
+held_less : (problem : Problem) (old new : Key) (b : Bool) → key_le old new ≡ b → IsHeld problem old
+    → IsHeld problem new → IsHeld problem (less_of old new)
+held_less problem old new true is first second =
+    subst (λ (key : Key). IsHeld problem key) (sym (ap (λ b. if b then old else new) is)) first
+held_less problem old new false is first second =
+    subst (λ (key : Key). IsHeld problem key) (sym (ap (λ b. if b then old else new) is)) second
 
 -- the worker's own list and those of the others, where the worker hands in a part
-own_spans : (finished : List (ℕ × Span)) (worker : ℕ) (parts : List Part) (part : Part) → map span_of parts ≡ spans_by worker finished → map span_of (parts ++ part ∷ []) ≡ spans_by worker (finished ++ (worker, part.span) ∷ [])
+own_spans : (finished : List (ℕ × Span)) (worker : ℕ) (parts : List Part) (part : Part)
+    → map span_of parts ≡ spans_by worker finished
+    → map span_of (parts ++ part ∷ []) ≡ spans_by worker (finished ++ (worker, part.span) ∷ [])
 own_spans finished worker parts part same =
     map_push span_of parts part
     ∙ ap (λ spans. spans ++ part.span ∷ []) same
     ∙ ap (λ b. spans_by worker finished ++ spans_if b part.span []) (sym (eq-eqb worker worker refl))
     ∙ sym (spans_by-more finished worker worker part.span)
 
-other_spans : (finished : List (ℕ × Span)) (worker by : ℕ) (span : Span) → (by == worker) ≡ false → spans_by worker finished ≡ spans_by worker (finished ++ (by, span) ∷ [])
+other_spans : (finished : List (ℕ × Span)) (worker by : ℕ) (span : Span) → (by == worker) ≡ false
+    → spans_by worker finished ≡ spans_by worker (finished ++ (by, span) ∷ [])
 other_spans finished worker by span other =
     sym (append-nil (spans_by worker finished))
     ∙ ap (λ b. spans_by worker finished ++ spans_if b span []) (sym other)
@@ -58,7 +65,8 @@ other_spans finished worker by span other =
 
 -- a worker hands in a part
 pub replays-finish : (task : Task) (s next : State) (worker : ℕ) (part : Part) (lists : List (List Part)) (best : Key) → IsReplaying task s lists best
-    → held s worker ≡ Some part.span → step s (Finish worker) ≡ Some next → IsSettled task.problem task.table part
+    → held s worker ≡ Some part.span → step s (Finish worker) ≡ Some next
+    → IsSettled task.problem task.table part
     → IsReplaying task next (slice_set lists worker (slice_index_or lists worker [] ++ part ∷ [])) (less_of best part.best)
 replays-finish task s next worker part lists best old has is settled = record {
   held = held_less task.problem best part.best (key_le best part.best) refl old.held settled.held;
@@ -66,11 +74,14 @@ replays-finish task s next worker part lists best old has is settled = record {
       (All-push (IsSettled task.problem task.table) own part (All-get_or (AreSettled task.problem task.table) lists worker [] within old.settled) settled) old.settled;
   agree = record {
     covers = ap (λ (t : State). t.widths) made ∙ old.agree.covers;
-    workers = subst (λ finished. All (λ (e : ℕ × Span). e.0 < length (slice_set lists worker more)) finished) (sym finished)
+    workers =
+        subst (λ finished. All (λ (e : ℕ × Span). e.0 < length (slice_set lists worker more)) finished)
+        (sym finished)
         (All-push (λ (e : ℕ × Span). e.0 < length (slice_set lists worker more)) s.finished entry
         (All-weaker (λ (e : ℕ × Span). e.0 < length lists) (λ (e : ℕ × Span). e.0 < length (slice_set lists worker more)) (λ e below. omega (arith, below, long)) s.finished old.agree.workers)
         (omega (arith, within, long)));
-    spans = λ k inside. spans k (omega (arith, inside, long)) (k == worker) refl ∙ ap (spans_by k) (sym finished);
+    spans =
+        λ k inside. spans k (omega (arith, inside, long)) (k == worker) refl ∙ ap (spans_by k) (sym finished);
   };
   hands = (step-keeps s next (Finish worker) is).hands ∙ old.hands ∙ sym long;
 } where
@@ -121,4 +132,5 @@ first_of [] some = absurd (omega (arith, some))
 first_of (span ∷ rest) some = (span, refl)
 
 pub at_rest : (s : State) → IsIdle s → s.pending ≡ [] → IsAtRest s
-at_rest s idle none = record { pending = none; hands = All-from_get_or (λ hand. hand ≡ None) s.hands None (λ k within. idle k) }
+at_rest s idle none =
+    record { pending = none; hands = All-from_get_or (λ hand. hand ≡ None) s.hands None (λ k within. idle k) }

@@ -22,7 +22,8 @@ use Rattle.roster_branchtree.proofs.SpanLemmas.{sets_at}
 abbrev pub root_span : List (List Entry) → Span
 root_span table = record { path = []; lo = 0; hi = length (lines_at table 0) }
 
-pub in_root : (problem : Problem) (table : List (List Entry)) (places : List ℕ) → 0 < length table → IsTableOf problem table → IsLegalRoster problem places → IsInSpan table (root_span table) places
+pub in_root : (problem : Problem) (table : List (List Entry)) (places : List ℕ) → 0 < length table
+    → IsTableOf problem table → IsLegalRoster problem places → IsInSpan table (root_span table) places
 in_root problem table places some is legal =
     let found = AreNumbersOf-exist problem (map sets_of table) places is.sets legal in
     let numbers = found.0 in
@@ -44,13 +45,17 @@ in_root problem table places some is legal =
 all_zero : (xs : List ℕ) → All (λ x. x ≤ 0) xs → xs ≡ replicate (length xs) 0
 all_zero [] none = refl
 all_zero (x ∷ xs) zeros =
-    ap₂ (λ y ys. y ∷ ys) (omega (arith, zeros 0 0 (omega arith))) (all_zero xs (λ p d inside. zeros (suc p) d (omega (arith, inside))))
+    ap₂ (λ y ys. y ∷ ys) (omega (arith, zeros 0 0 (omega arith)))
+    (all_zero xs (λ p d inside. zeros (suc p) d (omega (arith, inside))))
 
-pub nobody_best : (problem : Problem) → length problem.persons ≡ 0 → IsBest problem (replicate (length problem.pairings) (length problem.persons))
+pub nobody_best : (problem : Problem) → length problem.persons ≡ 0
+    → IsBest problem (replicate (length problem.pairings) (length problem.persons))
 nobody_best problem nobody = record {
   is_legal = all_open_legal problem;
   inside = tt;
   least = λ others legal _.
-      let same : others ≡ replicate (length problem.pairings) (length problem.persons) = all_zero others (subst (λ n. All (λ x. x ≤ n) others) nobody legal.numbers) ∙ ap₂ (λ m n. replicate m n) legal.covers (sym nobody) in
+      let same : others ≡ replicate (length problem.pairings) (length problem.persons) =
+      all_zero others (subst (λ n. All (λ x. x ≤ n) others) nobody legal.numbers)
+      ∙ ap₂ (λ m n. replicate m n) legal.covers (sym nobody) in
       subst (λ xs. key_le (key_of problem (replicate (length problem.pairings) (length problem.persons))) (key_of problem xs) ≡ true) (sym same) (key_le-refl (key_of problem (replicate (length problem.pairings) (length problem.persons))));
 }

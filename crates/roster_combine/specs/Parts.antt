@@ -43,17 +43,22 @@ spans_by worker (entry ∷ rest) = spans_if (entry.0 == worker) entry.1 (spans_b
 pub record Agree (widths : List ℕ) (lists : List (List Part)) (ended : Ended) : Type 0 where
   pub covers : ended.widths ≡ widths
   pub workers : All (λ (entry : ℕ × Span). entry.0 < length lists) ended.finished
-  pub spans : (worker : ℕ) → worker < length lists → map span_of (slice_index_or lists worker []) ≡ spans_by worker ended.finished
+  pub spans : (worker : ℕ) → worker < length lists
+      → map span_of (slice_index_or lists worker []) ≡ spans_by worker ended.finished
 
 -- The new key is after neither the old one nor that of any of the first parts, so many of them. It is that of a
 -- legal roster if all those are.
 pub record IsLeastOf (parts : List Part) (count : ℕ) (old new : Key) : Type 0 where
   pub kept : key_le new old ≡ true
   pub least : (k : ℕ) (part : Part) → k < count → slice_get parts k ≡ Some part → key_le new part.best ≡ true
-  pub held : (problem : Problem) → IsHeld problem old → All (λ (part : Part). IsHeld problem part.best) parts → IsHeld problem new
+  pub held : (problem : Problem) → IsHeld problem old → All (λ (part : Part). IsHeld problem part.best) parts
+      → IsHeld problem new
 
 -- the same of the parts of the first workers
 pub record IsLeastOfAll (lists : List (List Part)) (count : ℕ) (old new : Key) : Type 0 where
   pub kept : key_le new old ≡ true
-  pub least : (worker k : ℕ) (part : Part) → worker < count → slice_get (slice_index_or lists worker []) k ≡ Some part → key_le new part.best ≡ true
-  pub held : (problem : Problem) → IsHeld problem old → All (λ (parts : List Part). All (λ (part : Part). IsHeld problem part.best) parts) lists → IsHeld problem new
+  pub least : (worker k : ℕ) (part : Part) → worker < count
+      → slice_get (slice_index_or lists worker []) k ≡ Some part → key_le new part.best ≡ true
+  pub held : (problem : Problem) → IsHeld problem old
+      → All (λ (parts : List Part). All (λ (part : Part). IsHeld problem part.best) parts) lists
+      → IsHeld problem new

@@ -1,11 +1,13 @@
 //! The roster of least key among all that workers found.
 
-ghost use Rattle.std.specs.Prelude.{◌≡◌, ◌<◌, ◌≤◌, ◌↔◌, [], ℕ, All, IfOk, IsTrue, length, map, slice_index_or};
+ghost use Rattle.std.specs.Prelude.{◌≡◌, ◌<◌, ◌≤◌, ◌↔◌, [], ℕ, All, IfOk, IsTrue, length, map};
+ghost use Rattle.std.specs.Prelude.{slice_index_or};
 ghost use Rattle.std.specs.Arc.{arc_value};
 ghost use Rattle.roster_lines.specs.Person.{IsTableOf};
 ghost use Rattle.roster_branchtree.specs.Shown.{IsEarlierOf};
 ghost use Rattle.roster_spans.specs.Spans.{Span as PlainSpan};
-ghost use Rattle.roster_combine.specs.Parts.{Agree, AreSettled, IsBestKey, IsLeastOf, IsLeastOfAll, span_of, spans_by};
+ghost use Rattle.roster_combine.specs.Parts.{Agree, AreSettled, IsBestKey, IsLeastOf, IsLeastOfAll, span_of};
+ghost use Rattle.roster_combine.specs.Parts.{spans_by};
 
 use crate::root::{first_known, search_root, widths_of};
 use roster_branchtree::Span;

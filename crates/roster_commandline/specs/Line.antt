@@ -30,7 +30,8 @@ abbrev pub bare_app : App
 bare_app = new_app (codes "roster")
 
 abbrev pub demanding_app : App
-demanding_app = record bare_app { top = record bare_app.top { has_version = true; subcommand_required = true } }
+demanding_app =
+    record bare_app { top = record bare_app.top { has_version = true; subcommand_required = true } }
 
 abbrev pub roster_app : App
 roster_app =

@@ -2,7 +2,9 @@
 
 ghost use Rattle.std.specs.Prelude.{◌≡◌, ◌≢◌, ◌≤◌, ℕ, List, true, false, IfOk, IfErr, Some, map, []};
 ghost use Rattle.clap.specs.Words.{app_of, takes, fault_of, kind_of, with_subcommand, HasKind, Kinds};
-ghost use Rattle.roster_commandline.specs.Line.{roster_app, command_name, demanding_app, number_spelled, solve_app, spelling, workers_asked, HasWorkers, NamesMemory, TellsKind};
+ghost use Rattle.roster_commandline.specs.Line.{roster_app, command_name, demanding_app, number_spelled};
+ghost use Rattle.roster_commandline.specs.Line.{solve_app, spelling, workers_asked, HasWorkers, NamesMemory};
+ghost use Rattle.roster_commandline.specs.Line.{TellsKind};
 ghost use Rattle.roster_problem.specs.declared.command.Command as asked;
 ghost use Rattle.clap.specs.declared.builder.command.Command.TheViews as views;
 

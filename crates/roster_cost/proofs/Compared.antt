@@ -14,7 +14,8 @@ use Rattle.roster_cost.specs.Keys.{compare, is_same}
 
 lists : (xs ys : List ℕ) → is_le (slice_cmp nat_cmp xs ys) ≡ places_le xs ys
 lists xs ys =
-    same_from_slice_cmp nat_cmp is_le places_le refl (λ _ _. refl) (λ _ _. refl) (λ x y xs ys o h. grind (arith, nat_tests)) xs ys (slice_cmp nat_cmp xs ys) refl
+    same_from_slice_cmp nat_cmp is_le places_le refl (λ _ _. refl) (λ _ _. refl)
+    (λ x y xs ys o h. grind (arith, nat_tests)) xs ys (slice_cmp nat_cmp xs ys) refl
 
 costs_first : (less more : Bool) (o : Ordering)
     → is_le (ordering_then (cond less Less (cond more Greater Equal)) o) ≡ (less || (is_eq (cond less Less (cond more Greater Equal)) && is_le o))
@@ -28,7 +29,9 @@ compare-le a b =
     ∙ ap (λ rest. int_lt a.cost b.cost || int_eq a.cost b.cost && rest) (lists a.places b.places)
 
 compare-total : IsTotalOrder compare
-compare-total = then_total (on_total (λ (key : Key). key.cost) int_cmp_total) (on_total (λ (key : Key). key.places) nat_list_cmp_total)
+compare-total =
+    then_total (on_total (λ (key : Key). key.cost) int_cmp_total)
+    (on_total (λ (key : Key). key.places) nat_list_cmp_total)
 
 turned : (o : Ordering) → is_lt (ordering_reverse o) ≡ not (is_le o)
 turned Less = refl

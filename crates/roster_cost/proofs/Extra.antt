@@ -29,7 +29,8 @@ line_cost-none problem k = omega (arith, ints, total-nil (units_of problem k))
 pub without-pairings : (problem : Problem) → cost_without_pairings problem ≡ pos (sum_by (λ k. missed_target problem k []) (range_with_len 0 (length problem.persons)))
 without-pairings problem =
     let missed : ℕ → ℕ = λ k. missed_target problem k [] in
-    same_total (λ k. line_cost problem k []) (λ k. pos (missed k)) (line_cost-none problem) (range_with_len 0 (length problem.persons))
+    same_total (λ k. line_cost problem k []) (λ k. pos (missed k)) (line_cost-none problem)
+    (range_with_len 0 (length problem.persons))
     ∙ total-pos missed (range_with_len 0 (length problem.persons))
 
 -- ---- a line
@@ -39,25 +40,31 @@ distance-near : (a b target most : ℕ) → a ≤ most → b ≤ most → distan
 distance-near a b target most within also = omega arith
 
 -- numbers that are near are so where they are weighed
-weighed-near : (weight heaviest a b most : ℕ) → weight ≤ heaviest → a ≤ b + most → weight * a ≤ weight * b + heaviest * most
+weighed-near : (weight heaviest a b most : ℕ) → weight ≤ heaviest → a ≤ b + most
+    → weight * a ≤ weight * b + heaviest * most
 weighed-near weight heaviest a b most light near =
     let weighed : weight * a ≤ weight * (b + most) = mul-le-mul_left weight near in
     let heavy : weight * most ≤ heaviest * most = mul-le-mul_right most light in
     omega (arith, weighed, heavy)
 
-missed-near : (weight a b target most : ℕ) → weight ≤ MOST_WEIGHT → a ≤ most → b ≤ most → weight * distance a target ≤ weight * distance b target + MOST_WEIGHT * most
+missed-near : (weight a b target most : ℕ) → weight ≤ MOST_WEIGHT → a ≤ most → b ≤ most
+    → weight * distance a target ≤ weight * distance b target + MOST_WEIGHT * most
 missed-near weight a b target most light within also =
-    weighed-near weight MOST_WEIGHT (distance a target) (distance b target) most light (distance-near a b target most within also)
+    weighed-near weight MOST_WEIGHT (distance a target) (distance b target) most light
+    (distance-near a b target most within also)
 
 -- the fixed duties' flight is part of that of a set
 fixed_in_set : (problem : Problem) (k : ℕ) (set : List ℕ)
     → flight_of problem k set ≡ month_flight (home_of problem k).days (filter (is_of_person k) problem.duties) + sum_by (minutes_of_pairing problem k) set
     → flight_of problem k [] ≤ flight_of problem k set
-fixed_in_set problem k set parts = omega (arith, parts, ap (month_flight (home_of problem k).days) (fixed-listed problem k))
+fixed_in_set problem k set parts =
+    omega (arith, parts, ap (month_flight (home_of problem k).days) (fixed-listed problem k))
 
 -- units and missed targets together
-near : (units : ℤ) (most a b weighed : ℕ) → IsWithin most units → a ≤ b + weighed → b ≤ a + weighed → IsWithin (most + weighed) (units +ℤ pos a -ℤ pos b)
-near units most a b weighed within above below = (omega (arith, ints, within.0, within.1), omega (arith, ints, within.0, within.1))
+near : (units : ℤ) (most a b weighed : ℕ) → IsWithin most units → a ≤ b + weighed → b ≤ a + weighed
+    → IsWithin (most + weighed) (units +ℤ pos a -ℤ pos b)
+near units most a b weighed within above below =
+    (omega (arith, ints, within.0, within.1), omega (arith, ints, within.0, within.1))
 
 no_difference : (z : ℤ) → IsWithin most_extra (z -ℤ z)
 no_difference z = (omega (arith, ints), omega (arith, ints))
@@ -65,18 +72,24 @@ no_difference z = (omega (arith, ints), omega (arith, ints))
 -- a line costs nearly what no pairings cost, where its flight is that of the fixed duties and of each pairing
 pub line-near : (problem : Problem) (k : ℕ) (set : List ℕ)
     → flight_of problem k set ≡ month_flight (home_of problem k).days (filter (is_of_person k) problem.duties) + sum_by (minutes_of_pairing problem k) set
-    → IsSound problem → IsLine problem k set → IsWithin most_extra (line_cost problem k set -ℤ line_cost problem k [])
+    → IsSound problem → IsLine problem k set
+    → IsWithin most_extra (line_cost problem k set -ℤ line_cost problem k [])
 line-near problem k set parts sound line =
     elim line.legal [
       | inl none ↦ subst (λ s. IsWithin most_extra (line_cost problem k s -ℤ line_cost problem k [])) (sym none) (no_difference (line_cost problem k []))
       | inr holds ↦
           let most : ℕ = MOST_FLIGHT_IN_A_YEAR in
           let flown : flight_of problem k set ≤ most = omega (arith, holds (LimitRule FlightYear)) in
-          let fixed : flight_of problem k [] ≤ most = omega (arith, flown, fixed_in_set problem k set parts) in
+          let fixed : flight_of problem k [] ≤ most =
+          omega (arith, flown, fixed_in_set problem k set parts) in
           let weight = weight_of problem in
           let target = target_of problem k in
-          let above = missed-near weight (flight_of problem k set) (flight_of problem k []) target most sound.weight flown fixed in
-          let below = missed-near weight (flight_of problem k []) (flight_of problem k set) target most sound.weight fixed flown in
+          let above =
+          missed-near weight (flight_of problem k set)
+          (flight_of problem k []) target most sound.weight flown fixed in
+          let below =
+          missed-near weight (flight_of problem k [])
+          (flight_of problem k set) target most sound.weight fixed flown in
           let units = units-of_set problem k set sound line.ascending line.places in
           subst (λ z. IsWithin most_extra (line_cost problem k set -ℤ z)) (sym (line_cost-none problem k))
           (near (total (units_of problem k) set) most_units (missed_target problem k set) (missed_target problem k []) (MOST_WEIGHT * most) units above below)

@@ -28,18 +28,24 @@ within_more a b z h l = (omega (arith, ints, h.0), omega (arith, ints, h.1))
 
 -- ---- units
 
-pub units-within : (problem : Problem) (k p : ℕ) → IsSound problem → IsWithin MOST_UNITS (units_of problem k p)
-units-within problem k p sound = within_from_abs (units_of problem k p) MOST_UNITS (units-limited problem.costs k p sound.units)
+pub units-within : (problem : Problem) (k p : ℕ) → IsSound problem
+    → IsWithin MOST_UNITS (units_of problem k p)
+units-within problem k p sound =
+    within_from_abs (units_of problem k p) MOST_UNITS (units-limited problem.costs k p sound.units)
 
-pub total-within : (cost : ℕ → ℤ) (most : ℕ) → ((p : ℕ) → IsWithin most (cost p)) → (set : List ℕ) → IsWithin (length set * most) (total cost set)
+pub total-within : (cost : ℕ → ℤ) (most : ℕ) → ((p : ℕ) → IsWithin most (cost p)) → (set : List ℕ)
+    → IsWithin (length set * most) (total cost set)
 total-within cost most each [] = (omega (arith, ints, total-nil cost), omega (arith, ints, total-nil cost))
 total-within cost most each (p ∷ set) =
     let rest = total-within cost most each set in
     let here = each p in
     (omega (arith, ints, total-cons cost p set, here.0, rest.0), omega (arith, ints, total-cons cost p set, here.1, rest.1))
 
-pub units-of_set : (problem : Problem) (k : ℕ) (set : List ℕ) → IsSound problem → IsStrictlyIncreasing set → All (λ p. p < length problem.pairings) set → IsWithin most_units (total (units_of problem k) set)
+pub units-of_set : (problem : Problem) (k : ℕ) (set : List ℕ) → IsSound problem → IsStrictlyIncreasing set
+    → All (λ p. p < length problem.pairings) set → IsWithin most_units (total (units_of problem k) set)
 units-of_set problem k set sound rises places =
     let few = length_within set (length problem.pairings) rises places in
     let all = sound.pairings in
-    within_more (length set * MOST_UNITS) most_units _ (total-within (units_of problem k) MOST_UNITS (λ p. units-within problem k p sound) set) (omega (arith, few, all))
+    within_more (length set * MOST_UNITS) most_units _
+    (total-within (units_of problem k) MOST_UNITS (λ p. units-within problem k p sound) set)
+    (omega (arith, few, all))

@@ -31,21 +31,27 @@ picked-next minutes duties positions i position duty inside here within there =
     ∙ ap (λ (n : ℕ). minutes duty + sum_by minutes (left n)) next
 
 -- minutes that are told as a signed number
-pub minutes_back : (told : ℤ) (minutes : ℕ) → told ≡ pos minutes → minutes < 2 ^ 63 → nat_abs (to_z w64 (of_z w64 told)) ≡ minutes
+pub minutes_back : (told : ℤ) (minutes : ℕ) → told ≡ pos minutes → minutes < 2 ^ 63
+    → nat_abs (to_z w64 (of_z w64 told)) ≡ minutes
 minutes_back told minutes is small =
-    ap (λ z. nat_abs (to_z w64 (of_z w64 z))) is ∙ ap nat_abs (to_z-of_z w64 (pos minutes) (fits_signed_from_abs w64 (pos minutes) small))
+    ap (λ z. nat_abs (to_z w64 (of_z w64 z))) is
+    ∙ ap nat_abs (to_z-of_z w64 (pos minutes) (fits_signed_from_abs w64 (pos minutes) small))
 
 listed_without : (k : ℕ) (holder : Holder) → is_held_by_person k holder ≡ is_listed k [] holder
 listed_without k (OfPairing p) = refl
 listed_without k (OfPerson j) = refl
 
 -- the list of a person without pairings
-pub fixed-listed : (problem : Problem) (k : ℕ) → filter (is_of_person k) problem.duties ≡ duty_list problem k []
-fixed-listed problem k = filter_agree (is_of_person k) (λ duty. is_listed k [] duty.holder) (λ duty. listed_without k duty.holder) problem.duties
+pub fixed-listed : (problem : Problem) (k : ℕ)
+    → filter (is_of_person k) problem.duties ≡ duty_list problem k []
+fixed-listed problem k =
+    filter_agree (is_of_person k) (λ duty. is_listed k [] duty.holder)
+    (λ duty. listed_without k duty.holder) problem.duties
 
 -- a set's flight, where it is that of the fixed duties and of each pairing
 pub set-parts : (problem : Problem) (k : ℕ) (set : List ℕ) (fixed : ℕ)
     → flight_of problem k set ≡ month_flight (home_of problem k).days (filter (is_of_person k) problem.duties) + sum_by (minutes_of_pairing problem k) set
-    → fixed ≡ flight_of problem k [] → places_from 0 set ≡ set → flight_of problem k set ≡ fixed + sum_by (minutes_of_pairing problem k) (places_from 0 set)
+    → fixed ≡ flight_of problem k [] → places_from 0 set ≡ set
+    → flight_of problem k set ≡ fixed + sum_by (minutes_of_pairing problem k) (places_from 0 set)
 set-parts problem k set fixed parts none all =
     omega (arith, parts, none, ap (month_flight (home_of problem k).days) (fixed-listed problem k), ap (sum_by (minutes_of_pairing problem k)) all)

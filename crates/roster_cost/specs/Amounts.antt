@@ -10,7 +10,8 @@ use Rattle.roster_problem.specs.Duties.{is_of_pairing}
 
 -- the month's flight of the duties of the pairing at place p, by the days of person k
 abbrev pub minutes_of_pairing : Problem → ℕ → ℕ → ℕ
-minutes_of_pairing problem k p = month_flight (home_of problem k).days (filter (is_of_pairing p) problem.duties)
+minutes_of_pairing problem k p =
+    month_flight (home_of problem k).days (filter (is_of_pairing p) problem.duties)
 
 -- no further from 0 than so much
 abbrev pub IsWithin : ℕ → ℤ → Type 0
@@ -39,4 +40,5 @@ most_extra = most_units + MOST_WEIGHT * MOST_FLIGHT_IN_A_YEAR
 
 -- what persons cost with no pairing
 abbrev pub cost_without_pairings : Problem → ℤ
-cost_without_pairings problem = total (λ k. line_cost problem k []) (range_with_len 0 (length problem.persons))
+cost_without_pairings problem =
+    total (λ k. line_cost problem k []) (range_with_len 0 (length problem.persons))

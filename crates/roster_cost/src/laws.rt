@@ -1,6 +1,7 @@
 //! What follows from nothing but the definitions.
 
-ghost use Rattle.std.specs.Prelude.{◌≡◌, ◌<◌, ◌≤◌, ◌+◌, ◌+ℤ◌, ◌-ℤ◌, ◌∷◌, ◌++◌, ◌↔◌, ◌⊎◌, [], ℕ, false, true, not, pos, All, List, length, ℤ};
+ghost use Rattle.std.specs.Prelude.{◌≡◌, ◌<◌, ◌≤◌, ◌+◌, ◌+ℤ◌, ◌-ℤ◌, ◌∷◌, ◌++◌, ◌↔◌, ◌⊎◌, [], ℕ, false, true};
+ghost use Rattle.std.specs.Prelude.{not, pos, All, List, length, ℤ};
 ghost use Rattle.std.specs.List.{range_with_len};
 ghost use Rattle.std.specs.List.Sorted.{IsStrictlyIncreasing};
 ghost use Rattle.std.specs.Ordering.{is_le, is_lt};

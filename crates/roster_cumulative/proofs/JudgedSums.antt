@@ -31,7 +31,8 @@ capped_runs minutes days n most =
     map (λ last. record { total = in_run minutes n last; most = most }) (judged_days days)
 
 -- of judged runs
-pub runs-of_tables : (days : Days) (list : List Duty) (year eleven : ℕ) (duty flight : List ℕ) → AreMinutesByDay measures.Duty days list duty → AreMinutesByDay measures.Flight days list flight
+pub runs-of_tables : (days : Days) (list : List Duty) (year eleven : ℕ) (duty flight : List ℕ)
+    → AreMinutesByDay measures.Duty days list duty → AreMinutesByDay measures.Flight days list flight
     → capped_runs (slice_index duty) days SHORT_RUN MOST_DUTY_IN_7_DAYS ++ capped_runs (slice_index duty) days MIDDLE_RUN MOST_DUTY_IN_14_DAYS
     ++ capped_runs (slice_index duty) days LONG_RUN MOST_DUTY_IN_28_DAYS
     ++ capped_runs (slice_index flight) days LONG_RUN MOST_FLIGHT_IN_28_DAYS
@@ -66,12 +67,14 @@ most-few year eleven (Duty28 last) = omega arith
 most-few year eleven (Flight28 last) = omega arith
 most-few year eleven MonthFlight = omega arith
 
-one-room : (days : Days) (list : List Duty) (year eleven : ℕ) (sum : Sum) → min most_load (most_of year eleven sum - sum_of days list sum) ≡ room_of days list year eleven sum
+one-room : (days : Days) (list : List Duty) (year eleven : ℕ) (sum : Sum)
+    → min most_load (most_of year eleven sum - sum_of days list sum) ≡ room_of days list year eleven sum
 one-room days list year eleven sum = let few = most-few year eleven sum in omega arith
 
 pub rooms-of_sums : (days : Days) (list : List Duty) (year eleven : ℕ) → map (λ (s : CappedSum). min most_load (s.most - s.total)) (map (capped_of days list year eleven) (judged_sums days)) ≡ map (room_of days list year eleven) (judged_sums days)
 rooms-of_sums days list year eleven =
-    map-map (λ (s : CappedSum). min most_load (s.most - s.total)) (capped_of days list year eleven) (judged_sums days)
+    map-map (λ (s : CappedSum). min most_load (s.most - s.total)) (capped_of days list year eleven)
+    (judged_sums days)
     ∙ ap (λ (f : Sum → ℕ). map f (judged_sums days)) (fun_ext (one-room days list year eleven))
 
 pub loads-of_sums : (days : Days) (list : List Duty) (year eleven : ℕ) → map (λ (s : CappedSum). min most_load s.total) (map (capped_of days list year eleven) (judged_sums days)) ≡ map (load_of days list) (judged_sums days)
@@ -86,9 +89,12 @@ all_parts P (x ∷ xs) ys all =
     let rest = all_parts P xs ys (All-tail P x (xs ++ ys) all) in
     (All-cons P x xs (All-head P x (xs ++ ys) all) rest.0, rest.1)
 
-all_mapped : {X Y : Type 0} (P : X → Type 0) (f : Y → X) (ys : List Y) → All P (map f ys) → All (λ y. P (f y)) ys
+all_mapped : {X Y : Type 0} (P : X → Type 0) (f : Y → X) (ys : List Y) → All P (map f ys)
+    → All (λ y. P (f y)) ys
 all_mapped P f [] all = All-nil (λ y. P (f y))
-all_mapped P f (y ∷ ys) all = All-cons (λ y. P (f y)) y ys (All-head P (f y) (map f ys) all) (all_mapped P f ys (All-tail P (f y) (map f ys) all))
+all_mapped P f (y ∷ ys) all =
+    All-cons (λ y. P (f y)) y ys (All-head P (f y) (map f ys) all)
+    (all_mapped P f ys (All-tail P (f y) (map f ys) all))
 
 one_of_many : {X : Type 0} (P : X → Type 0) (n : ℕ) (x : X) → 0 < n → All P (replicate n x) → P x
 one_of_many P zero x some all = absurd (omega arith)
@@ -100,22 +106,46 @@ some_month days = omega arith
 
 -- what a duty has of a sum
 abbrev pub part_of : Days → Sum → Duty → ℕ
-part_of days (Duty7 last) duty = sum_by (λ i. duty_between duty (get_or days.mid i 0) (get_or days.mid (i + 1) 0)) (range_with_len (last + 1 - SHORT_RUN) SHORT_RUN)
-part_of days (Duty14 last) duty = sum_by (λ i. duty_between duty (get_or days.mid i 0) (get_or days.mid (i + 1) 0)) (range_with_len (last + 1 - MIDDLE_RUN) MIDDLE_RUN)
-part_of days (Duty28 last) duty = sum_by (λ i. duty_between duty (get_or days.mid i 0) (get_or days.mid (i + 1) 0)) (range_with_len (last + 1 - LONG_RUN) LONG_RUN)
-part_of days (Flight28 last) duty = sum_by (λ i. flight_between duty (get_or days.mid i 0) (get_or days.mid (i + 1) 0)) (range_with_len (last + 1 - LONG_RUN) LONG_RUN)
-part_of days MonthFlight duty = sum_by (λ i. flight_between duty (get_or days.mid i 0) (get_or days.mid (i + 1) 0)) (range_with_len DAYS_BEFORE days.month_days)
+part_of days (Duty7 last) duty =
+    sum_by (λ i. duty_between duty (get_or days.mid i 0) (get_or days.mid (i + 1) 0))
+    (range_with_len (last + 1 - SHORT_RUN) SHORT_RUN)
+part_of days (Duty14 last) duty =
+    sum_by (λ i. duty_between duty (get_or days.mid i 0) (get_or days.mid (i + 1) 0))
+    (range_with_len (last + 1 - MIDDLE_RUN) MIDDLE_RUN)
+part_of days (Duty28 last) duty =
+    sum_by (λ i. duty_between duty (get_or days.mid i 0) (get_or days.mid (i + 1) 0))
+    (range_with_len (last + 1 - LONG_RUN) LONG_RUN)
+part_of days (Flight28 last) duty =
+    sum_by (λ i. flight_between duty (get_or days.mid i 0) (get_or days.mid (i + 1) 0))
+    (range_with_len (last + 1 - LONG_RUN) LONG_RUN)
+part_of days MonthFlight duty =
+    sum_by (λ i. flight_between duty (get_or days.mid i 0) (get_or days.mid (i + 1) 0))
+    (range_with_len DAYS_BEFORE days.month_days)
 
 -- and all have
-pub sum_of-parts : (days : Days) (list : List Duty) (sum : Sum) → sum_of days list sum ≡ sum_by (part_of days sum) list
-sum_of-parts days list (Duty7 last) = sum_of_sums (λ (duty : Duty) i. duty_between duty (get_or days.mid i 0) (get_or days.mid (i + 1) 0)) list (range_with_len (last + 1 - SHORT_RUN) SHORT_RUN)
-sum_of-parts days list (Duty14 last) = sum_of_sums (λ (duty : Duty) i. duty_between duty (get_or days.mid i 0) (get_or days.mid (i + 1) 0)) list (range_with_len (last + 1 - MIDDLE_RUN) MIDDLE_RUN)
-sum_of-parts days list (Duty28 last) = sum_of_sums (λ (duty : Duty) i. duty_between duty (get_or days.mid i 0) (get_or days.mid (i + 1) 0)) list (range_with_len (last + 1 - LONG_RUN) LONG_RUN)
-sum_of-parts days list (Flight28 last) = sum_of_sums (λ (duty : Duty) i. flight_between duty (get_or days.mid i 0) (get_or days.mid (i + 1) 0)) list (range_with_len (last + 1 - LONG_RUN) LONG_RUN)
-sum_of-parts days list MonthFlight = sum_of_sums (λ (duty : Duty) i. flight_between duty (get_or days.mid i 0) (get_or days.mid (i + 1) 0)) list (range_with_len DAYS_BEFORE days.month_days)
+pub sum_of-parts : (days : Days) (list : List Duty) (sum : Sum)
+    → sum_of days list sum ≡ sum_by (part_of days sum) list
+sum_of-parts days list (Duty7 last) =
+    sum_of_sums (λ (duty : Duty) i. duty_between duty (get_or days.mid i 0) (get_or days.mid (i + 1) 0)) list
+    (range_with_len (last + 1 - SHORT_RUN) SHORT_RUN)
+sum_of-parts days list (Duty14 last) =
+    sum_of_sums (λ (duty : Duty) i. duty_between duty (get_or days.mid i 0) (get_or days.mid (i + 1) 0)) list
+    (range_with_len (last + 1 - MIDDLE_RUN) MIDDLE_RUN)
+sum_of-parts days list (Duty28 last) =
+    sum_of_sums (λ (duty : Duty) i. duty_between duty (get_or days.mid i 0) (get_or days.mid (i + 1) 0)) list
+    (range_with_len (last + 1 - LONG_RUN) LONG_RUN)
+sum_of-parts days list (Flight28 last) =
+    sum_of_sums
+    (λ (duty : Duty) i. flight_between duty (get_or days.mid i 0) (get_or days.mid (i + 1) 0)) list
+    (range_with_len (last + 1 - LONG_RUN) LONG_RUN)
+sum_of-parts days list MonthFlight =
+    sum_of_sums
+    (λ (duty : Duty) i. flight_between duty (get_or days.mid i 0) (get_or days.mid (i + 1) 0)) list
+    (range_with_len DAYS_BEFORE days.month_days)
 
 -- so a pairing that comes to a set brings the sums of its duties
-pub sum_of-one_more : (problem : Problem) (days : Days) (k p : ℕ) (set : List ℕ) (sum : Sum) → is_among set p ≡ false
+pub sum_of-one_more : (problem : Problem) (days : Days) (k p : ℕ) (set : List ℕ) (sum : Sum)
+    → is_among set p ≡ false
     → sum_of days (duty_list problem k (set ++ p ∷ [])) sum ≡ sum_of days (duty_list problem k set) sum + sum_of days (filter (is_of_pairing p) problem.duties) sum
 sum_of-one_more problem days k p set sum new =
     omega (
@@ -126,7 +156,9 @@ sum_of-one_more problem days k p set sum new =
       listed-one_more (part_of days sum) problem k p set new,
     )
 
-by_limit : (days : Days) (list : List Duty) (year eleven : ℕ) → KeepsDuty7 days list → KeepsDuty14 days list → KeepsDuty28 days list → KeepsFlight28 days list → KeepsFlightYear days list year → KeepsFlight12 days list eleven → (limit : rules.Limit) → HoldsLimit days list year eleven limit
+by_limit : (days : Days) (list : List Duty) (year eleven : ℕ) → KeepsDuty7 days list → KeepsDuty14 days list
+    → KeepsDuty28 days list → KeepsFlight28 days list → KeepsFlightYear days list year
+    → KeepsFlight12 days list eleven → (limit : rules.Limit) → HoldsLimit days list year eleven limit
 by_limit days list year eleven a b c d e f rules.Duty7 = a
 by_limit days list year eleven a b c d e f rules.Duty14 = b
 by_limit days list year eleven a b c d e f rules.Duty28 = c
@@ -134,7 +166,9 @@ by_limit days list year eleven a b c d e f rules.Flight28 = d
 by_limit days list year eleven a b c d e f rules.FlightYear = e
 by_limit days list year eleven a b c d e f rules.Flight12 = f
 
-pub limits-by_sums : (days : Days) (list : List Duty) (year eleven : ℕ) → year ≤ MOST_FLIGHT_IN_A_YEAR → eleven ≤ MOST_FLIGHT_IN_12_MONTHS → AreWithin days list year eleven → (limit : rules.Limit) → HoldsLimit days list year eleven limit
+pub limits-by_sums : (days : Days) (list : List Duty) (year eleven : ℕ) → year ≤ MOST_FLIGHT_IN_A_YEAR
+    → eleven ≤ MOST_FLIGHT_IN_12_MONTHS → AreWithin days list year eleven → (limit : rules.Limit)
+    → HoldsLimit days list year eleven limit
 limits-by_sums days list year eleven few fewer all limit =
     let Within : Sum → Type 0 = λ sum. sum_of days list sum ≤ most_of year eleven sum in
     let J : List ℕ = judged_days days in
@@ -144,9 +178,12 @@ limits-by_sums days list year eleven few fewer all limit =
     let four = all_parts Within (map Duty7 J ++ map Duty14 J ++ map Duty28 J) (map Flight28 J) five.0 in
     let three = all_parts Within (map Duty7 J ++ map Duty14 J) (map Duty28 J) four.0 in
     let two = all_parts Within (map Duty7 J) (map Duty14 J) three.0 in
-    by_limit days list year eleven (all_mapped Within Duty7 J two.0) (all_mapped Within Duty14 J two.1) (all_mapped Within Duty28 J three.1) (all_mapped Within Flight28 J four.1) (omega arith) (omega arith) limit
+    by_limit days list year eleven (all_mapped Within Duty7 J two.0) (all_mapped Within Duty14 J two.1)
+    (all_mapped Within Duty28 J three.1) (all_mapped Within Flight28 J four.1) (omega arith)
+    (omega arith) limit
 
-pub sums-by_limits : (days : Days) (list : List Duty) (year eleven : ℕ) → ((limit : rules.Limit) → HoldsLimit days list year eleven limit) → AreWithin days list year eleven
+pub sums-by_limits : (days : Days) (list : List Duty) (year eleven : ℕ)
+    → ((limit : rules.Limit) → HoldsLimit days list year eleven limit) → AreWithin days list year eleven
 sums-by_limits days list year eleven holds =
     let Within : Sum → Type 0 = λ sum. sum_of days list sum ≤ most_of year eleven sum in
     let J : List ℕ = judged_days days in

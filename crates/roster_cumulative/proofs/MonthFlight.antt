@@ -19,7 +19,8 @@ sum_of_sums-cons f x xs (y ∷ ys) =
     omega (arith, sum_by-cons (λ y. sum_by (λ z. f z y) (x ∷ xs)) y ys, sum_by-cons (f x) y ys, sum_by-cons (λ y. sum_by (λ z. f z y) xs) y ys, sum_by-cons (λ z. f z y) x xs, sum_of_sums-cons f x xs ys)
 
 -- which of two lists is gone through first doesn't matter
-pub sum_of_sums : {X Y : Type 0} (f : X → Y → ℕ) (xs : List X) (ys : List Y) → sum_by (λ y. sum_by (λ x. f x y) xs) ys ≡ sum_by (λ x. sum_by (f x) ys) xs
+pub sum_of_sums : {X Y : Type 0} (f : X → Y → ℕ) (xs : List X) (ys : List Y)
+    → sum_by (λ y. sum_by (λ x. f x y) xs) ys ≡ sum_by (λ x. sum_by (f x) ys) xs
 sum_of_sums f [] ys = sum_by-nothing ys
 sum_of_sums f (x ∷ xs) ys =
     omega (arith, sum_of_sums-cons f x xs ys, sum_of_sums f xs ys, sum_by-cons (λ z. sum_by (f z) ys) x xs)
@@ -30,12 +31,14 @@ sum_of_sums f (x ∷ xs) ys =
 abbrev on : Days → Duty → ℕ → ℕ
 on days duty i = flight_between duty (get_or days.mid i 0) (get_or days.mid (i + 1) 0)
 
-month_flight-cons : (days : Days) (duty : Duty) (list : List Duty) → month_flight days (duty ∷ list) ≡ duty_flight days duty + month_flight days list
+month_flight-cons : (days : Days) (duty : Duty) (list : List Duty)
+    → month_flight days (duty ∷ list) ≡ duty_flight days duty + month_flight days list
 month_flight-cons days duty list =
     let month = range_with_len DAYS_BEFORE days.month_days in
     omega (arith, sum_of_sums-cons (on days) duty list month, sum_of_sums-cons (on days) duty [] month, sum_by-nothing month)
 
-pub month_flight-sum : (days : Days) (list : List Duty) → month_flight days list ≡ sum_by (duty_flight days) list
+pub month_flight-sum : (days : Days) (list : List Duty)
+    → month_flight days list ≡ sum_by (duty_flight days) list
 month_flight-sum days [] = sum_by-nothing (range_with_len DAYS_BEFORE days.month_days)
 month_flight-sum days (duty ∷ list) =
     omega (arith, month_flight-cons days duty list, month_flight-sum days list, sum_by-cons (duty_flight days) duty list)

@@ -45,7 +45,8 @@ most_of year eleven MonthFlight = min (MOST_FLIGHT_IN_A_YEAR - year) (MOST_FLIGH
 
 -- no sum is more than there may be
 abbrev pub AreWithin : Days → List Duty → ℕ → ℕ → Type 0
-AreWithin days list year eleven = All (λ sum. sum_of days list sum ≤ most_of year eleven sum) (judged_sums days)
+AreWithin days list year eleven =
+    All (λ sum. sum_of days list sum ≤ most_of year eleven sum) (judged_sums days)
 
 -- what a list leaves of that
 abbrev pub room_of : Days → List Duty → ℕ → ℕ → Sum → ℕ

@@ -20,7 +20,8 @@ abbrev pub IsLight : ℕ → List ℕ → Type 0
 IsLight duties table = (i : ℕ) → slice_index table i ≤ duties * LAST_INSTANT
 
 -- The table has what the list has of the measure on each day.
-pub record AreMinutesByDay (measure : Measure) (days : Days) (list : List Duty) (table : List ℕ) : Type 0 where
+pub record AreMinutesByDay (measure : Measure) (days : Days) (list : List Duty)
+    (table : List ℕ) : Type 0 where
   pub value : (i : ℕ) → slice_index table i ≡ on_day (minutes_of measure) days list i
   pub light : IsLight MOST_DUTIES table
 

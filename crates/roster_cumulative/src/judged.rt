@@ -1,8 +1,10 @@
 //! All that the limits judge, as sums over duties: what a list takes of each, and what it leaves.
 
-ghost use Rattle.std.specs.Prelude.{◌≡◌, ◌++◌, ◌-◌, ◌%◌, ◌≤◌, ◌↔◌, ℕ, IfOk, IsTrue, OnOk, length, map, min, replicate, slice_index};
+ghost use Rattle.std.specs.Prelude.{◌≡◌, ◌++◌, ◌-◌, ◌%◌, ◌≤◌, ◌↔◌, ℕ, IfOk, IsTrue, OnOk, length, map, min};
+ghost use Rattle.std.specs.Prelude.{replicate, slice_index};
 ghost use Rattle.roster_model.specs.Sums.{in_run, judged_days};
-ghost use Rattle.roster_cumulative.specs.Judged.{HaveRoom, MonthFlight, capped_of, judged_sums, load_of, most_load, room_of};
+ghost use Rattle.roster_cumulative.specs.Judged.{HaveRoom, MonthFlight, capped_of, judged_sums, load_of};
+ghost use Rattle.roster_cumulative.specs.Judged.{most_load, room_of};
 ghost use Rattle.roster_cumulative.specs.Table.{IsLight};
 
 use crate::runs::run_before;

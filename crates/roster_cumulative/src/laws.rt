@@ -1,6 +1,7 @@
 //! What follows from nothing but the definitions.
 
-ghost use Rattle.std.specs.Prelude.{◌≡◌, ◌≤◌, ◌↔◌, ◌+◌, ◌*◌, ◌∷◌, ◌++◌, [], ℕ, false, if◌then◌else◌, List, filter, length};
+ghost use Rattle.std.specs.Prelude.{◌≡◌, ◌≤◌, ◌↔◌, ◌+◌, ◌*◌, ◌∷◌, ◌++◌, [], ℕ, false, if◌then◌else◌, List};
+ghost use Rattle.std.specs.Prelude.{filter, length};
 ghost use Rattle.std.specs.List.{range_with_len, sum_by};
 ghost use Rattle.std.specs.List.Sorted.{IsStrictlyIncreasing};
 ghost use Rattle.roster_model.specs.Calendar.{Days, IsTable};

@@ -26,7 +26,8 @@ pub record IsRosterOf (problem : Problem) (report places : List ℕ) : Type 0 wh
   pub covers : length places ≡ length problem.pairings
   pub numbers : All (λ x. x ≤ length problem.persons) places
   pub has : HasAll problem places (given_by_text report)
-  pub only : (p k : ℕ) → k < length problem.persons → slice_get places p ≡ Some k → IsGiven problem (given_by_text report) p k
+  pub only : (p k : ℕ) → k < length problem.persons → slice_get places p ≡ Some k
+      → IsGiven problem (given_by_text report) p k
 
 -- the text is that of a plan which begins with the assignments, or with the roster of the report if there is one
 abbrev pub IsPlanFrom : Option (List ℕ) → Problem → List ℕ → List ℕ → Type 0

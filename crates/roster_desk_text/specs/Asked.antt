@@ -6,7 +6,8 @@ use Rattle.roster_desk_text.specs.declared.asked.Unknown.{Unknown}
 use Rattle.roster_desk_text.specs.declared.asked.Unknown.TheVariants as unknown
 
 -- nothing if no name is given; else the place of the entry with the name, or if there is none the fault
-abbrev pub asked_for : {X : Type 0} → (X → List ℕ) → List X → Unknown → Option (List ℕ) → Result (Option ℕ) Unknown
+abbrev pub asked_for : {X : Type 0} → (X → List ℕ) → List X → Unknown → Option (List ℕ)
+    → Result (Option ℕ) Unknown
 asked_for id_of entries fault None = Ok None
 asked_for id_of entries fault (Some name) = ok_or (option_map Some (place_named id_of name entries)) fault
 

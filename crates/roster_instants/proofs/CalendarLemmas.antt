@@ -22,7 +22,8 @@ unfolding period_of
 period-unshaped text e = none_if _ _ (and_left _ _ (and_left _ _ e))
 
 -- nor is one with a year or a month out of range
-pub period-no_year : (text : List ℕ) → is_in_range FIRST_MONTH_YEAR LAST_MONTH_YEAR (number_at text 0 4) ≡ false → None ≡ period_of text
+pub period-no_year : (text : List ℕ)
+    → is_in_range FIRST_MONTH_YEAR LAST_MONTH_YEAR (number_at text 0 4) ≡ false → None ≡ period_of text
 unfolding period_of
 period-no_year text e = none_if _ _ (and_left _ _ (and_right _ _ e))
 
@@ -32,7 +33,8 @@ period-no_month text e = none_if _ _ (and_right _ _ e)
 
 -- and every other text is the month that its numbers name
 pub period-read : (text : List ℕ) → has_shape (codes "0000-00") text ≡ true
-    → is_in_range FIRST_MONTH_YEAR LAST_MONTH_YEAR (number_at text 0 4) ≡ true → is_in_range 1 12 (number_at text 5 7) ≡ true
+    → is_in_range FIRST_MONTH_YEAR LAST_MONTH_YEAR (number_at text 0 4) ≡ true
+    → is_in_range 1 12 (number_at text 5 7) ≡ true
     → Some (record { year = number_at text 0 4; month = number_at text 5 7 }) ≡ period_of text
 unfolding period_of
 period-read text shape year month = some_if _ _ (and_from _ _ (and_from _ _ shape year) month)
@@ -48,7 +50,8 @@ abbrev record_of : ℕ → ℕ → Period
 record_of year month = record { year = year; month = month }
 
 -- a year and a month that are kept in signed types
-pub same_period : (y m year month : ℕ) → is_in_range FIRST_MONTH_YEAR LAST_MONTH_YEAR year ≡ true → is_in_range 1 12 month ≡ true → y ≡ year → m ≡ month
+pub same_period : (y m year month : ℕ) → is_in_range FIRST_MONTH_YEAR LAST_MONTH_YEAR year ≡ true
+    → is_in_range 1 12 month ≡ true → y ≡ year → m ≡ month
     → record_of (unsigned_abs (to_z w16 y)) (unsigned_abs (to_z w8 m)) ≡ record_of year month
 same_period y m year month year_in month_in same_year same_month =
     let bound : y ≤ LAST_YEAR = grind (arith, nat_tests) in
@@ -58,16 +61,20 @@ same_period y m year month year_in month_in same_year same_month =
 -- ---- instants
 
 -- a text of another shape is no instant
-pub instant-unshaped : (text : List ℕ) → has_shape (codes "0000-00-00T00:00Z") text ≡ false → None ≡ instant_of text
+pub instant-unshaped : (text : List ℕ) → has_shape (codes "0000-00-00T00:00Z") text ≡ false
+    → None ≡ instant_of text
 unfolding instant_of is_instant
 instant-unshaped text e = none_if _ _ (and_left _ _ (and_left _ _ (and_left _ _ (and_left _ _ e))))
 
 -- nor is one with a year out of range, or of no date
-pub instant-no_year : (text : List ℕ) → is_in_range FIRST_YEAR LAST_YEAR (number_at text 0 4) ≡ false → None ≡ instant_of text
+pub instant-no_year : (text : List ℕ) → is_in_range FIRST_YEAR LAST_YEAR (number_at text 0 4) ≡ false
+    → None ≡ instant_of text
 unfolding instant_of is_instant
 instant-no_year text e = none_if _ _ (and_left _ _ (and_left _ _ (and_left _ _ (and_right _ _ e))))
 
-pub instant-no_date : (text : List ℕ) → is_real_date (number_at text 0 4) (number_at text 5 7) (number_at text 8 10) ≡ false → None ≡ instant_of text
+pub instant-no_date : (text : List ℕ)
+    → is_real_date (number_at text 0 4) (number_at text 5 7) (number_at text 8 10) ≡ false
+    → None ≡ instant_of text
 unfolding instant_of is_instant
 instant-no_date text e = none_if _ _ (and_left _ _ (and_left _ _ (and_right _ _ e)))
 

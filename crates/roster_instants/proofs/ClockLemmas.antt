@@ -48,7 +48,8 @@ begins_nanos year = omega (arith, signed_arith)
 last_nanos : (year : ℤ) → last_nanosecond year ≡ nanos (year_ends year) -ℤ pos 1
 last_nanos year = omega (arith, signed_arith)
 
-day_nanos : (day time : ℤ) → day *ℤ nanos_per_day +ℤ nanos_of_seconds (time -ℤ pos 0) ≡ nanos (day *ℤ pos 86_400 +ℤ time)
+day_nanos : (day time : ℤ)
+    → day *ℤ nanos_per_day +ℤ nanos_of_seconds (time -ℤ pos 0) ≡ nanos (day *ℤ pos 86_400 +ℤ time)
 day_nanos day time = omega (arith, signed_arith)
 
 change_by : (year time : ℤ) (day : Option ℤ) → IsChange year
@@ -59,12 +60,16 @@ change_by year time None =
     record { mark = inr (refl, last_nanos year); from = omega (arith, signed_arith, rises); to = omega (arith, signed_arith) }
 change_by year time (Some day) =
     let rises = year_rises year in
-    let bounds = clamp_bounds (year_begins year) (year_ends year) (day *ℤ pos 86_400 +ℤ time) (omega (arith, signed_arith, rises)) in
+    let bounds =
+    clamp_bounds (year_begins year) (year_ends year) (day *ℤ pos 86_400 +ℤ time)
+    (omega (arith, signed_arith, rises)) in
     let mark = clamp-mark (year_begins year) (year_ends year) (day *ℤ pos 86_400 +ℤ time)
-    (day *ℤ nanos_per_day +ℤ nanos_of_seconds (time -ℤ pos 0)) (last_nanosecond year) rises (day_nanos day time) (last_nanos year) in
+    (day *ℤ nanos_per_day +ℤ nanos_of_seconds (time -ℤ pos 0)) (last_nanosecond year) rises
+    (day_nanos day time) (last_nanos year) in
     record { mark = rw (begins_nanos year) at mark; from = bounds.0; to = bounds.1 }
 
-pub change : (year : ℤ) (d : DayTime) → IsChange year (change_in year (day_time_view d)) (rule_nanos year d (pos 0))
+pub change : (year : ℤ) (d : DayTime)
+    → IsChange year (change_in year (day_time_view d)) (rule_nanos year d (pos 0))
 unfolding change_in rule_nanos
 change year d = change_by year d.time (rule_day year d.date)
 
@@ -75,7 +80,8 @@ pub record IsInner (year : ℤ) : Type 0 where
   pub from : neg_ℤ (pos 86_400_000_000) ≤ℤ year_begins year
   pub to : year_ends year ≤ℤ pos 253_400_000_000
 
-shift_nanos : (standard summer : Offset) → shift_between standard summer ≡ nanos (summer.seconds -ℤ standard.seconds)
+shift_nanos : (standard summer : Offset)
+    → shift_between standard summer ≡ nanos (summer.seconds -ℤ standard.seconds)
 shift_nanos standard summer = omega (arith, signed_arith)
 
 -- a change that is moved by the difference of two offsets
@@ -83,7 +89,8 @@ later : (year s r : ℤ) (standard summer : Offset) → IsInner year → IsChang
     → IsNear (s +ℤ (summer.seconds -ℤ standard.seconds)) (saturating_add r (shift_between standard summer))
 later year s r standard summer inner is =
     let near = IsNear-mark (year_ends year) s r is.mark in
-    near-add s r (summer.seconds -ℤ standard.seconds) (shift_between standard summer) near (shift_nanos standard summer)
+    near-add s r (summer.seconds -ℤ standard.seconds) (shift_between standard summer) near
+    (shift_nanos standard summer)
     (omega (arith, signed_arith, near.low, is.from, inner.from, standard.in_range, summer.in_range))
     (omega (arith, signed_arith, near.high, is.to, inner.to, standard.in_range, summer.in_range))
 
@@ -91,7 +98,8 @@ earlier : (year s r : ℤ) (standard summer : Offset) → IsInner year → IsCha
     → IsNear (s -ℤ (summer.seconds -ℤ standard.seconds)) (saturating_sub r (shift_between standard summer))
 earlier year s r standard summer inner is =
     let near = IsNear-mark (year_ends year) s r is.mark in
-    near-sub s r (summer.seconds -ℤ standard.seconds) (shift_between standard summer) near (shift_nanos standard summer)
+    near-sub s r (summer.seconds -ℤ standard.seconds) (shift_between standard summer) near
+    (shift_nanos standard summer)
     (omega (arith, signed_arith, near.low, is.from, inner.from, standard.in_range, summer.in_range))
     (omega (arith, signed_arith, near.high, is.to, inner.to, standard.in_range, summer.in_range))
 
@@ -114,18 +122,21 @@ behind_by false true gap standard summer = refl
 behind_by false false true standard summer = refl
 behind_by false false false standard summer = refl
 
-pub ahead : (year s t q r at : ℤ) (standard summer : Offset) → IsInner year → IsChange year s q → IsChange year t r
+pub ahead : (year s t q r at : ℤ) (standard summer : Offset) → IsInner year → IsChange year s q
+    → IsChange year t r
     → (compatible_offset (ambiguous_ahead standard summer (q, r) (nanos at))).seconds ≡ offset_ahead standard.seconds summer.seconds (s, t) at
 ahead year s t q r at standard summer inner start finish =
     let near = IsNear-mark (year_ends year) s q start.mark in
-    ahead_by (in_window (q, r) (nanos at)) (in_span q (saturating_add q (shift_between standard summer)) (nanos at))
+    ahead_by (in_window (q, r) (nanos at))
+    (in_span q (saturating_add q (shift_between standard summer)) (nanos at))
     (in_span (saturating_sub r (shift_between standard summer)) r (nanos at)) standard summer
     ∙ ap (λ b. if b && not (in_span q (saturating_add q (shift_between standard summer)) (nanos at)) then summer.seconds else standard.seconds)
     (same_window (year_ends year) s t q r at start.mark finish.mark)
     ∙ ap (λ b. if in_window (s, t) at && not b then summer.seconds else standard.seconds)
     (same_span s (s +ℤ (summer.seconds -ℤ standard.seconds)) q (saturating_add q (shift_between standard summer)) at near (later year s q standard summer inner start))
 
-pub behind : (year s t q r at : ℤ) (standard summer : Offset) → IsInner year → IsChange year s q → IsChange year t r
+pub behind : (year s t q r at : ℤ) (standard summer : Offset) → IsInner year → IsChange year s q
+    → IsChange year t r
     → (compatible_offset (ambiguous_behind standard summer (q, r) (nanos at))).seconds ≡ offset_behind standard.seconds summer.seconds (s, t) at
 behind year s t q r at standard summer inner start finish =
     let shift = shift_between standard summer in
@@ -134,7 +145,8 @@ behind year s t q r at standard summer inner start finish =
     let last = IsNear-mark (year_ends year) t r finish.mark in
     let a : Bool = in_window (s, t) at in
     let f : Bool = in_span (s +ℤ delta) s at in
-    behind_by (in_window (q, r) (nanos at)) (in_span (saturating_add q shift) q (nanos at)) (in_span r (saturating_sub r shift) (nanos at)) standard summer
+    behind_by (in_window (q, r) (nanos at)) (in_span (saturating_add q shift) q (nanos at))
+    (in_span r (saturating_sub r shift) (nanos at)) standard summer
     ∙ ap (λ b. if b then summer.seconds else (if in_span (saturating_add q shift) q (nanos at) then standard.seconds else (if in_span r (saturating_sub r shift) (nanos at) then summer.seconds else standard.seconds)))
     (same_window (year_ends year) s t q r at start.mark finish.mark)
     ∙ ap (λ b. if a then summer.seconds else (if b then standard.seconds else (if in_span r (saturating_sub r shift) (nanos at) then summer.seconds else standard.seconds)))
@@ -143,20 +155,25 @@ behind year s t q r at standard summer inner start finish =
     (same_span t (t -ℤ delta) r (saturating_sub r shift) at last (earlier year t r standard summer inner finish))
 
 -- if the two offsets are one, it doesn't matter which holds
-one_offset : (b : Bool) (standard summer : ℤ) → summer ≡ standard → standard ≡ (if b then summer else standard)
+one_offset : (b : Bool) (standard summer : ℤ) → summer ≡ standard
+    → standard ≡ (if b then summer else standard)
 one_offset true standard summer same = sym same
 one_offset false standard summer same = refl
 
-by_sides : (year s t q r at : ℤ) (standard summer : Offset) (less more : Bool) → int_lt summer.seconds standard.seconds ≡ less → int_lt standard.seconds summer.seconds ≡ more
+by_sides : (year s t q r at : ℤ) (standard summer : Offset) (less more : Bool)
+    → int_lt summer.seconds standard.seconds ≡ less → int_lt standard.seconds summer.seconds ≡ more
     → IsInner year → IsChange year s q → IsChange year t r
     → (compatible_offset (if less then ambiguous_behind standard summer (q, r) (nanos at) else (if more then ambiguous_ahead standard summer (q, r) (nanos at) else Unambiguous standard))).seconds
     ≡ (if less then offset_behind standard.seconds summer.seconds (s, t) at else offset_ahead standard.seconds summer.seconds (s, t) at)
-by_sides year s t q r at standard summer true more below above inner start finish = behind year s t q r at standard summer inner start finish
-by_sides year s t q r at standard summer false true below above inner start finish = ahead year s t q r at standard summer inner start finish
+by_sides year s t q r at standard summer true more below above inner start finish =
+    behind year s t q r at standard summer inner start finish
+by_sides year s t q r at standard summer false true below above inner start finish =
+    ahead year s t q r at standard summer inner start finish
 by_sides year s t q r at standard summer false false below above inner start finish =
     one_offset (in_window (s, t) at && not (in_span s (s +ℤ (summer.seconds -ℤ standard.seconds)) at)) standard.seconds summer.seconds (omega (arith, signed_arith))
 
-by_summer : (year at : ℤ) (standard : Offset) (summer : Option Dst) (dt : DateTime) → dt.date.year ≡ year → civil_nanos dt ≡ nanos at → IsInner year
+by_summer : (year at : ℤ) (standard : Offset) (summer : Option Dst) (dt : DateTime) → dt.date.year ≡ year
+    → civil_nanos dt ≡ nanos at → IsInner year
     → (compatible_offset (ambiguous_at_by standard summer dt)).seconds
     ≡ match_some (option_map dst_view summer) standard.seconds (λ d. offset_by standard.seconds d.seconds (change_in year d.start, change_in year d.finish) at)
 by_summer year at standard None dt is_year is_at inner = refl
@@ -164,13 +181,16 @@ by_summer year at standard (Some d) dt is_year is_at inner =
     ap (λ y. (compatible_offset (ambiguous_by standard d.offset (rule_nanos y d.rule.start (pos 0), rule_nanos y d.rule.end (pos 0)) (civil_nanos dt))).seconds) is_year
     ∙ ap (λ n. (compatible_offset (ambiguous_by standard d.offset (rule_nanos year d.rule.start (pos 0), rule_nanos year d.rule.end (pos 0)) n)).seconds) is_at
     ∙ by_sides year (change_in year (day_time_view d.rule.start)) (change_in year (day_time_view d.rule.end)) (rule_nanos year d.rule.start (pos 0)) (rule_nanos year d.rule.end (pos 0)) at standard d.offset
-    (int_lt d.offset.seconds standard.seconds) (int_lt standard.seconds d.offset.seconds) refl refl inner (change year d.rule.start) (change year d.rule.end)
+    (int_lt d.offset.seconds standard.seconds) (int_lt standard.seconds d.offset.seconds) refl refl inner
+    (change year d.rule.start) (change year d.rule.end)
 
 -- whole seconds of an inner year have the definition's offset
-pub offset_is : (zone : Rule) (dt : DateTime) (year at : ℤ) → dt.date.year ≡ year → civil_nanos dt ≡ nanos at → IsInner year
+pub offset_is : (zone : Rule) (dt : DateTime) (year at : ℤ) → dt.date.year ≡ year → civil_nanos dt ≡ nanos at
+    → IsInner year
     → (compatible_offset (rule.ambiguous_at zone dt)).seconds ≡ offset_at (tz_view zone) year at
 unfolding offset_at
-offset_is zone dt year at is_year is_at inner = by_summer year at zone.std_offset zone.dst dt is_year is_at inner
+offset_is zone dt year at is_year is_at inner =
+    by_summer year at zone.std_offset zone.dst dt is_year is_at inner
 
 -- ---- the instant of an hour of a day
 
@@ -182,7 +202,8 @@ inner dt day is to =
     let days = days_in_year_bounds dt.date.year in
     record { from = omega (arith, signed_arith, dt.date.day_in); to = omega (arith, signed_arith, dt.date.day_in) }
 
-pub moment_nanos : (dt : DateTime) (day hour : ℕ) → epoch_day dt.date ≡ pos day → time_nanos dt.time ≡ hour * 3_600_000_000_000 → civil_nanos dt ≡ nanos (moment day hour)
+pub moment_nanos : (dt : DateTime) (day hour : ℕ) → epoch_day dt.date ≡ pos day
+    → time_nanos dt.time ≡ hour * 3_600_000_000_000 → civil_nanos dt ≡ nanos (moment day hour)
 moment_nanos dt day hour is time =
     civil_nanos-parts dt ∙ rw (is, time) (omega (arith, signed_arith))
 
@@ -192,20 +213,24 @@ year_is dt day is = sym (year_of_day-date dt.date) ∙ ap year_of_day is
 less : (a b : ℤ) → nanos a -ℤ nanos b ≡ nanos (a -ℤ b)
 less a b = omega (arith, signed_arith)
 
-pub instant_is : (zone : Rule) (dt : DateTime) (day hour : ℕ) → epoch_day dt.date ≡ pos day → time_nanos dt.time ≡ hour * 3_600_000_000_000 → day ≤ LAST_DAY
+pub instant_is : (zone : Rule) (dt : DateTime) (day hour : ℕ) → epoch_day dt.date ≡ pos day
+    → time_nanos dt.time ≡ hour * 3_600_000_000_000 → day ≤ LAST_DAY
     → instant_of dt (compatible_offset (rule.ambiguous_at zone dt)) ≡ nanos (second_at (tz_view zone) day hour)
 unfolding second_at
 instant_is zone dt day hour is time to =
     let year = year_is dt day is in
     let at = moment_nanos dt day hour is time in
     let P : ℤ → Type 0 = λ y. IsInner y in
-    let offset = offset_is zone dt (year_of_day (pos day)) (moment day hour) year at (subst P year (inner dt day is to)) in
+    let offset =
+    offset_is zone dt (year_of_day (pos day)) (moment day hour) year at
+    (subst P year (inner dt day is to)) in
     ap (λ n. n -ℤ nanos_of_seconds (compatible_offset (rule.ambiguous_at zone dt)).seconds) at
     ∙ ap (λ s. nanos (moment day hour) -ℤ nanos_of_seconds s) offset
     ∙ less (moment day hour) (offset_at (tz_view zone) (year_of_day (pos day)) (moment day hour))
 
 -- a zone that follows a rule, and one that a text stands for
-pub instant_of_rule : (zone : TimeZone) (dt : DateTime) (day hour : ℕ) → IsRule zone → epoch_day dt.date ≡ pos day → time_nanos dt.time ≡ hour * 3_600_000_000_000 → day ≤ LAST_DAY
+pub instant_of_rule : (zone : TimeZone) (dt : DateTime) (day hour : ℕ) → IsRule zone
+    → epoch_day dt.date ≡ pos day → time_nanos dt.time ≡ hour * 3_600_000_000_000 → day ≤ LAST_DAY
     → instant_of dt (compatible_offset (ambiguous_at zone dt)) ≡ nanos (second_at (rule_of zone) day hour)
 unfolding ambiguous_at
 instant_of_rule (Posix zone) dt day hour has is time to = instant_is zone dt day hour is time to
@@ -214,7 +239,8 @@ instant_of_rule Unknown dt day hour has is time to = absurd has
 instant_of_rule (Fixed offset) dt day hour has is time to = absurd has
 instant_of_rule (Tzif table) dt day hour has is time to = absurd has
 
-pub rule_of_text : (text : List ℕ) (zone : TimeZone) → IsPosixZone text zone → IsRule zone × (read_whole text ≡ Some (rule_of zone))
+pub rule_of_text : (text : List ℕ) (zone : TimeZone) → IsPosixZone text zone
+    → IsRule zone × (read_whole text ≡ Some (rule_of zone))
 rule_of_text text (Posix rule) is = (tt, is)
 rule_of_text text UTC is = absurd is
 rule_of_text text Unknown is = absurd is

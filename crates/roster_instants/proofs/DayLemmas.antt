@@ -14,12 +14,15 @@ use Rattle.roster_model.specs.declared.limits.TheConstants.{FIRST_YEAR, LAST_YEA
 use Rattle.roster_instants.specs.declared.clocks.TheConstants.{EARLIEST_MONTH, LATEST_MONTH}
 
 is_between : (low high n : ℕ) → pos low ≤ℤ pos n → pos n ≤ℤ pos high → is_in_range low high n ≡ true
-is_between low high n above below = and_from _ _ (le-leb low n (omega (arith, ints))) (le-leb n high (omega (arith, ints)))
+is_between low high n above below =
+    and_from _ _ (le-leb low n (omega (arith, ints))) (le-leb n high (omega (arith, ints)))
 
 -- what `jiff` has as a date is a day of the calendar
-pub is_real_from_date : (year month day : ℕ) → IsDate (pos year) (pos month) (pos day) → is_real_date year month day ≡ true
+pub is_real_from_date : (year month day : ℕ) → IsDate (pos year) (pos month) (pos day)
+    → is_real_date year month day ≡ true
 is_real_from_date year month day is =
-    and_from _ _ (is_between 1 12 month is.1.0 is.1.1) (is_between 1 (days_in_month (pos year) month) day is.2.0 is.2.1)
+    and_from _ _ (is_between 1 12 month is.1.0 is.1.1)
+    (is_between 1 (days_in_month (pos year) month) day is.2.0 is.2.1)
 
 -- the days up to the first of a year, from 1970 on
 first_count : (year : ℕ) → 1970 ≤ year → 4_371_953 ≤ day_count (pos year) 1 1
@@ -34,7 +37,8 @@ first_count year from =
     ]
 
 -- no day of 1970 or later has a number below 0
-pub day_from_1970 : (year month day : ℕ) → 1970 ≤ year → 1 ≤ day → pos 0 ≤ℤ days_from_civil (pos year) month day
+pub day_from_1970 : (year month day : ℕ) → 1970 ≤ year → 1 ≤ day
+    → pos 0 ≤ℤ days_from_civil (pos year) month day
 day_from_1970 year month day from first =
     let count = first_count year from in
     let in_year = day_count-day_of_year (pos year) month day first in
@@ -42,13 +46,15 @@ day_from_1970 year month day from first =
     omega (arith, signed_arith)
 
 -- so the number that a clause speaks of is the one that `jiff` has
-pub day_number_is : (year month day : ℕ) → 1970 ≤ year → 1 ≤ day → days_from_civil (pos year) month day ≡ pos (day_number year month day)
+pub day_number_is : (year month day : ℕ) → 1970 ≤ year → 1 ≤ day
+    → days_from_civil (pos year) month day ≡ pos (day_number year month day)
 day_number_is year month day from first =
     let above = day_from_1970 year month day from first in
     omega (arith, ints)
 
 -- a date that has been made of three numbers, and its day number
-pub day_of_date : (date : Date) (year month day : ℕ) → 1970 ≤ year → IsYmd (pos year) (pos month) (pos day) date → epoch_day date ≡ pos (day_number year month day)
+pub day_of_date : (date : Date) (year month day : ℕ) → 1970 ≤ year
+    → IsYmd (pos year) (pos month) (pos day) date → epoch_day date ≡ pos (day_number year month day)
 day_of_date date year month day from is =
     let months : date.month ≡ month = cc is.1 in
     let days : date.day ≡ day = cc is.2 in
@@ -68,26 +74,38 @@ pub two_digits_in_i8 : (n : ℕ) → n < 100 → to_z w8 n ≡ pos n
 two_digits_in_i8 n h = omega (arith, ints)
 
 -- the same of three unsigned numbers, in signed types
-pub day_of_parts : (date : Date) (year month day : ℕ) → FIRST_YEAR ≤ year → year ≤ LAST_YEAR → month < 100 → day < 100
-    → IsYmd (to_z w16 year) (to_z w8 month) (to_z w8 day) date → epoch_day date ≡ pos (day_number year month day)
+pub day_of_parts : (date : Date) (year month day : ℕ) → FIRST_YEAR ≤ year → year ≤ LAST_YEAR → month < 100
+    → day < 100
+    → IsYmd (to_z w16 year) (to_z w8 month) (to_z w8 day) date
+    → epoch_day date ≡ pos (day_number year month day)
 day_of_parts date year month day from to month_fits day_fits is =
-    day_of_date date year month day from (rw (← year_in_i16 year to, ← two_digits_in_i8 month month_fits, ← two_digits_in_i8 day day_fits) is)
+    day_of_date date year month day from
+    (rw (← year_in_i16 year to, ← two_digits_in_i8 month month_fits, ← two_digits_in_i8 day day_fits) is)
 
 -- no day of a month is before the earliest one's first
-pub day_from_earliest : (year month day : ℕ) → FIRST_MONTH_YEAR ≤ year → 1 ≤ day → EARLIEST_MONTH ≤ day_number year month day
+pub day_from_earliest : (year month day : ℕ) → FIRST_MONTH_YEAR ≤ year → 1 ≤ day
+    → EARLIEST_MONTH ≤ day_number year month day
 day_from_earliest year month day from first =
-    let more : day_count (pos 1970) 1 1 + 365 ≤ day_count (pos year) 1 1 = day_count-later_year (pos 1970) (pos year) (omega (arith, ints)) (omega (arith, ints)) in
+    let more : day_count (pos 1970) 1 1 + 365 ≤ day_count (pos year) 1 1 =
+    day_count-later_year (pos 1970) (pos year) (omega (arith, ints)) (omega (arith, ints)) in
     let in_year = day_count-day_of_year (pos year) month day first in
     let number = days_from_civil-day_count (pos year) month day in
     let same = day_number_is year month day (omega arith) first in
     omega (arith, ints, day_count-epoch)
 
 -- a month begins before 1 January 9998, two years before the last day that there is
-pub day_to_latest : (year month : ℕ) → FIRST_MONTH_YEAR ≤ year → year ≤ LAST_MONTH_YEAR → 1 ≤ month → month ≤ 12 → day_number year month 1 ≤ LATEST_MONTH
+pub day_to_latest : (year month : ℕ) → FIRST_MONTH_YEAR ≤ year → year ≤ LAST_MONTH_YEAR → 1 ≤ month
+    → month ≤ 12 → day_number year month 1 ≤ LATEST_MONTH
 day_to_latest year month from to low high =
-    let rest = day_count-later_year (pos year) (pos 9998) (omega (arith, signed_arith)) (omega (arith, signed_arith)) in
-    let last = day_count-later_year (pos 9998) (pos 9999) (omega (arith, signed_arith)) (omega (arith, signed_arith)) in
-    let end = day_count-later_year (pos 9999) (pos 10000) (omega (arith, signed_arith)) (omega (arith, signed_arith)) in
+    let rest =
+    day_count-later_year (pos year) (pos 9998) (omega (arith, signed_arith))
+    (omega (arith, signed_arith)) in
+    let last =
+    day_count-later_year (pos 9998) (pos 9999) (omega (arith, signed_arith))
+    (omega (arith, signed_arith)) in
+    let end =
+    day_count-later_year (pos 9999) (pos 10000) (omega (arith, signed_arith))
+    (omega (arith, signed_arith)) in
     let days = (days_in_year_bounds (pos 9998)).1 in
     let more = (days_in_year_bounds (pos 9999)).1 in
     let in_year = day_count-day_of_year (pos year) month 1 (omega arith) in

@@ -24,7 +24,8 @@ use Rattle.roster_instants.specs.Rule.{rule_of}
 use Rattle.roster_instants.specs.Laws.{IsMonth, IsHourOf, IsCompatible, HasCompatibleDays, instant_in}
 
 -- an hour of a window, on a day that a window may hold
-hour_of : (period : Period) (i hour : ℕ) (dt : DateTime) → IsMonth period → i ≤ days_of_window period → hour < 24 → IsHourOf period i hour dt → IsHour dt (first_day period + i) hour
+hour_of : (period : Period) (i hour : ℕ) (dt : DateTime) → IsMonth period → i ≤ days_of_window period
+    → hour < 24 → IsHourOf period i hour dt → IsHour dt (first_day period + i) hour
 hour_of period i hour dt month within below is =
     let low = day_from_earliest period.year period.month 1 month.from (omega arith) in
     let high = day_to_latest period.year period.month month.from month.to month.low month.high in
@@ -41,21 +42,27 @@ compatible period text zone rule dt i hour month is read within below shows =
     ∙ ap (λ z. nanos (second_at z (first_day period + i) hour)) same
 
 -- a whole minute of a second that isn't negative
-whole_minute : (s : ℤ) (minute : ℕ) → pos 0 ≤ℤ nanos s → (unsigned_abs s % 60 == 0) ≡ true → minute ≡ unsigned_abs s / 60 → nanos s ≡ pos (minute * 60_000_000_000)
+whole_minute : (s : ℤ) (minute : ℕ) → pos 0 ≤ℤ nanos s → (unsigned_abs s % 60 == 0) ≡ true
+    → minute ≡ unsigned_abs s / 60 → nanos s ≡ pos (minute * 60_000_000_000)
 whole_minute (pos k) minute low whole is =
     let none : k % 60 ≡ 0 = grind (arith, nat_tests) in
     omega (arith, signed_arith)
 whole_minute (negsuc k) minute low whole is = absurd (omega (arith, signed_arith))
 
 -- one hour of the table
-at_hour : (period : Period) (text : List ℕ) (zone : TimeZone) (rule : TzText) (dt : DateTime) (i hour n minute : ℕ)
-    → IsMonth period → IsPosixZone text zone → read_whole text ≡ Some rule → n ≤ days_of_window period + 1 → hour < 24
-    → are_minutes rule hour (first_day period) n ≡ true → (i < n) × (minute ≡ minute_at rule (first_day period + i) hour) → IsHourOf period i hour dt
+at_hour : (period : Period) (text : List ℕ) (zone : TimeZone) (rule : TzText) (dt : DateTime)
+    (i hour n minute : ℕ)
+    → IsMonth period → IsPosixZone text zone → read_whole text ≡ Some rule → n ≤ days_of_window period + 1
+    → hour < 24
+    → are_minutes rule hour (first_day period) n ≡ true
+    → (i < n) × (minute ≡ minute_at rule (first_day period + i) hour) → IsHourOf period i hour dt
     → instant_in zone dt ≡ pos (minute * 60_000_000_000)
 at_hour period text zone rule dt i hour n minute month is read few below whole place shows =
     let within = place.0 in
     let law = compatible period text zone rule dt i hour month is read (omega arith) below shows in
-    let bounds = instant_bounds dt (compatible_offset (ambiguous_at zone dt)) (first_day period + i) hour (hour_of period i hour dt month (omega arith) below shows) in
+    let bounds =
+    instant_bounds dt (compatible_offset (ambiguous_at zone dt)) (first_day period + i) hour
+    (hour_of period i hour dt month (omega arith) below shows) in
     let P : ℤ → Type 0 = λ x. pos 0 ≤ℤ x in
     law ∙ whole_minute (second_at rule (first_day period + i) hour) minute (subst P law bounds.0)
     (all_of_range (λ d. is_minute_at rule d hour) (first_day period) n i whole place.0) place.1
@@ -67,7 +74,9 @@ compatible_days period text zone days dt i minute month is has =
     let table = days_by_rule-table period rule days found.2 in
     let n = days_of_window period in
     let first = first_day period in
-    let both = and_parts (are_minutes rule 0 first (n + 1) && are_minutes rule 8 first n) (are_minutes rule 22 first n) table.0 in
+    let both =
+    and_parts (are_minutes rule 0 first (n + 1) && are_minutes rule 8 first n)
+    (are_minutes rule 22 first n) table.0 in
     let early = and_parts (are_minutes rule 0 first (n + 1)) (are_minutes rule 8 first n) both.0 in
     let back = table.2 in (
       λ shows at. at_hour period text zone rule dt i 0 (n + 1) minute month is found.1 (omega arith) (omega arith) early.0 (instant_is rule 0 first (n + 1) i minute (ap (λ (d : Days). slice_get d.mid i) back ∙ at)) shows,

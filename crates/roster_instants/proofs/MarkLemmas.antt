@@ -32,17 +32,25 @@ le_same a b x y back forth = by_lt_z b a (λ h. let k = forth h in grind (arith,
 
 -- a whole second lies on the same side of both
 pub near-lt : (at s r : ℤ) → IsNear s r → int_lt (nanos at) r ≡ int_lt at s
-near-lt at s r n = lt_same (nanos at) r at s (λ h. omega (arith, signed_arith, n.low, n.high)) (λ h. omega (arith, signed_arith, n.low, n.high))
+near-lt at s r n =
+    lt_same (nanos at) r at s (λ h. omega (arith, signed_arith, n.low, n.high))
+    (λ h. omega (arith, signed_arith, n.low, n.high))
 
 pub near-le : (at s r : ℤ) → IsNear s r → int_le r (nanos at) ≡ int_le s at
-near-le at s r n = le_same r (nanos at) s at (λ h. omega (arith, signed_arith, n.low, n.high)) (λ h. omega (arith, signed_arith, n.low, n.high))
+near-le at s r n =
+    le_same r (nanos at) s at (λ h. omega (arith, signed_arith, n.low, n.high))
+    (λ h. omega (arith, signed_arith, n.low, n.high))
 
 -- two moments of a year lie the same way in both counts
 pub marks-le : (end s t q r : ℤ) → IsMark end s q → IsMark end t r → int_le q r ≡ int_le s t
-marks-le end s t q r (inl m) (inl k) = le_same q r s t (λ h. omega (arith, signed_arith)) (λ h. omega (arith, signed_arith))
-marks-le end s t q r (inl m) (inr k) = le_same q r s t (λ h. omega (arith, signed_arith)) (λ h. omega (arith, signed_arith))
-marks-le end s t q r (inr m) (inl k) = le_same q r s t (λ h. omega (arith, signed_arith)) (λ h. omega (arith, signed_arith))
-marks-le end s t q r (inr m) (inr k) = le_same q r s t (λ h. omega (arith, signed_arith)) (λ h. omega (arith, signed_arith))
+marks-le end s t q r (inl m) (inl k) =
+    le_same q r s t (λ h. omega (arith, signed_arith)) (λ h. omega (arith, signed_arith))
+marks-le end s t q r (inl m) (inr k) =
+    le_same q r s t (λ h. omega (arith, signed_arith)) (λ h. omega (arith, signed_arith))
+marks-le end s t q r (inr m) (inl k) =
+    le_same q r s t (λ h. omega (arith, signed_arith)) (λ h. omega (arith, signed_arith))
+marks-le end s t q r (inr m) (inr k) =
+    le_same q r s t (λ h. omega (arith, signed_arith)) (λ h. omega (arith, signed_arith))
 
 -- what a clamp gives
 clamp_low : (low high n : ℤ) → n <ℤ low → clamp_to low high n ≡ low
@@ -54,7 +62,8 @@ clamp_high low high n k h = grind (arith, ints)
 pub clamp_within : (low high n : ℤ) → low ≤ℤ n → n ≤ℤ high → clamp_to low high n ≡ n
 clamp_within low high n k h = grind (arith, ints)
 
-pub clamp_bounds : (low high n : ℤ) → low ≤ℤ high → (low ≤ℤ clamp_to low high n) × (clamp_to low high n ≤ℤ high)
+pub clamp_bounds : (low high n : ℤ) → low ≤ℤ high
+    → (low ≤ℤ clamp_to low high n) × (clamp_to low high n ≤ℤ high)
 clamp_bounds low high n h =
     by_lt_z n low (λ k. rw (clamp_low low high n k) (omega (arith, signed_arith), h))
     (λ k. by_lt_z high n (λ j. rw (clamp_high low high n h j) (h, omega (arith, signed_arith)))
@@ -86,7 +95,8 @@ near-sub s r delta shift n same low high =
     (record { low = omega (arith, signed_arith, n.low, n.high); high = omega (arith, signed_arith, n.low, n.high) })
 
 -- a whole second lies in both windows or in none
-pub same_window : (end s t q r at : ℤ) → IsMark end s q → IsMark end t r → in_window (q, r) (nanos at) ≡ in_window (s, t) at
+pub same_window : (end s t q r at : ℤ) → IsMark end s q → IsMark end t r
+    → in_window (q, r) (nanos at) ≡ in_window (s, t) at
 same_window end s t q r at m k =
     let a = IsNear-mark end s q m in
     let b = IsNear-mark end t r k in

@@ -38,7 +38,8 @@ instant_bounds dt offset day hour is =
     let within = is.within in
     rw at (omega (arith, signed_arith, offset.in_range), omega (arith, signed_arith, offset.in_range))
 
-pub converts : (zone : TimeZone) (dt : DateTime) (day hour : ℕ) (r : Result Timestamp Error) → IsHour dt day hour
+pub converts : (zone : TimeZone) (dt : DateTime) (day hour : ℕ) (r : Result Timestamp Error)
+    → IsHour dt day hour
     → IsInstantAt dt (compatible_offset (ambiguous_at zone dt)) r → IsOk r
 converts zone dt day hour r is at =
     let bounds = instant_bounds dt (compatible_offset (ambiguous_at zone dt)) day hour is in
@@ -56,12 +57,16 @@ pub record IsSecond (view : TzText) (day hour : ℕ) (n : ℤ) : Type 0 where
   pub is : second_at view day hour ≡ pos second
   pub most : second ≤ 253_400_000_000
 
-natural : (view : TzText) (day hour : ℕ) (s n : ℤ) → n ≡ s → second_at view day hour ≡ s → pos 0 ≤ℤ nanos s → nanos s ≤ℤ nanos (pos 253_400_000_000) → IsSecond view day hour n
-natural view day hour (pos k) n same is low high = record { second = k; seconds = same; is = is; most = omega (arith, signed_arith) }
+natural : (view : TzText) (day hour : ℕ) (s n : ℤ) → n ≡ s → second_at view day hour ≡ s → pos 0 ≤ℤ nanos s
+    → nanos s ≤ℤ nanos (pos 253_400_000_000) → IsSecond view day hour n
+natural view day hour (pos k) n same is low high =
+    record { second = k; seconds = same; is = is; most = omega (arith, signed_arith) }
 natural view day hour (negsuc k) n same is low high = absurd (omega (arith, signed_arith))
 
-pub second_of : (zone : TimeZone) (view : TzText) (dt : DateTime) (day hour : ℕ) (r : Result Timestamp Error) (t : Timestamp) (n : ℤ)
-    → IsRule zone → view ≡ rule_of zone → IsHour dt day hour → IsInstantAt dt (compatible_offset (ambiguous_at zone dt)) r → r ≡ Ok t
+pub second_of : (zone : TimeZone) (view : TzText) (dt : DateTime) (day hour : ℕ) (r : Result Timestamp Error)
+    (t : Timestamp) (n : ℤ)
+    → IsRule zone → view ≡ rule_of zone → IsHour dt day hour
+    → IsInstantAt dt (compatible_offset (ambiguous_at zone dt)) r → r ≡ Ok t
     → n ≡ int_div t.nanosecond (pos 1_000_000_000) → IsSecond view day hour n
 second_of zone view dt day hour r t n rule same is at ok e =
     let instant = IfOk-at_ok (λ (x : Timestamp). x.nanosecond ≡ instant_of dt (compatible_offset (ambiguous_at zone dt))) ok at.value in

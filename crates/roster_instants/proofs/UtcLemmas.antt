@@ -47,9 +47,11 @@ map_alike : (f g : ℕ → ℕ) → ((k : ℕ) → f k ≡ g k) → (ks : List �
 map_alike f g same [] = refl
 map_alike f g same (k ∷ ks) = rw (same k, map_alike f g same ks) refl
 
-utc_are : (day n hour minute : ℕ) → hour * 60 ≡ minute → instants_at utc hour day n ≡ utc_instants minute day n
+utc_are : (day n hour minute : ℕ) → hour * 60 ≡ minute
+    → instants_at utc hour day n ≡ utc_instants minute day n
 utc_are day n hour minute same =
-    map_alike (λ d. minute_at utc d hour) (λ d. d * 1440 + minute) (λ d. utc_minute d hour ∙ ap (λ m. d * 1440 + m) same) (range_with_len day n)
+    map_alike (λ d. minute_at utc d hour) (λ d. d * 1440 + minute)
+    (λ d. utc_minute d hour ∙ ap (λ m. d * 1440 + m) same) (range_with_len day n)
 
 utc_table : (period : Period) → days_shown period utc ≡ utc_days period
 utc_table period =
@@ -60,10 +62,12 @@ utc_table period =
 utc_has_minutes : (period : Period) → has_minutes period utc ≡ true
 utc_has_minutes period =
     let each = λ (hour n : ℕ). all_always (λ d. is_minute_at utc d hour) (λ d. utc_whole d hour) (range_with_len (first_day period) n) in
-    and_from _ _ (and_from _ _ (each 0 (days_of_window period + 1)) (each 8 (days_of_window period))) (each 22 (days_of_window period))
+    and_from _ _ (and_from _ _ (each 0 (days_of_window period + 1)) (each 8 (days_of_window period)))
+    (each 22 (days_of_window period))
 
 utc_all_rise : (period : Period) → rises period utc ≡ true
-utc_all_rise period = all_always (λ d. rises_on utc d) utc_rises (range_with_len (first_day period) (days_of_window period))
+utc_all_rise period =
+    all_always (λ d. rises_on utc d) utc_rises (range_with_len (first_day period) (days_of_window period))
 
 utc_rule : (period : Period) → days_by_rule period utc ≡ Ok (utc_days period)
 unfolding days_by_rule

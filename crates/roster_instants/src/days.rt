@@ -1,9 +1,11 @@
 //! The local days of a base round a month.
 
-ghost use Rattle.std.specs.Prelude.{◌≡◌, ◌+◌, ◌<◌, ◌≤◌, ℕ, pos, Some, Ok, IfOk, IfErr, MatchOption, length, slice_get};
+ghost use Rattle.std.specs.Prelude.{◌≡◌, ◌+◌, ◌<◌, ◌≤◌, ℕ, pos, Some, Ok, IfOk, IfErr, MatchOption, length};
+ghost use Rattle.std.specs.Prelude.{slice_get};
 ghost use Rattle.std.specs.List.Sorted.{IsNonDecreasing, IsPartitionPoint, IsStrictlyIncreasing};
 ghost use Rattle.jiff_core.specs.Date.{IsYmd, epoch_day};
-ghost use Rattle.roster_model.specs.Calendar.{IsTable, IsDayOf, day_number, days_of_month, days_of_window, first_day, month_end, month_start};
+ghost use Rattle.roster_model.specs.Calendar.{IsTable, IsDayOf, day_number, days_of_month, days_of_window};
+ghost use Rattle.roster_model.specs.Calendar.{first_day, month_end, month_start};
 ghost use Rattle.roster_model.specs.Zone.{days_of_zone, has_minutes, rises, days_shown};
 ghost use Rattle.roster_instants.specs.Refusals.{IsFaultOf};
 

@@ -21,27 +21,36 @@ in_turn a b c d none order first second = omega arith
 nothing_shared : (a b c d : ℕ) → b ≤ c → min b d - max a c ≡ 0
 nothing_shared a b c d h = omega arith
 
-timed_at : (list : List Duty) (i : ℕ) (a : Duty) → AreTimed list → slice_get list i ≡ Some a → a.report < a.release
+timed_at : (list : List Duty) (i : ℕ) (a : Duty) → AreTimed list → slice_get list i ≡ Some a
+    → a.report < a.release
 timed_at list i a timed at =
-    subst (λ (d : Duty). d.report < d.release) (get_or_from_slice_get list i a a at) (timed i a (slice_get_within list i a at))
+    subst (λ (d : Duty). d.report < d.release) (get_or_from_slice_get list i a a at)
+    (timed i a (slice_get_within list i a at))
 
 -- ---- neighbours of which the first ends before the next begins
 
 abbrev pub InTurn : List Duty → Type 0
-InTurn list = (i : ℕ) (a b : Duty) → slice_get list i ≡ Some a → slice_get list (i + 1) ≡ Some b → a.release ≤ b.report
+InTurn list =
+    (i : ℕ) (a b : Duty) → slice_get list i ≡ Some a → slice_get list (i + 1) ≡ Some b → a.release ≤ b.report
 
 -- a duty ends before each later one begins,
-turns : (list : List Duty) → IsInOrder list → AreTimed list → NoOverlap list → (i j : ℕ) (a b : Duty) → i < j → slice_get list i ≡ Some a → slice_get list j ≡ Some b → a.release ≤ b.report
+turns : (list : List Duty) → IsInOrder list → AreTimed list → NoOverlap list → (i j : ℕ) (a b : Duty) → i < j
+    → slice_get list i ≡ Some a → slice_get list j ≡ Some b → a.release ≤ b.report
 turns list ordered timed apart i j a b before first second =
     let order = reports-later list ordered i j a b (omega arith) first second in
-    let none = pair_at (λ a b. min a.release b.release - max a.report b.report ≡ 0) list apart i j a b before first second in
-    in_turn a.report a.release b.report b.release none order (timed_at list i a timed first) (timed_at list j b timed second)
+    let none =
+    pair_at
+    (λ a b. min a.release b.release - max a.report b.report ≡ 0) list apart i j a b before first second in
+    in_turn a.report a.release b.report b.release none order (timed_at list i a timed first)
+    (timed_at list j b timed second)
 
 pub in_turn_at : (list : List Duty) → IsInOrder list → AreTimed list → NoOverlap list → InTurn list
 in_turn_at list ordered timed apart i a b = turns list ordered timed apart i (i + 1) a b (omega arith)
 
 -- and no later than that ends
-pub releases-later : (list : List Duty) → IsInOrder list → AreTimed list → NoOverlap list → (i j : ℕ) (a b : Duty) → i ≤ j → slice_get list i ≡ Some a → slice_get list j ≡ Some b → a.release ≤ b.release
+pub releases-later : (list : List Duty) → IsInOrder list → AreTimed list → NoOverlap list
+    → (i j : ℕ) (a b : Duty) → i ≤ j → slice_get list i ≡ Some a → slice_get list j ≡ Some b
+    → a.release ≤ b.release
 releases-later list ordered timed apart i j a b order first second =
     elim (cases_eq i j) [
       | inl same ↦
@@ -59,7 +68,8 @@ tail_in_turn a list turn i b c first second =
     turn (suc i) b c first (subst (λ k. slice_get (a ∷ list) k ≡ Some c) next second)
 
 -- none begins before t
-later : (t : ℕ) (list : List Duty) → AreTimed list → InTurn list → ((b : Duty) → slice_get list 0 ≡ Some b → t ≤ b.report) → All (λ b. t ≤ b.report) list
+later : (t : ℕ) (list : List Duty) → AreTimed list → InTurn list
+    → ((b : Duty) → slice_get list 0 ≡ Some b → t ≤ b.report) → All (λ b. t ≤ b.report) list
 later t [] timed turn first = All-nil (λ b. t ≤ b.report)
 later t (b ∷ list) timed turn first =
     let here : t ≤ b.report = first b refl in

@@ -12,7 +12,8 @@ use Rattle.roster_model.specs.Rules.{Limit, LimitRule, Rule, by_rank, duty_list,
 use Rattle.roster_cumulative.specs.Limited.{Limited, IsKept}
 use Rattle.roster_legal.specs.Looks.{LookAt}
 
-pub IsFirstBroken-one : (problem : Problem) (k : ℕ) (set : List ℕ) (a b : Option Rule) → IsFirstBroken problem k set a → IsFirstBroken problem k set b → a ≡ b
+pub IsFirstBroken-one : (problem : Problem) (k : ℕ) (set : List ℕ) (a b : Option Rule)
+    → IsFirstBroken problem k set a → IsFirstBroken problem k set b → a ≡ b
 IsFirstBroken-one problem k set None None first second = refl
 IsFirstBroken-one problem k set None (Some b) first second = absurd (second.0 (first b))
 IsFirstBroken-one problem k set (Some a) None first second = absurd (first.0 (second a))
@@ -31,7 +32,8 @@ Judged problem k set n =
     HoldBelow rank_of (Holds problem k set) n ⊎ ((broken : Rule) × IsFirstBroken problem k set (Some broken))
 
 -- with the n-th rule, if there is one
-judged_more : (problem : Problem) (k : ℕ) (set : List ℕ) (n : ℕ) → HoldBelow rank_of (Holds problem k set) n → ¬ ¬ (Judged problem k set (suc n))
+judged_more : (problem : Problem) (k : ℕ) (set : List ℕ) (n : ℕ) → HoldBelow rank_of (Holds problem k set) n
+    → ¬ ¬ (Judged problem k set (suc n))
 judged_more problem k set n held none =
     let no_rule : (rule : Rule) → rank_of rule ≡ n → ⊥ = λ rule at.
     let kept : Holds problem k set rule → ⊥ = λ h. none (inl (λ other within. elim (cases_lt (rank_of other) n) [
@@ -54,7 +56,8 @@ judged problem k set (suc n) none =
       | inr found ↦ none (inr found)
     ])
 
-pub has_first_broken : (problem : Problem) (k : ℕ) (set : List ℕ) → ¬ ¬ ((broken : Option Rule) × IsFirstBroken problem k set broken)
+pub has_first_broken : (problem : Problem) (k : ℕ) (set : List ℕ)
+    → ¬ ¬ ((broken : Option Rule) × IsFirstBroken problem k set broken)
 has_first_broken problem k set none =
     judged problem k set (length by_rank) (λ all. elim all [
       | inl held ↦ none (None, below-all rank_of by_rank rules-ranked (Holds problem k set) held)
@@ -64,13 +67,17 @@ has_first_broken problem k set none =
 -- ---- limits
 
 -- a limit holds of person k with the set exactly if it does of what the limits look at
-pub holds-limit : (problem : Problem) (k : ℕ) (set : List ℕ) (limits : Limited) (limit : Limit) (test : Bool) → LookAt problem k set limits → (IsTrue test ↔ IsKept limits limit) → (IsTrue test ↔ Holds problem k set (LimitRule limit))
+pub holds-limit : (problem : Problem) (k : ℕ) (set : List ℕ) (limits : Limited) (limit : Limit) (test : Bool)
+    → LookAt problem k set limits → (IsTrue test ↔ IsKept limits limit)
+    → (IsTrue test ↔ Holds problem k set (LimitRule limit))
 holds-limit problem k set limits limit test look is =
     let home = (home_of problem k).days in
     let duties = duty_list problem k set in
     let person = limits.carried in
-    let year : year_of problem k ≡ person.year = ap (λ (o : Option Person). unwrap_or (option_map (λ p. p.year) o) 0) look.person in
-    let eleven : eleven_of problem k ≡ person.eleven = ap (λ (o : Option Person). unwrap_or (option_map (λ p. p.eleven) o) 0) look.person in
+    let year : year_of problem k ≡ person.year =
+    ap (λ (o : Option Person). unwrap_or (option_map (λ p. p.year) o) 0) look.person in
+    let eleven : eleven_of problem k ≡ person.eleven =
+    ap (λ (o : Option Person). unwrap_or (option_map (λ p. p.eleven) o) 0) look.person in
     subst (λ n. IsTrue test ↔ HoldsLimit home duties (year_of problem k) n limit) (sym eleven)
     (subst (λ n. IsTrue test ↔ HoldsLimit home duties n person.eleven limit) (sym year)
     (subst (λ (l : List Duty). IsTrue test ↔ HoldsLimit home l person.year person.eleven limit) look.list

@@ -12,7 +12,8 @@ use Rattle.roster_legal.proofs.Covered.{all-covered, pairs-covered, rests-covere
 use Rattle.roster_legal.proofs.Parts.Rest.{keeps_from, rests_from}
 
 -- a set with a pairing in it is legal where each rule holds
-pub holds_of : (problem : Problem) (k p : ℕ) (rest : List ℕ) → IsLegal problem k (p ∷ rest) → (rule : Rule) → Holds problem k (p ∷ rest) rule
+pub holds_of : (problem : Problem) (k p : ℕ) (rest : List ℕ) → IsLegal problem k (p ∷ rest) → (rule : Rule)
+    → Holds problem k (p ∷ rest) rule
 holds_of problem k p rest (inl none) rule = cc
 holds_of problem k p rest (inr holds) rule = holds rule
 
@@ -20,7 +21,8 @@ among_one : (p q : ℕ) → is_among (p ∷ []) q ≡ true → p ≡ q
 among_one p q h =
     elim (or_cases _ _ h) [ inl same ↦ eqb-true p q same | inr none ↦ absurd (false≢true none) ]
 
-among_two : (p q r : ℕ) (set : List ℕ) → is_among set p ≡ true → is_among set q ≡ true → is_among (p ∷ q ∷ []) r ≡ true → is_among set r ≡ true
+among_two : (p q r : ℕ) (set : List ℕ) → is_among set p ≡ true → is_among set q ≡ true
+    → is_among (p ∷ q ∷ []) r ≡ true → is_among set r ≡ true
 among_two p q r set first second h =
     elim (or_cases _ _ h) [
       | inl same ↦ subst (λ s. is_among set s ≡ true) (eqb-true p r same) first
@@ -51,7 +53,8 @@ module _ (problem : Problem) (k : ℕ) (set : List ℕ) (some : ℕ) (has : is_a
   abbrev listed : LegalPart problem k set → Duty → Bool
   listed part duty = is_listed k part.part duty.holder
 
-  holder_within : (part : LegalPart problem k set) (holder : Holder) → is_listed k part.part holder ≡ true → is_listed k set holder ≡ true
+  holder_within : (part : LegalPart problem k set) (holder : Holder) → is_listed k part.part holder ≡ true
+      → is_listed k set holder ≡ true
   holder_within part (OfPairing p) h = part.within p h
   holder_within part (OfPerson j) h = h
 
@@ -69,18 +72,23 @@ module _ (problem : Problem) (k : ℕ) (set : List ℕ) (some : ℕ) (has : is_a
         ]
       ]
 
-  both : (a b : Duty) → is_listed k set a.holder ≡ true → is_listed k set b.holder ≡ true → (part : LegalPart problem k set) × (listed part a ≡ true) × (listed part b ≡ true)
+  both : (a b : Duty) → is_listed k set a.holder ≡ true → is_listed k set b.holder ≡ true
+      → (part : LegalPart problem k set) × (listed part a ≡ true) × (listed part b ≡ true)
   both a b first second = holders a.holder b.holder first second
 
-  inside : (part : LegalPart problem k set) (a : Duty) → listed part a ≡ true → is_listed k set a.holder ≡ true
+  inside : (part : LegalPart problem k set) (a : Duty) → listed part a ≡ true
+      → is_listed k set a.holder ≡ true
   inside part a h = holder_within part a.holder h
 
   pub pairs-decide : (rule : Rule) → rank_of rule < rank_of RecoveryRule → Holds problem k set rule
   pairs-decide BaseRule before = λ p pairing person h. holds_of problem k p [] (alone p (is_among-from_Contains set p h)) BaseRule p pairing person (Contains-from_is_among (p ∷ []) p (is_among-here p []))
   pairs-decide OverlapRule before =
-      pairs-covered listed (λ duty. is_listed k set duty.holder) inside both (λ a b. common a.report a.release b.report b.release ≡ 0) problem.duties (λ part. part.holds OverlapRule)
+      pairs-covered listed (λ duty. is_listed k set duty.holder) inside both
+      (λ a b. common a.report a.release b.report b.release ≡ 0) problem.duties
+      (λ part. part.holds OverlapRule)
   pairs-decide LeaveRule before =
-      all-covered listed (λ duty. is_listed k set duty.holder) inside both (IsOffLeave (leaves_of problem k)) problem.duties (λ part. part.holds LeaveRule)
+      all-covered listed (λ duty. is_listed k set duty.holder) inside both
+      (IsOffLeave (leaves_of problem k)) problem.duties (λ part. part.holds LeaveRule)
   pairs-decide RestRule before =
       keeps_from (home_of problem k) (duty_list problem k set)
       (rests-covered listed (λ duty. is_listed k set duty.holder) inside both (home_of problem k) problem.duties (λ part. rests_from (home_of problem k) (duty_list problem k part.part) (part.holds RestRule)))

@@ -29,7 +29,8 @@ pub record IsLoad (problem : Problem) (k p : ℕ) (load : Load) : Type 0 where
 -- what each of these pairings takes; of others nothing is said
 pub record AreLoads (loaded : Loaded) (loads : List Load) : Type 0 where
   pub covers : length loads ≡ length loaded.problem.pairings
-  pub each : (p : ℕ) (load : Load) → slice_get loads p ≡ Some load → is_among loaded.alone p ≡ true → IsLoad loaded.problem loaded.person p load
+  pub each : (p : ℕ) (load : Load) → slice_get loads p ≡ Some load → is_among loaded.alone p ≡ true
+      → IsLoad loaded.problem loaded.person p load
 
 -- the person is one of a problem's, whose duties are in order
 pub record IsPlaced (loaded : Loaded) : Type 0 where
@@ -53,7 +54,8 @@ pub record Stepped : Type 0 where
 -- the positions are those of the person's duties with the set
 pub record AreDutiesOf (problem : Problem) (k : ℕ) (set positions : List ℕ) : Type 0 where
   pub rising : IsStrictlyIncreasing positions
-  pub members : (i : ℕ) → is_among positions i ≡ passes_at (λ duty. is_listed k set duty.holder) problem.duties i
+  pub members : (i : ℕ)
+      → is_among positions i ≡ passes_at (λ duty. is_listed k set duty.holder) problem.duties i
 
 -- what they leave of the judged sums
 abbrev pub AreRoomsOf : Problem → ℕ → List ℕ → List ℕ → Type 0
@@ -65,7 +67,8 @@ abbrev pub AreBusyDaysOf : Problem → ℕ → List ℕ → ℕ → Type 0
 AreBusyDaysOf problem k set word = AreBusyDays (home_of problem k).days (duty_list problem k set) word
 
 -- what is known of a legal set
-pub record IsStepped (loaded : Loaded) (set : List ℕ) (pairings : ℕ) (positions left : List ℕ) (word : ℕ) : Type 0 where
+pub record IsStepped (loaded : Loaded) (set : List ℕ) (pairings : ℕ) (positions left : List ℕ)
+    (word : ℕ) : Type 0 where
   pub ascending : IsStrictlyIncreasing set
   pub legal : IsLegal loaded.problem loaded.person set
   pub depth : pairings ≡ length set
@@ -79,7 +82,8 @@ pub record IsNext (stepped : Stepped) (p : ℕ) : Type 0 where
   pub alone : is_among stepped.loads.alone p ≡ true
   pub behind : All (λ q. q < p) stepped.set
   pub single : IsLegal stepped.loads.problem stepped.loads.person (p ∷ [])
-  pub pairs : (q : ℕ) → is_among stepped.set q ≡ true → IsLegal stepped.loads.problem stepped.loads.person (q ∷ p ∷ [])
+  pub pairs : (q : ℕ) → is_among stepped.set q ≡ true
+      → IsLegal stepped.loads.problem stepped.loads.person (q ∷ p ∷ [])
 
 -- the set with the pairing behind
 abbrev pub with_next : Stepped → ℕ → Stepped

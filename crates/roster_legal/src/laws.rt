@@ -3,7 +3,8 @@
 ghost use Rattle.std.specs.Prelude.{◌≡◌, ◌<◌, ◌∷◌, [], ℕ, true, List, Option};
 ghost use Rattle.roster_model.specs.Problem.{Problem};
 ghost use Rattle.roster_model.specs.Rosters.{AreVerdicts};
-ghost use Rattle.roster_model.specs.Rules.{is_among, rank_of, AreLocks, Holds, IsFirstBroken, IsLegal, RecoveryRule, Rule};
+ghost use Rattle.roster_model.specs.Rules.{is_among, rank_of, AreLocks, Holds, IsFirstBroken, IsLegal};
+ghost use Rattle.roster_model.specs.Rules.{RecoveryRule, Rule};
 ghost use Rattle.roster_problem.specs.Duties.{AreTimed, IsInOrder};
 
 /// A person breaks at most one rule first with a set.

@@ -1,6 +1,7 @@
 //! Sets that are judged with one pairing more, out of what is known of them.
 
-ghost use Rattle.std.specs.Prelude.{◌≡◌, ◌<◌, ◌-◌, ◌||◌, ℕ, [], true, false, IfOk, MatchOption, length, slice_index};
+ghost use Rattle.std.specs.Prelude.{◌≡◌, ◌<◌, ◌-◌, ◌||◌, ℕ, [], true, false, IfOk, MatchOption, length};
+ghost use Rattle.std.specs.Prelude.{slice_index};
 ghost use Rattle.std.specs.List.Sorted.{IsStrictlyIncreasing};
 ghost use Rattle.roster_model.specs.Rules.{duty_list, is_among};
 ghost use Rattle.roster_legal.specs.Stepping.{with_next, AreDutiesOf, AreRoomsOf, IsLegalNext, IsNext};

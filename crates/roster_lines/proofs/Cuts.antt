@@ -9,14 +9,16 @@ use Rattle.roster_model.proofs.PlacesOrder.{places_le-refl, places_le-trans, at_
 use Rattle.roster_lines.specs.Entries.{IsCut}
 
 -- of two of the sets the earlier one stands before the other
-pub ordered_at : (sets : List (List ℕ)) → AreOrdered sets → (i j : ℕ) (a b : List ℕ) → i < j → slice_get sets i ≡ Some a → slice_get sets j ≡ Some b → places_le b a ≡ false
+pub ordered_at : (sets : List (List ℕ)) → AreOrdered sets → (i j : ℕ) (a b : List ℕ) → i < j
+    → slice_get sets i ≡ Some a → slice_get sets j ≡ Some b → places_le b a ≡ false
 ordered_at sets ordered i j a b earlier first second =
     let inside = slice_get_within sets j b second in
     subst (λ x. places_le x a ≡ false) (get_or_from_slice_get sets j b [] second)
     (subst (λ x. places_le (get_or sets j []) x ≡ false) (get_or_from_slice_get sets i a [] first) (ordered i j [] earlier inside))
 
 -- a set stands at one place
-pub one_place : (sets : List (List ℕ)) → AreOrdered sets → (i j : ℕ) (set : List ℕ) → slice_get sets i ≡ Some set → slice_get sets j ≡ Some set → i ≡ j
+pub one_place : (sets : List (List ℕ)) → AreOrdered sets → (i j : ℕ) (set : List ℕ)
+    → slice_get sets i ≡ Some set → slice_get sets j ≡ Some set → i ≡ j
 one_place sets ordered i j set first second =
     elim (cases_order i j) [
       | inl same ↦ same
@@ -27,7 +29,9 @@ one_place sets ordered i j set first second =
     ]
 
 -- what stands at or before the first of two places, and before the mark
-pub still_before : (sets : List (List ℕ)) → AreOrdered sets → (mark : List ℕ) (i j : ℕ) (a b : List ℕ) → i ≤ j → slice_get sets i ≡ Some a → slice_get sets j ≡ Some b → places_le mark b ≡ false → places_le mark a ≡ false
+pub still_before : (sets : List (List ℕ)) → AreOrdered sets → (mark : List ℕ) (i j : ℕ) (a b : List ℕ) → i ≤ j
+    → slice_get sets i ≡ Some a → slice_get sets j ≡ Some b → places_le mark b ≡ false
+    → places_le mark a ≡ false
 still_before sets ordered mark i j a b earlier first second before =
     elim (cases_lt i j) [
       | inl less ↦ before-trans_left a b mark (at_most_from_before a b (ordered_at sets ordered i j a b less first second)) before
@@ -37,7 +41,9 @@ still_before sets ordered mark i j a b earlier first second before =
           subst (λ x. places_le mark x ≡ false) one before
     ]
 
-pub still_behind : (sets : List (List ℕ)) → AreOrdered sets → (mark : List ℕ) (i j : ℕ) (a b : List ℕ) → i ≤ j → slice_get sets i ≡ Some a → slice_get sets j ≡ Some b → places_le mark a ≡ true → places_le mark b ≡ true
+pub still_behind : (sets : List (List ℕ)) → AreOrdered sets → (mark : List ℕ) (i j : ℕ) (a b : List ℕ) → i ≤ j
+    → slice_get sets i ≡ Some a → slice_get sets j ≡ Some b → places_le mark a ≡ true
+    → places_le mark b ≡ true
 still_behind sets ordered mark i j a b earlier first second behind =
     elim (cases_lt i j) [
       | inl less ↦ places_le-trans mark a b behind (at_most_from_before a b (ordered_at sets ordered i j a b less first second))
@@ -48,7 +54,8 @@ still_behind sets ordered mark i j a b earlier first second behind =
     ]
 
 -- the place of a set among them is where they are cut by it
-pub cut_at : (sets : List (List ℕ)) → AreOrdered sets → (set : List ℕ) (n i : ℕ) → IsCut sets set n → slice_get sets i ≡ Some set → n ≡ i
+pub cut_at : (sets : List (List ℕ)) → AreOrdered sets → (set : List ℕ) (n i : ℕ) → IsCut sets set n
+    → slice_get sets i ≡ Some set → n ≡ i
 cut_at sets ordered set n i cut at =
     elim (cases_order n i) [
       | inl same ↦ same
@@ -56,28 +63,35 @@ cut_at sets ordered set n i cut at =
         | inl less ↦
             let inside = slice_get_within sets i set at in
             let there = slice_get-get_or sets n [] (omega arith) in
-            both_ways _ (ordered_at sets ordered n i (get_or sets n []) set less there at) (cut.behind n (get_or sets n []) (omega arith) there)
+            both_ways _ (ordered_at sets ordered n i (get_or sets n []) set less there at)
+            (cut.behind n (get_or sets n []) (omega arith) there)
         | inr more ↦ both_ways _ (cut.before i set more at) (places_le-refl set)
       ])
     ]
 
 -- ---- the run of a pairing, between the cuts at it and at the next one
 
-rising_cuts : (sets : List (List ℕ)) (p low high : ℕ) → IsCut sets (p ∷ []) low → IsCut sets ((p + 1) ∷ []) high → low ≤ high
+rising_cuts : (sets : List (List ℕ)) (p low high : ℕ) → IsCut sets (p ∷ []) low
+    → IsCut sets ((p + 1) ∷ []) high → low ≤ high
 rising_cuts sets p low high first second =
     elim (cases_lt high low) [
       | inl less ↦
           let bound = first.bound in
           let there = slice_get-get_or sets high [] (omega arith) in
-          let more = places_le-trans (p ∷ []) ((p + 1) ∷ []) (get_or sets high []) (marks_at_most [] p (p + 1) [] (omega arith)) (second.behind high (get_or sets high []) (omega arith) there) in
+          let more =
+          places_le-trans (p ∷ []) ((p + 1) ∷ []) (get_or sets high [])
+          (marks_at_most [] p (p + 1) [] (omega arith))
+          (second.behind high (get_or sets high []) (omega arith) there) in
           absurd (both_ways _ (first.before high (get_or sets high []) less there) more)
       | inr more ↦ more
     ]
 
-pub run_bounds : (sets : List (List ℕ)) (p low high : ℕ) → IsCut sets (p ∷ []) low → IsCut sets ((p + 1) ∷ []) high → (low ≤ high) × (high ≤ length sets)
+pub run_bounds : (sets : List (List ℕ)) (p low high : ℕ) → IsCut sets (p ∷ []) low
+    → IsCut sets ((p + 1) ∷ []) high → (low ≤ high) × (high ≤ length sets)
 run_bounds sets p low high first second = (rising_cuts sets p low high first second, second.bound)
 
-least_from_set : (p : ℕ) (set : List ℕ) → slice_get set 0 ≡ Some p → (places_le (p ∷ []) set ≡ true) × (places_le ((p + 1) ∷ []) set ≡ false)
+least_from_set : (p : ℕ) (set : List ℕ) → slice_get set 0 ≡ Some p
+    → (places_le (p ∷ []) set ≡ true) × (places_le ((p + 1) ∷ []) set ≡ false)
 least_from_set p [] at = absurd (none-some _ at)
 least_from_set p (q ∷ set) at =
     let same : q ≡ p = same_Some q p at in (
@@ -85,13 +99,16 @@ least_from_set p (q ∷ set) at =
       false_from_ne_true _ (λ h. let least = first_at_most (p + 1) q set h in omega arith),
     )
 
-set_from_least : (p : ℕ) (set : List ℕ) → places_le (p ∷ []) set ≡ true → places_le ((p + 1) ∷ []) set ≡ false → slice_get set 0 ≡ Some p
+set_from_least : (p : ℕ) (set : List ℕ) → places_le (p ∷ []) set ≡ true → places_le ((p + 1) ∷ []) set ≡ false
+    → slice_get set 0 ≡ Some p
 set_from_least p set on before =
     let found = between_marks [] p (p + 1) set on before in
     let same : found.0 ≡ p = omega (arith, found.3, found.4) in
     ap (λ s. slice_get s 0) found.2 ∙ ap Some same
 
-pub run_from_cuts : (sets : List (List ℕ)) (p low high : ℕ) → IsCut sets (p ∷ []) low → IsCut sets ((p + 1) ∷ []) high → (i : ℕ) (set : List ℕ) → slice_get sets i ≡ Some set → (slice_get set 0 ≡ Some p) ↔ ((low ≤ i) × (i < high))
+pub run_from_cuts : (sets : List (List ℕ)) (p low high : ℕ) → IsCut sets (p ∷ []) low
+    → IsCut sets ((p + 1) ∷ []) high → (i : ℕ) (set : List ℕ) → slice_get sets i ≡ Some set
+    → (slice_get set 0 ≡ Some p) ↔ ((low ≤ i) × (i < high))
 run_from_cuts sets p low high first second i set at = (
   λ least.
       let two = least_from_set p set least in (

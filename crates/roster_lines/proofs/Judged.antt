@@ -13,7 +13,9 @@ abbrev pub HasBelow : (ℕ → Type 0) → ℕ → List ℕ → Type 0
 HasBelow P n set = (q : ℕ) → (is_among set q ≡ true) ↔ ((q < n) × P q)
 
 -- up to the next number p of which it may be so, where it is,
-pub HasBelow-with : (P : ℕ → Type 0) (set new : List ℕ) (n p : ℕ) → HasBelow P n set → n ≤ p → ((q : ℕ) → n ≤ q → q < p → P q → ⊥) → P p → ((q : ℕ) → is_among new q ≡ (is_among set q || eqb p q)) → HasBelow P (p + 1) new
+pub HasBelow-with : (P : ℕ → Type 0) (set new : List ℕ) (n p : ℕ) → HasBelow P n set → n ≤ p
+    → ((q : ℕ) → n ≤ q → q < p → P q → ⊥) → P p → ((q : ℕ) → is_among new q ≡ (is_among set q || eqb p q))
+    → HasBelow P (p + 1) new
 HasBelow-with P set new n p has later none is members q = (
   λ h. elim (or_cases (is_among set q) (eqb p q) (sym (members q) ∙ h)) [
     | inl old ↦ let below = ((has q).0 old).0 in (omega arith, ((has q).0 old).1)
@@ -29,7 +31,8 @@ HasBelow-with P set new n p has later none is members q = (
 )
 
 -- and if it isn't
-pub HasBelow-without : (P : ℕ → Type 0) (set : List ℕ) (n p : ℕ) → HasBelow P n set → n ≤ p → ((q : ℕ) → n ≤ q → q < p → P q → ⊥) → (P p → ⊥) → HasBelow P (p + 1) set
+pub HasBelow-without : (P : ℕ → Type 0) (set : List ℕ) (n p : ℕ) → HasBelow P n set → n ≤ p
+    → ((q : ℕ) → n ≤ q → q < p → P q → ⊥) → (P p → ⊥) → HasBelow P (p + 1) set
 HasBelow-without P set n p has later none not q = (
   λ h. let below = ((has q).0 h).0 in (omega arith, ((has q).0 h).1),
   λ h. elim (cases_lt q n) [
@@ -42,15 +45,21 @@ HasBelow-without P set n p has later none not q = (
 )
 
 -- what a judge of the problem says of a set that is known
-pub legal_as : (judge problem : Problem) (k : ℕ) (set asked : List ℕ) → judge ≡ problem → set ≡ asked → IsLegal judge k set → IsLegal problem k asked
-legal_as judge problem k set asked same is legal = subst (λ p. IsLegal p k asked) same (subst (IsLegal judge k) is legal)
+pub legal_as : (judge problem : Problem) (k : ℕ) (set asked : List ℕ) → judge ≡ problem → set ≡ asked
+    → IsLegal judge k set → IsLegal problem k asked
+legal_as judge problem k set asked same is legal =
+    subst (λ p. IsLegal p k asked) same (subst (IsLegal judge k) is legal)
 
-pub illegal_as : (judge problem : Problem) (k : ℕ) (set asked : List ℕ) → judge ≡ problem → set ≡ asked → (IsLegal judge k set → ⊥) → IsLegal problem k asked → ⊥
-illegal_as judge problem k set asked same is not legal = not (legal_as problem judge k asked set (sym same) (sym is) legal)
+pub illegal_as : (judge problem : Problem) (k : ℕ) (set asked : List ℕ) → judge ≡ problem → set ≡ asked
+    → (IsLegal judge k set → ⊥) → IsLegal problem k asked → ⊥
+illegal_as judge problem k set asked same is not legal =
+    not (legal_as problem judge k asked set (sym same) (sym is) legal)
 
-module _ (problem : Problem) (k : ℕ) (legal : ArePartsLegal problem k) (alone : List ℕ) (are : AreAlone problem k alone) where
+module _ (problem : Problem) (k : ℕ) (legal : ArePartsLegal problem k) (alone : List ℕ)
+    (are : AreAlone problem k alone) where
   -- two pairings that are legal together are legal alone
-  pub both_alone : (p q : ℕ) → AreTogether problem k p q → (is_among alone p ≡ true) × (is_among alone q ≡ true)
+  pub both_alone : (p q : ℕ) → AreTogether problem k p q
+      → (is_among alone p ≡ true) × (is_among alone q ≡ true)
   both_alone p q together =
       let first : is_among (p ∷ q ∷ []) p ≡ true = is_among-here p (q ∷ []) in
       let second : is_among (p ∷ q ∷ []) q ≡ true = or_right (eqb p q) _ (is_among-here q []) in (
@@ -60,10 +69,12 @@ module _ (problem : Problem) (k : ℕ) (legal : ArePartsLegal problem k) (alone 
 
   -- a pairing that isn't legal alone has none
   pub IsRow-none : (p : ℕ) → is_among alone p ≡ false → IsRow problem k p []
-  IsRow-none p not q = (λ h. absurd (false≢true h), λ together. absurd (both_ways _ not (both_alone p q together).0))
+  IsRow-none p not q =
+      (λ h. absurd (false≢true h), λ together. absurd (both_ways _ not (both_alone p q together).0))
 
   -- past the last that is legal alone, the row is whole
-  pub IsRow-whole : (p n : ℕ) (row : List ℕ) → HasBelow (AreTogether problem k p) n row → ((q : ℕ) → n ≤ q → is_among alone q ≡ false) → IsRow problem k p row
+  pub IsRow-whole : (p n : ℕ) (row : List ℕ) → HasBelow (AreTogether problem k p) n row
+      → ((q : ℕ) → n ≤ q → is_among alone q ≡ false) → IsRow problem k p row
   IsRow-whole p n row has none q = (
     λ h. ((has q).0 h).1,
     λ together. elim (cases_lt q n) [
@@ -73,5 +84,7 @@ module _ (problem : Problem) (k : ℕ) (legal : ArePartsLegal problem k) (alone 
   )
 
   -- what was skipped isn't legal together with it
-  pub none_skipped : (p n next : ℕ) → ((q : ℕ) → n ≤ q → q < next → is_among alone q ≡ false) → (q : ℕ) → n ≤ q → q < next → AreTogether problem k p q → ⊥
-  none_skipped p n next none q later before together = both_ways _ (none q later before) (both_alone p q together).1
+  pub none_skipped : (p n next : ℕ) → ((q : ℕ) → n ≤ q → q < next → is_among alone q ≡ false) → (q : ℕ)
+      → n ≤ q → q < next → AreTogether problem k p q → ⊥
+  none_skipped p n next none q later before together =
+      both_ways _ (none q later before) (both_alone p q together).1

@@ -15,15 +15,20 @@ use Rattle.roster_lines.proofs.Listed.{IsLine-empty}
 use Rattle.roster_lines.proofs.TreeLemmas.{length-sets_of}
 
 -- what holds of each element holds of the one at a place
-pub All-slice_get : {X : Type 0} (P : X → Type 0) (xs : List X) (i : ℕ) (x : X) → All P xs → slice_get xs i ≡ Some x → P x
-All-slice_get P xs i x all at = subst P (get_or_from_slice_get xs i x x at) (all i x (slice_get_within xs i x at))
+pub All-slice_get : {X : Type 0} (P : X → Type 0) (xs : List X) (i : ℕ) (x : X) → All P xs
+    → slice_get xs i ≡ Some x → P x
+All-slice_get P xs i x all at =
+    subst P (get_or_from_slice_get xs i x x at) (all i x (slice_get_within xs i x at))
 
 -- each of the sets is among the others
 abbrev pub AreAmong : List (List ℕ) → List (List ℕ) → Type 0
-AreAmong sets others = (i : ℕ) (set : List ℕ) → slice_get sets i ≡ Some set → (j : ℕ) × (slice_get others j ≡ Some set)
+AreAmong sets others =
+    (i : ℕ) (set : List ℕ) → slice_get sets i ≡ Some set → (j : ℕ) × (slice_get others j ≡ Some set)
 
 -- if both are in order, it stands no earlier there
-pub no_earlier : (sets others : List (List ℕ)) → AreOrdered sets → AreOrdered others → AreAmong sets others → (i : ℕ) (set : List ℕ) → slice_get sets i ≡ Some set → (j : ℕ) × (i ≤ j) × (slice_get others j ≡ Some set)
+pub no_earlier : (sets others : List (List ℕ)) → AreOrdered sets → AreOrdered others → AreAmong sets others
+    → (i : ℕ) (set : List ℕ) → slice_get sets i ≡ Some set
+    → (j : ℕ) × (i ≤ j) × (slice_get others j ≡ Some set)
 no_earlier sets others up over among zero set at = let found = among 0 set at in (found.0, omega arith, found.1)
 no_earlier sets others up over among (suc i) set at =
     let inside = slice_get_within sets (suc i) set at in
@@ -37,15 +42,19 @@ no_earlier sets others up over among (suc i) set at =
     ] in
     (found.0, omega (arith, before.1), found.1)
 
-pub length-among : (sets others : List (List ℕ)) → AreOrdered sets → AreOrdered others → AreAmong sets others → length sets ≤ length others
+pub length-among : (sets others : List (List ℕ)) → AreOrdered sets → AreOrdered others → AreAmong sets others
+    → length sets ≤ length others
 length-among [] others up over among = omega arith
 length-among (first ∷ sets) others up over among =
     let n : ℕ = length sets in
-    let found = no_earlier (first ∷ sets) others up over among n (get_or (first ∷ sets) n []) (slice_get-get_or (first ∷ sets) n [] (omega arith)) in
+    let found =
+    no_earlier (first ∷ sets) others up over among n (get_or (first ∷ sets) n [])
+    (slice_get-get_or (first ∷ sets) n [] (omega arith)) in
     let inside = slice_get_within others found.0 _ found.2 in
     omega (arith, found.1)
 
-same_from_among : (sets others : List (List ℕ)) → AreOrdered sets → AreOrdered others → AreAmong sets others → AreAmong others sets → sets ≡ others
+same_from_among : (sets others : List (List ℕ)) → AreOrdered sets → AreOrdered others → AreAmong sets others
+    → AreAmong others sets → sets ≡ others
 same_from_among sets others up over among back =
     let most = length-among sets others up over among in
     let least = length-among others sets over up back in
@@ -60,13 +69,15 @@ same_from_among sets others up over among back =
 
 -- ---- the lines of a person
 
-pub AreLines-one : (problem : Problem) (k : ℕ) (a b : List (List ℕ)) → AreLines problem k a → AreLines problem k b → a ≡ b
+pub AreLines-one : (problem : Problem) (k : ℕ) (a b : List (List ℕ)) → AreLines problem k a
+    → AreLines problem k b → a ≡ b
 AreLines-one problem k a b first second =
     same_from_among a b first.some.ordered second.some.ordered
     (λ i set at. second.every set (All-slice_get (IsLine problem k) a i set first.some.lines at))
     (λ i set at. first.every set (All-slice_get (IsLine problem k) b i set second.some.lines at))
 
-pub not_crowded : (problem : Problem) (k : ℕ) (sets : List (List ℕ)) → AreLines problem k sets → length sets ≤ MOST_LINES → IsCrowded problem k → ⊥
+pub not_crowded : (problem : Problem) (k : ℕ) (sets : List (List ℕ)) → AreLines problem k sets
+    → length sets ≤ MOST_LINES → IsCrowded problem k → ⊥
 not_crowded problem k sets lines few crowded =
     let within = length-among crowded.sets sets crowded.some.ordered lines.some.ordered (λ i set at.
     lines.every set (All-slice_get (IsLine problem k) crowded.sets i set crowded.some.lines at)) in
@@ -75,16 +86,19 @@ not_crowded problem k sets lines few crowded =
 
 -- ---- a table
 
-pub nobody_crowded : (problem : Problem) (table : List (List Entry)) (k : ℕ) → IsTableOf problem table → k < length problem.persons → IsCrowded problem k → ⊥
+pub nobody_crowded : (problem : Problem) (table : List (List Entry)) (k : ℕ) → IsTableOf problem table
+    → k < length problem.persons → IsCrowded problem k → ⊥
 nobody_crowded problem table k is person =
     let none : List Entry = [] in
     let inside : k < length table = omega (arith, is.sets.covers, length-map table sets_of) in
     let there = slice_get-get_or table k none inside in
-    let lines = is.sets.each k (sets_of (get_or table k none)) (slice_get-map sets_of table k ∙ rw there refl) in
+    let lines =
+    is.sets.each k (sets_of (get_or table k none)) (slice_get-map sets_of table k ∙ rw there refl) in
     not_crowded problem k _ lines (omega (arith, length-sets_of (get_or table k none), is.few k none inside))
 
 -- no set comes before the empty one
-pub empty_first : (problem : Problem) (k : ℕ) (sets : List (List ℕ)) → AreLines problem k sets → slice_get sets 0 ≡ Some []
+pub empty_first : (problem : Problem) (k : ℕ) (sets : List (List ℕ)) → AreLines problem k sets
+    → slice_get sets 0 ≡ Some []
 empty_first problem k sets are =
     let found = are.every [] (IsLine-empty problem k) in
     elim (cases_lt 0 found.0) [
@@ -97,7 +111,8 @@ empty_first problem k sets are =
     ]
 
 -- a table of all lines has some lines of each person
-pub AreListed-all : (problem : Problem) (table : List (List Entry)) → IsTableOf problem table → AreListed problem table
+pub AreListed-all : (problem : Problem) (table : List (List Entry)) → IsTableOf problem table
+    → AreListed problem table
 AreListed-all problem table is = record {
   covers = sym (length-map table sets_of) ∙ is.sets.covers;
   each = λ k lines at.

@@ -16,17 +16,25 @@ use Rattle.roster_lines.proofs.Lists.{not_crowded}
 use Rattle.roster_lines.proofs.TreeLemmas.{length-sets_of}
 
 -- the clauses of `lines_of` in one
-pub IsMadeOf-from_clauses : (problem : Problem) (k : ℕ) (made : Result (List Entry) LinesFault) → IfOk made (λ lines. AreLines problem k (sets_of lines)) → IfOk made (AreCosted problem k) → IfOk made (λ lines. length lines ≤ MOST_LINES) → IfErr made (IsFaultOf problem k) → IsMadeOf problem k made
-IsMadeOf-from_clauses problem k (Ok lines) sets costs few fault = record { sets = sets; costs = costs; few = few }
+pub IsMadeOf-from_clauses : (problem : Problem) (k : ℕ) (made : Result (List Entry) LinesFault)
+    → IfOk made (λ lines. AreLines problem k (sets_of lines)) → IfOk made (AreCosted problem k)
+    → IfOk made (λ lines. length lines ≤ MOST_LINES) → IfErr made (IsFaultOf problem k)
+    → IsMadeOf problem k made
+IsMadeOf-from_clauses problem k (Ok lines) sets costs few fault =
+    record { sets = sets; costs = costs; few = few }
 IsMadeOf-from_clauses problem k (Err e) sets costs few fault = fault
 
 -- ---- the table, one person after another
 
-pub IsTableSoFar-push : (problem : Problem) (table : List (List Entry)) (lines : List Entry) → IsTableSoFar problem table → AreMade problem (length table) lines → IsTableSoFar problem (table ++ lines ∷ [])
+pub IsTableSoFar-push : (problem : Problem) (table : List (List Entry)) (lines : List Entry)
+    → IsTableSoFar problem table → AreMade problem (length table) lines
+    → IsTableSoFar problem (table ++ lines ∷ [])
 IsTableSoFar-push problem table lines each made = each-push (AreMade problem) table lines each made
 
 -- if the next person has too many lines, nobody before has
-pub IsFirstCrowded-next : (problem : Problem) (table : List (List Entry)) → IsTableSoFar problem table → length table < length problem.persons → IsCrowded problem (length table) → IsFirstCrowded problem (length table)
+pub IsFirstCrowded-next : (problem : Problem) (table : List (List Entry)) → IsTableSoFar problem table
+    → length table < length problem.persons → IsCrowded problem (length table)
+    → IsFirstCrowded problem (length table)
 IsFirstCrowded-next problem table each person crowded = record {
   person = person;
   crowded = crowded;
@@ -38,7 +46,8 @@ IsFirstCrowded-next problem table each person crowded = record {
 }
 
 -- with the lines of all persons it is whole
-pub IsTableOf-whole : (problem : Problem) (table : List (List Entry)) → length table ≡ length problem.persons → IsTableSoFar problem table → IsTableOf problem table
+pub IsTableOf-whole : (problem : Problem) (table : List (List Entry)) → length table ≡ length problem.persons
+    → IsTableSoFar problem table → IsTableOf problem table
 IsTableOf-whole problem table covers each =
     let none : List Entry = [] in
     record {

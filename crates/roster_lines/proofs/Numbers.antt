@@ -10,7 +10,9 @@ use Rattle.roster_model.specs.Rosters.{IsLegalRoster}
 use Rattle.roster_lines.proofs.Cuts.{one_place}
 use Rattle.roster_model.proofs.LineLemmas.{given_line}
 
-chosen : {A B : Type 0} (R : ℕ → A → B → Type 0) (x : A) (xs : List A) (y : B) (ys : List B) → R 0 x y → ((j : ℕ) (v : A) (w : B) → slice_get xs j ≡ Some v → slice_get ys j ≡ Some w → R (suc j) v w) → (j : ℕ) (v : A) (w : B) → slice_get (x ∷ xs) j ≡ Some v → slice_get (y ∷ ys) j ≡ Some w → R j v w
+chosen : {A B : Type 0} (R : ℕ → A → B → Type 0) (x : A) (xs : List A) (y : B) (ys : List B) → R 0 x y
+    → ((j : ℕ) (v : A) (w : B) → slice_get xs j ≡ Some v → slice_get ys j ≡ Some w → R (suc j) v w)
+    → (j : ℕ) (v : A) (w : B) → slice_get (x ∷ xs) j ≡ Some v → slice_get (y ∷ ys) j ≡ Some w → R j v w
 chosen R x xs y ys first rest zero v w at other =
     subst (R 0 v) (same_Some y w other) (subst (λ u. R 0 u y) (same_Some x v at) first)
 chosen R x xs y ys first rest (suc j) v w at other = rest j v w at other
@@ -23,9 +25,12 @@ choices R (x ∷ xs) each =
     let rest = choices (λ j. R (suc j)) xs (λ j z at. each (suc j) z at) in
     (first.0 ∷ rest.0, ap suc rest.1, chosen R x xs first.0 rest.0 first.1 rest.2)
 
-pub AreNumbersOf-exist : (problem : Problem) (tables : List (List (List ℕ))) (places : List ℕ) → AreTables problem tables → IsLegalRoster problem places → (numbers : List ℕ) × AreNumbersOf tables places numbers
+pub AreNumbersOf-exist : (problem : Problem) (tables : List (List (List ℕ))) (places : List ℕ)
+    → AreTables problem tables → IsLegalRoster problem places
+    → (numbers : List ℕ) × AreNumbersOf tables places numbers
 AreNumbersOf-exist problem tables places are roster =
-    let found = choices (λ k (sets : List (List ℕ)) i. slice_get sets i ≡ Some (set_of k places)) tables (λ k sets at.
+    let found =
+    choices (λ k (sets : List (List ℕ)) i. slice_get sets i ≡ Some (set_of k places)) tables (λ k sets at.
     let inside = slice_get_within tables k sets at in
     let covers = are.covers in
     (are.each k sets at).every (set_of k places) (given_line problem k places roster (omega arith))) in (
@@ -33,13 +38,15 @@ AreNumbersOf-exist problem tables places are roster =
       record {
         box = record {
           covers = found.1;
-          numbered = λ k i sets number at. slice_get_within sets i (set_of k places) (found.2 k sets i at number);
+          numbered =
+              λ k i sets number at. slice_get_within sets i (set_of k places) (found.2 k sets i at number);
         };
         sets = λ k i sets number at. found.2 k sets i at number;
       },
     )
 
-pub AreNumbersOf-one : (problem : Problem) (tables : List (List (List ℕ))) (places a b : List ℕ) → AreTables problem tables → AreNumbersOf tables places a → AreNumbersOf tables places b → a ≡ b
+pub AreNumbersOf-one : (problem : Problem) (tables : List (List (List ℕ))) (places a b : List ℕ)
+    → AreTables problem tables → AreNumbersOf tables places a → AreNumbersOf tables places b → a ≡ b
 AreNumbersOf-one problem tables places a b are first second =
     let long = first.box.covers in
     let also = second.box.covers in

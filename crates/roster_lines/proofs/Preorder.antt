@@ -14,7 +14,9 @@ use Rattle.roster_lines.specs.Rows.{entries_after, set_after}
 more_after : (set : List ℕ) (first : Row) (rows : List Row) (row : Row) → entries_after set ((first ∷ rows) ++ row ∷ []) ≡ entries_after set (first ∷ rows) ++ entry_of (set_after (set_at (entries_after set (first ∷ rows)) (length rows)) row) row.cost ∷ []
 unfolding entries_after
 more_after set first [] row = refl
-more_after set first (next ∷ rows) row = ap (λ entries. entry_of (set_after set first) first.cost ∷ entries) (more_after (set_after set first) next rows row)
+more_after set first (next ∷ rows) row =
+    ap (λ entries. entry_of (set_after set first) first.cost ∷ entries)
+    (more_after (set_after set first) next rows row)
 
 pub entries_after-push : (rows : List Row) (row : Row) → 0 < length rows → entries_after [] (rows ++ row ∷ []) ≡ entries_after [] rows ++ entry_of (set_after (set_at (entries_after [] rows) (length rows - 1)) row) row.cost ∷ []
 entries_after-push [] row some = absurd (omega arith)
@@ -24,7 +26,8 @@ entries_after-push (first ∷ rows) row some =
     ∙ ap (λ i. entries_after [] (first ∷ rows) ++ entry_of (set_after (set_at (entries_after [] (first ∷ rows)) i) row) row.cost ∷ []) last
 
 -- what stands between a set and the same with one more place begins with the set
-begins_between : (front xs : List ℕ) (p : ℕ) → places_le front xs ≡ true → places_le (front ++ p ∷ []) xs ≡ false → take (length front) xs ≡ front
+begins_between : (front xs : List ℕ) (p : ℕ) → places_le front xs ≡ true
+    → places_le (front ++ p ∷ []) xs ≡ false → take (length front) xs ≡ front
 begins_between front xs p on before =
     elim (cases_Bool (places_le (front ++ 0 ∷ []) xs)) [
       | inl more ↦
@@ -34,7 +37,9 @@ begins_between front xs p on before =
     ]
 
 -- so the last of some lines in order begins with the set of each from which a line still goes on
-pub begins_last : (sets : List (List ℕ)) (parent last p : ℕ) → AreOrdered sets → parent ≤ last → last < length sets → All (λ set. places_le (get_or sets parent [] ++ p ∷ []) set ≡ false) sets → take (length (get_or sets parent [])) (get_or sets last []) ≡ get_or sets parent []
+pub begins_last : (sets : List (List ℕ)) (parent last p : ℕ) → AreOrdered sets → parent ≤ last
+    → last < length sets → All (λ set. places_le (get_or sets parent [] ++ p ∷ []) set ≡ false) sets
+    → take (length (get_or sets parent [])) (get_or sets last []) ≡ get_or sets parent []
 begins_last sets parent last p ordered most inside before =
     let front : List ℕ = get_or sets parent [] in
     let at_most : places_le front (get_or sets last []) ≡ true = elim (cases_lt parent last) [
@@ -46,7 +51,8 @@ begins_last sets parent last p ordered most inside before =
     begins_between front (get_or sets last []) p at_most (before last [] inside)
 
 -- a row whose depth is that of the longer set is read as that set
-pub set_after-longer : (set front : List ℕ) (row : Row) → row.depth ≡ length front + 1 → take (length front) set ≡ front → set_after set row ≡ front ++ row.last ∷ []
+pub set_after-longer : (set front : List ℕ) (row : Row) → row.depth ≡ length front + 1
+    → take (length front) set ≡ front → set_after set row ≡ front ++ row.last ∷ []
 set_after-longer set front row deep begins =
     let above : row.depth - 1 ≡ length front = omega arith in
     rw (ne_eqb row.depth 0 (λ e. omega arith), above, begins) refl

@@ -27,22 +27,28 @@ no_line_there problem k wants stem p found is line = subst (LineWith problem k w
 
 module _ (problem : Problem) (k : ℕ) (wants : List ℕ → Type 0) (stem : Stem) (sets : List (List ℕ)) where
   -- up to the next candidate
-  pub up_to_candidate : (from p : ℕ) → IsStem problem k stem → HoldOnly problem k wants stem.among → IsUpTo problem k wants (stem.set ++ from ∷ []) sets → from ≤ p → ((q : ℕ) → from ≤ q → q < p → is_among stem.candidates q ≡ false) → IsUpTo problem k wants (stem.set ++ p ∷ []) sets
+  pub up_to_candidate : (from p : ℕ) → IsStem problem k stem → HoldOnly problem k wants stem.among
+      → IsUpTo problem k wants (stem.set ++ from ∷ []) sets → from ≤ p
+      → ((q : ℕ) → from ≤ q → q < p → is_among stem.candidates q ≡ false)
+      → IsUpTo problem k wants (stem.set ++ p ∷ []) sets
   up_to_candidate from p is only up later none =
       IsUpTo-skip problem k wants sets stem.set from p up later (λ q rest l before line wanted.
       let held = among_behind stem.set (q ∷ rest) q (is_among-here q rest) in
       both_ways _ (none q l before) (is.every q rest line (only (stem.set ++ q ∷ rest) q line wanted held)))
 
   -- past a candidate behind which nothing is wanted
-  pub past_candidate : (p : ℕ) → IsUpTo problem k wants (stem.set ++ p ∷ []) sets → NoneBehind problem k wants stem.set p → IsUpTo problem k wants (stem.set ++ (p + 1) ∷ []) sets
+  pub past_candidate : (p : ℕ) → IsUpTo problem k wants (stem.set ++ p ∷ []) sets
+      → NoneBehind problem k wants stem.set p → IsUpTo problem k wants (stem.set ++ (p + 1) ∷ []) sets
   past_candidate p up none =
       IsUpTo-skip problem k wants sets stem.set p (p + 1) up (omega arith) (λ q rest l before line wanted.
       let here : q ≡ p = omega arith in
-      none rest (subst (λ r. IsLine problem k (stem.set ++ r ∷ rest)) here line) (subst (λ r. wants (stem.set ++ r ∷ rest)) here wanted))
+      none rest (subst (λ r. IsLine problem k (stem.set ++ r ∷ rest)) here line)
+      (subst (λ r. wants (stem.set ++ r ∷ rest)) here wanted))
 
 -- ---- the flight with a candidate
 
-pub flight_with : (problem : Problem) (k : ℕ) (stem : Stem) (flights : List ℕ) (p minutes : ℕ) → IsStem problem k stem → AreFlights problem k flights → is_among stem.candidates p ≡ true
+pub flight_with : (problem : Problem) (k : ℕ) (stem : Stem) (flights : List ℕ) (p minutes : ℕ)
+    → IsStem problem k stem → AreFlights problem k flights → is_among stem.candidates p ≡ true
     → (is_among stem.set p ≡ false → flight_of problem k (stem.set ++ p ∷ []) ≡ flight_of problem k stem.set + minutes_of_pairing problem k p)
     → minutes ≡ get_or flights p minutes → stem.flight + minutes ≡ flight_of problem k (stem.set ++ p ∷ [])
 flight_with problem k stem flights p minutes is are here more at =
@@ -52,10 +58,15 @@ flight_with problem k stem flights p minutes is are here more at =
 
 -- ---- the line pushed
 
-pub longer_set : (lines : List Entry) (number p : ℕ) (front : List ℕ) → slice_get (sets_of lines) number ≡ Some front → longer lines number p ≡ front ++ p ∷ []
-longer_set lines number p front at = ap (λ s. s ++ p ∷ []) (get_or_from_slice_get (sets_of lines) number front [] at)
+pub longer_set : (lines : List Entry) (number p : ℕ) (front : List ℕ)
+    → slice_get (sets_of lines) number ≡ Some front → longer lines number p ≡ front ++ p ∷ []
+longer_set lines number p front at =
+    ap (λ s. s ++ p ∷ []) (get_or_from_slice_get (sets_of lines) number front [] at)
 
-pub sets_pushed : (lines new : List Entry) (number p : ℕ) (cost : ℤ) (front set : List ℕ) → new ≡ lines ++ entry_of (longer lines number p) cost ∷ [] → slice_get (sets_of lines) number ≡ Some front → set ≡ front ++ p ∷ [] → sets_of new ≡ sets_of lines ++ set ∷ []
+pub sets_pushed : (lines new : List Entry) (number p : ℕ) (cost : ℤ) (front set : List ℕ)
+    → new ≡ lines ++ entry_of (longer lines number p) cost ∷ []
+    → slice_get (sets_of lines) number ≡ Some front → set ≡ front ++ p ∷ []
+    → sets_of new ≡ sets_of lines ++ set ∷ []
 sets_pushed lines new number p cost front set pushed at is =
     ap sets_of pushed
     ∙ sets_of-push lines (entry_of (longer lines number p) cost)
@@ -69,7 +80,8 @@ costs_pushed problem k lines new number p cost front pushed at is costs =
 -- ---- what is judged
 
 -- a candidate comes next,
-pub next_of : (problem : Problem) (k : ℕ) (stem : Stem) (p : ℕ) → IsStem problem k stem → is_among stem.candidates p ≡ true → IsNext (judged_as problem k stem.among stem.set) p
+pub next_of : (problem : Problem) (k : ℕ) (stem : Stem) (p : ℕ) → IsStem problem k stem
+    → is_among stem.candidates p ≡ true → IsNext (judged_as problem k stem.among stem.set) p
 next_of problem k stem p is here = record {
   place = is.places p here;
   alone = is.known p here;

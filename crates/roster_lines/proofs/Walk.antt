@@ -15,7 +15,8 @@ use Rattle.roster_lines.proofs.Listed.{Ascends-parts}
 use Rattle.roster_lines.proofs.Marks.{All-behind}
 use Rattle.roster_lines.proofs.TreeLemmas.{length-entries_in, length-sets_of, set_at_later}
 
-module _ (lines : List Row) (tree : IsTree lines) (at : ℕ) (line : Row) (there : slice_get lines at ≡ Some line) (later : 0 < at) where
+module _ (lines : List Row) (tree : IsTree lines) (at : ℕ) (line : Row)
+    (there : slice_get lines at ≡ Some line) (later : 0 < at) where
   behind_parent : set_at (entries_in lines) at ≡ longer (entries_in lines) line.parent line.last
   behind_parent = set_at_later lines at line there later (tree.parents at line there later)
 
@@ -28,7 +29,9 @@ module _ (lines : List Row) (tree : IsTree lines) (at : ℕ) (line : Row) (there
       All-head (λ p. p < MOST_PAIRINGS) line.last [] (All-behind (λ p. p < MOST_PAIRINGS) (set_at (entries_in lines) line.parent) (line.last ∷ []) (subst (All (λ p. p < MOST_PAIRINGS)) behind_parent places))
 
   -- the last pairing of a line, put before those that are behind it
-  pub walked : (i : ℕ) (set next : List ℕ) → i < length lines → set_at (entries_in lines) i ≡ set_at (entries_in lines) at ++ set → next ≡ with_place line.last set → set_at (entries_in lines) i ≡ set_at (entries_in lines) line.parent ++ next
+  pub walked : (i : ℕ) (set next : List ℕ) → i < length lines
+      → set_at (entries_in lines) i ≡ set_at (entries_in lines) at ++ set → next ≡ with_place line.last set
+      → set_at (entries_in lines) i ≡ set_at (entries_in lines) line.parent ++ next
   walked i set next inside so_far put =
       let front : List ℕ = set_at (entries_in lines) line.parent in
       let split = so_far ∙ ap (λ s. s ++ set) behind_parent ∙ append_assoc front (line.last ∷ []) set in

@@ -10,7 +10,9 @@ use Rattle.roster_lines.specs.SomeLines.{AreWantedLines}
 use Rattle.roster_lines.specs.WantedTables.{AreAllWanted, AreListedSoFar}
 
 -- with lines of one person more
-pub AreListedSoFar-push : (problem : Problem) (table : List (List Entry)) (lines : List Entry) → AreListedSoFar problem table → AreListedOf problem (length table) lines → AreListedSoFar problem (table ++ lines ∷ [])
+pub AreListedSoFar-push : (problem : Problem) (table : List (List Entry)) (lines : List Entry)
+    → AreListedSoFar problem table → AreListedOf problem (length table) lines
+    → AreListedSoFar problem (table ++ lines ∷ [])
 AreListedSoFar-push problem table lines each here = each-push (AreListedOf problem) table lines each here
 
 -- if they are those that are wanted

@@ -57,10 +57,12 @@ pub record AreAllPairs (problem : Problem) (all : List Pairs) : Type 0 where
 
 -- The sets are lines of person k that stand before the mark, and each that is wanted of those there is
 -- among them.
-pub record IsUpTo (problem : Problem) (k : ℕ) (wants : List ℕ → Type 0) (mark : List ℕ) (sets : List (List ℕ)) : Type 0 where
+pub record IsUpTo (problem : Problem) (k : ℕ) (wants : List ℕ → Type 0) (mark : List ℕ)
+    (sets : List (List ℕ)) : Type 0 where
   pub some : AreSomeLines problem k sets
   pub before : All (λ set. places_le mark set ≡ false) sets
-  pub every : (set : List ℕ) → IsLine problem k set → wants set → places_le mark set ≡ false → (i : ℕ) × (slice_get sets i ≡ Some set)
+  pub every : (set : List ℕ) → IsLine problem k set → wants set → places_le mark set ≡ false
+      → (i : ℕ) × (slice_get sets i ≡ Some set)
 
 -- the lines of person k that are wanted hold none but these pairings
 abbrev pub HoldOnly : Problem → ℕ → (List ℕ → Type 0) → List ℕ → Type 0
@@ -78,16 +80,20 @@ pub record IsStem (problem : Problem) (k : ℕ) (stem : Stem) : Type 0 where
   pub places : (p : ℕ) → is_among stem.candidates p ≡ true → p < length problem.pairings
   pub behind : (p : ℕ) → is_among stem.candidates p ≡ true → All (λ q. q < p) stem.set
   pub single : (p : ℕ) → is_among stem.candidates p ≡ true → IsLegal problem k (p ∷ [])
-  pub pairs : (p q : ℕ) → is_among stem.candidates p ≡ true → is_among stem.set q ≡ true → IsLegal problem k (q ∷ p ∷ [])
-  pub every : (p : ℕ) (rest : List ℕ) → IsLine problem k (stem.set ++ p ∷ rest) → is_among stem.among p ≡ true → is_among stem.candidates p ≡ true
+  pub pairs : (p q : ℕ) → is_among stem.candidates p ≡ true → is_among stem.set q ≡ true
+      → IsLegal problem k (q ∷ p ∷ [])
+  pub every : (p : ℕ) (rest : List ℕ) → IsLine problem k (stem.set ++ p ∷ rest) → is_among stem.among p ≡ true
+      → is_among stem.candidates p ≡ true
 
 -- what a judge of sets of person k knows of one, if it has looked at these pairings
 abbrev pub judged_as : Problem → ℕ → List ℕ → List ℕ → Stepped
-judged_as problem k among set = record { loads = record { problem = problem; person = k; alone = among }; set = set }
+judged_as problem k among set =
+    record { loads = record { problem = problem; person = k; alone = among }; set = set }
 
 -- no line of person k that begins with the set and p behind it is wanted
 abbrev pub NoneBehind : Problem → ℕ → (List ℕ → Type 0) → List ℕ → ℕ → Type 0
-NoneBehind problem k wants set p = (rest : List ℕ) → IsLine problem k (set ++ p ∷ rest) → ¬ wants (set ++ p ∷ rest)
+NoneBehind problem k wants set p =
+    (rest : List ℕ) → IsLine problem k (set ++ p ∷ rest) → ¬ wants (set ++ p ∷ rest)
 
 -- What is found of the stem with p behind: that line, or nothing, and then none that begins so is a line
 -- that is wanted.

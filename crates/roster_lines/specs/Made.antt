@@ -21,7 +21,8 @@ IsMadeOf problem k made = MatchResult made (AreMade problem k) (IsFaultOf proble
 -- each slot has what was made of the lines of the person at its place
 pub record AreMadeOf (problem : Problem) (slots : List (Result (List Entry) LinesFault)) : Type 0 where
   pub covers : length slots ≡ length problem.persons
-  pub each : (k : ℕ) (made : Result (List Entry) LinesFault) → slice_get slots k ≡ Some made → IsMadeOf problem k made
+  pub each : (k : ℕ) (made : Result (List Entry) LinesFault) → slice_get slots k ≡ Some made
+      → IsMadeOf problem k made
 
 -- and what was made of those of some persons, with their places
 abbrev pub AreMadeFor : Problem → List (ℕ × Result (List Entry) LinesFault) → Type 0
@@ -29,4 +30,5 @@ AreMadeFor problem all = All (λ made. (made.0 < length problem.persons) × IsMa
 
 -- the table has the lines of the first persons
 abbrev pub IsTableSoFar : Problem → List (List Entry) → Type 0
-IsTableSoFar problem table = (k : ℕ) (lines : List Entry) → slice_get table k ≡ Some lines → AreMade problem k lines
+IsTableSoFar problem table =
+    (k : ℕ) (lines : List Entry) → slice_get table k ≡ Some lines → AreMade problem k lines

@@ -12,7 +12,8 @@ set_after set row = if row.depth == 0 then [] else take (row.depth - 1) set ++ r
 -- the entries of rows that stand behind one with that set
 unfoldable pub entries_after : List ℕ → List Row → List Entry
 entries_after set [] = []
-entries_after set (row ∷ rows) = entry_of (set_after set row) row.cost ∷ entries_after (set_after set row) rows
+entries_after set (row ∷ rows) =
+    entry_of (set_after set row) row.cost ∷ entries_after (set_after set row) rows
 
 -- the numbers of a row are within their limits
 pub record IsWithinLimits (row : Row) : Type 0 where

@@ -6,7 +6,8 @@ use Rattle.roster_lines.specs.declared.extend.LinesFault.{LinesFault}
 use Rattle.roster_lines.specs.declared.extend.LinesFault.TheVariants.{TooMany, Memory}
 
 -- the sets are lines of person k in their order, the empty one first, and each that is wanted is among them
-pub record AreWantedLines (problem : Problem) (k : ℕ) (wants : List ℕ → Type 0) (sets : List (List ℕ)) : Type 0 where
+pub record AreWantedLines (problem : Problem) (k : ℕ) (wants : List ℕ → Type 0)
+    (sets : List (List ℕ)) : Type 0 where
   pub some : AreSomeLines problem k sets
   pub first : slice_get sets 0 ≡ Some []
   pub every : (set : List ℕ) → IsLine problem k set → wants set → (i : ℕ) × (slice_get sets i ≡ Some set)

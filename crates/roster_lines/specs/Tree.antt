@@ -15,7 +15,8 @@ next_set (first ∷ entries) line = longer (first ∷ entries) line.parent line.
 -- the entries with those of more lines
 unfoldable pub entries_from : List Entry → List Row → List Entry
 entries_from entries [] = entries
-entries_from entries (line ∷ lines) = entries_from (entries ++ entry_of (next_set entries line) line.cost ∷ []) lines
+entries_from entries (line ∷ lines) =
+    entries_from (entries ++ entry_of (next_set entries line) line.cost ∷ []) lines
 
 unfoldable pub entries_in : List Row → List Entry
 entries_in lines = entries_from [] lines
@@ -29,6 +30,7 @@ pub record IsTree (lines : List Row) : Type 0 where
   pub places : All (All (λ p. p < MOST_PAIRINGS)) (sets_of (entries_in lines))
   pub ordered : AreOrdered (sets_of (entries_in lines))
   pub few : length lines ≤ MOST_LINES
-  pub depths : (i : ℕ) (line : Row) → slice_get lines i ≡ Some line → line.depth ≡ length (set_at (entries_in lines) i)
+  pub depths : (i : ℕ) (line : Row) → slice_get lines i ≡ Some line
+      → line.depth ≡ length (set_at (entries_in lines) i)
   pub preorder : entries_after [] lines ≡ entries_in lines
   pub limits : All IsWithinLimits lines

@@ -1,11 +1,13 @@
 //! The lines of a person, from each line to those that go on from it.
 
-ghost use Rattle.std.specs.Prelude.{◌≡◌, ◌<◌, ◌≤◌, ◌++◌, ◌∷◌, ℕ, [], true, IfErr, IfOk, List, OnOk, Some, length, slice_get};
+ghost use Rattle.std.specs.Prelude.{◌≡◌, ◌<◌, ◌≤◌, ◌++◌, ◌∷◌, ℕ, [], true, IfErr, IfOk, List, OnOk, Some};
+ghost use Rattle.std.specs.Prelude.{length, slice_get};
 ghost use Rattle.roster_model.specs.Lines.{AreLines};
 ghost use Rattle.roster_model.specs.Rules.{is_among};
 ghost use Rattle.roster_lines.specs.Between.{IsBetween};
 ghost use Rattle.roster_lines.specs.Entries.{sets_of};
-ghost use Rattle.roster_lines.specs.Listing.{ArePairs, ArePartsLegal, HoldOnly, IsFlightWithin, IsStem, IsUpTo, LineWith, judged_as};
+ghost use Rattle.roster_lines.specs.Listing.{ArePairs, ArePartsLegal, HoldOnly, IsFlightWithin, IsStem};
+ghost use Rattle.roster_lines.specs.Listing.{IsUpTo, LineWith, judged_as};
 ghost use Rattle.roster_lines.specs.Person.{AreCosted};
 ghost use Rattle.roster_lines.specs.SomeLines.{AreWantedLines, IsFaultOf, IsFaultWithin};
 

@@ -1,6 +1,7 @@
 //! The lines of all persons.
 
-ghost use Rattle.std.specs.Prelude.{◌≡◌, ◌<◌, ◌≤◌, ◌↔◌, ◌+◌, ◌++◌, ◌∷◌, ℕ, [], IfErr, IfOk, List, OnOk, Some, length, slice_get};
+ghost use Rattle.std.specs.Prelude.{◌≡◌, ◌<◌, ◌≤◌, ◌↔◌, ◌+◌, ◌++◌, ◌∷◌, ℕ, [], IfErr, IfOk, List, OnOk, Some};
+ghost use Rattle.std.specs.Prelude.{length, slice_get};
 ghost use Rattle.roster_lines.specs.Entries.{costs_of, sets_of};
 ghost use Rattle.roster_lines.specs.Made.{IsMadeOf, IsTableSoFar};
 ghost use Rattle.roster_lines.specs.Person.{lines_at, IsTableOf};

@@ -15,30 +15,36 @@ pub total-nil : {X : Type 0} (cost : X → ℤ) → total cost [] ≡ pos 0
 unfolding total
 total-nil cost = refl
 
-pub total-cons : {X : Type 0} (cost : X → ℤ) (x : X) (xs : List X) → total cost (x ∷ xs) ≡ cost x +ℤ total cost xs
+pub total-cons : {X : Type 0} (cost : X → ℤ) (x : X) (xs : List X)
+    → total cost (x ∷ xs) ≡ cost x +ℤ total cost xs
 unfolding total
 total-cons cost x xs = refl
 
-pub total-append : {X : Type 0} (cost : X → ℤ) (xs ys : List X) → total cost (xs ++ ys) ≡ total cost xs +ℤ total cost ys
+pub total-append : {X : Type 0} (cost : X → ℤ) (xs ys : List X)
+    → total cost (xs ++ ys) ≡ total cost xs +ℤ total cost ys
 total-append cost [] ys = omega (arith, ints, total-nil cost)
 total-append cost (x ∷ xs) ys =
     omega (arith, ints, total-cons cost x (xs ++ ys), total-cons cost x xs, total-append cost xs ys)
 
 -- of two costs of each
-pub total-both : {X : Type 0} (f g h : X → ℤ) → ((x : X) → f x ≡ g x +ℤ h x) → (xs : List X) → total f xs ≡ total g xs +ℤ total h xs
+pub total-both : {X : Type 0} (f g h : X → ℤ) → ((x : X) → f x ≡ g x +ℤ h x) → (xs : List X)
+    → total f xs ≡ total g xs +ℤ total h xs
 total-both f g h each [] = omega (arith, ints, total-nil f, total-nil g, total-nil h)
 total-both f g h each (x ∷ xs) =
-    omega (arith, ints, total-cons f x xs, total-cons g x xs, total-cons h x xs, each x, total-both f g h each xs)
+    omega
+    (arith, ints, total-cons f x xs, total-cons g x xs, total-cons h x xs, each x, total-both f g h each xs)
 
 -- of costs that aren't negative
 pub total-pos : {X : Type 0} (f : X → ℕ) (xs : List X) → total (λ x. pos (f x)) xs ≡ pos (sum_by f xs)
 total-pos f [] = omega (arith, ints, total-nil (λ x. pos (f x)))
-total-pos f (x ∷ xs) = omega (arith, ints, total-cons (λ y. pos (f y)) x xs, total-pos f xs, sum_by-cons f x xs)
+total-pos f (x ∷ xs) =
+    omega (arith, ints, total-cons (λ y. pos (f y)) x xs, total-pos f xs, sum_by-cons f x xs)
 
 -- ---- units
 
 -- if no units are beyond their limit, those of a pair aren't
-pub units-limited : (costs : List Cost) (k p : ℕ) → All (λ cost. unsigned_abs cost.units ≤ MOST_UNITS) costs → unsigned_abs (unwrap_or (units_given costs k p) (pos 0)) ≤ MOST_UNITS
+pub units-limited : (costs : List Cost) (k p : ℕ) → All (λ cost. unsigned_abs cost.units ≤ MOST_UNITS) costs
+    → unsigned_abs (unwrap_or (units_given costs k p) (pos 0)) ≤ MOST_UNITS
 units-limited [] k p few = omega arith
 units-limited (cost ∷ costs) k p few =
     let P : Bool → Type 0 = λ b. unsigned_abs (unwrap_or (option_map (λ c. c.units) (cond b (Some cost) (find (is_cost_of k p) costs))) (pos 0)) ≤ MOST_UNITS in

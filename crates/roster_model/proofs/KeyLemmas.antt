@@ -19,7 +19,8 @@ is_so false h = absurd h
 less_cost : (a b : ℤ) → int_lt a b ≡ true → a <ℤ b
 less_cost a b h = lt_z_yes (subst T (sym h) tt)
 
-key_cases : (a b : Key) → key_le a b ≡ true → (a.cost <ℤ b.cost) ⊎ ((a.cost ≡ b.cost) × (places_le a.places b.places ≡ true))
+key_cases : (a b : Key) → key_le a b ≡ true
+    → (a.cost <ℤ b.cost) ⊎ ((a.cost ≡ b.cost) × (places_le a.places b.places ≡ true))
 key_cases a b h =
     elim (or_cases (int_lt a.cost b.cost) _ h) [
       | inl less ↦ inl (less_cost a.cost b.cost less)
@@ -69,7 +70,8 @@ key_le-one a b h g =
     let made : ℤ → List ℕ → Key = λ cost places. record { cost = cost; places = places } in
     ap₂ made (key_le-same_cost a b h g) (key_le-antisym a b h g)
 
-ranked_costs : (x y : ℤ) (r : Ordering) → MatchOrdering r (x <ℤ y) (x ≡ y) (y <ℤ x) → (x ≡ y) ⊎ ((x <ℤ y) ⊎ (y <ℤ x))
+ranked_costs : (x y : ℤ) (r : Ordering) → MatchOrdering r (x <ℤ y) (x ≡ y) (y <ℤ x)
+    → (x ≡ y) ⊎ ((x <ℤ y) ⊎ (y <ℤ x))
 ranked_costs x y Less h = inr (inl h)
 ranked_costs x y Equal h = inl h
 ranked_costs x y Greater h = inr (inr h)

@@ -15,7 +15,8 @@ use Rattle.roster_model.specs.Clocks.{change_in, minute_at, moment, offset_at, o
 -- ---- what a text spells
 
 -- a reader that goes on where another ended
-after : {A B : Type 0} (P : A → Type 0) (Q : B → Type 0) (read : Option A) (next : A → Option B) → IfSome read P → ((x : A) → P x → IfSome (next x) Q) → IfSome (option_and_then next read) Q
+after : {A B : Type 0} (P : A → Type 0) (Q : B → Type 0) (read : Option A) (next : A → Option B)
+    → IfSome read P → ((x : A) → P x → IfSome (next x) Q) → IfSome (option_and_then next read) Q
 after P Q None next first rest = tt
 after P Q (Some x) next first rest = rest x first
 
@@ -24,11 +25,13 @@ anything : {A : Type 0} (read : Option A) → IfSome read (λ _. Unit {0})
 anything None = tt
 anything (Some x) = tt
 
-either : {A : Type 0} (P : A → Type 0) (test : Bool) (a b : Option A) → IfSome a P → IfSome b P → IfSome (cond test a b) P
+either : {A : Type 0} (P : A → Type 0) (test : Bool) (a b : Option A) → IfSome a P → IfSome b P
+    → IfSome (cond test a b) P
 either P true a b first second = first
 either P false a b first second = second
 
-where_true : {A : Type 0} (P : A → Type 0) (test : Bool) (x : A) → (test ≡ true → P x) → IfSome (cond test (Some x) None) P
+where_true : {A : Type 0} (P : A → Type 0) (test : Bool) (x : A) → (test ≡ true → P x)
+    → IfSome (cond test (Some x) None) P
 where_true P true x holds = holds refl
 where_true P false x holds = tt
 
@@ -39,20 +42,23 @@ limited limit (Some p) = where_true (λ q. q.0 ≤ limit) (nat_le p.0 limit) p (
 sixty : (text : List ℕ) → IfSome (read_sixty text) (λ p. p.0 ≤ 59)
 unfolding read_sixty
 sixty text =
-    after (λ _. Unit {0}) (λ p. p.0 ≤ 59) (read_byte 58 text) (λ rest. at_most 59 (read_exactly_two rest)) (anything (read_byte 58 text))
+    after (λ _. Unit {0}) (λ p. p.0 ≤ 59) (read_byte 58 text) (λ rest. at_most 59 (read_exactly_two rest))
+    (anything (read_byte 58 text))
     (λ rest _. limited 59 (read_exactly_two rest))
 
 after_minute : (minute : ℕ × List ℕ) → minute.0 ≤ 59 → IfSome (read_after_minute minute) (λ p. p.0 ≤ 3_599)
 after_minute minute few =
     either (λ p. p.0 ≤ 3_599) (begins 58 minute.1)
-    (option_and_then (λ second. Some (minute.0 * 60 + second.0, second.1)) (read_sixty minute.1)) (Some (minute.0 * 60, minute.1))
+    (option_and_then (λ second. Some (minute.0 * 60 + second.0, second.1)) (read_sixty minute.1))
+    (Some (minute.0 * 60, minute.1))
     (after (λ p. p.0 ≤ 59) (λ p. p.0 ≤ 3_599) (read_sixty minute.1) (λ second. Some (minute.0 * 60 + second.0, second.1)) (sixty minute.1) (λ second below. omega arith))
     (omega arith)
 
 minutes : (text : List ℕ) → IfSome (read_minutes text) (λ p. p.0 ≤ 3_599)
 unfolding read_minutes
 minutes text =
-    either (λ p. p.0 ≤ 3_599) (begins 58 text) (option_and_then read_after_minute (read_sixty text)) (Some (0, text))
+    either (λ p. p.0 ≤ 3_599) (begins 58 text) (option_and_then read_after_minute (read_sixty text))
+    (Some (0, text))
     (after (λ p. p.0 ≤ 59) (λ p. p.0 ≤ 3_599) (read_sixty text) read_after_minute (sixty text) after_minute)
     (omega arith)
 
@@ -85,18 +91,27 @@ farther seconds near = record { behind = omega (arith, signed_arith, near.behind
 
 summer_offset : (standard : ℤ) (text : List ℕ) → IsBelow 90_000 standard → IfSome (cond (begins 44 text) (Some (standard +ℤ pos 3600, text)) (read_offset text)) (λ p. IsBelow 93_600 p.0)
 summer_offset standard text near =
-    either (λ p. IsBelow 93_600 p.0) (begins 44 text) (Some (standard +ℤ pos 3600, text)) (read_offset text) (hour_more standard near)
+    either (λ p. IsBelow 93_600 p.0) (begins 44 text) (Some (standard +ℤ pos 3600, text)) (read_offset text)
+    (hour_more standard near)
     (IfSome_then (read_offset text) (offset text) (λ p below. farther p.0 below))
 
-summer : (standard : ℤ) (text : List ℕ) → IsBelow 90_000 standard → IfSome (read_dst standard text) (λ p. IsBelow 93_600 p.0.seconds)
+summer : (standard : ℤ) (text : List ℕ) → IsBelow 90_000 standard
+    → IfSome (read_dst standard text) (λ p. IsBelow 93_600 p.0.seconds)
 unfolding read_dst
 summer standard text near =
-    after (λ _. Unit {0}) (λ p. IsBelow 93_600 p.0.seconds) (read_abbreviation text) _ (anything (read_abbreviation text)) (λ name _.
-    after (λ p. IsBelow 93_600 p.0) (λ p. IsBelow 93_600 p.0.seconds) (cond (begins 44 name.1) (Some (standard +ℤ pos 3600, name.1)) (read_offset name.1)) _ (summer_offset standard name.1 near) (λ offset below.
-    after (λ _. Unit {0}) (λ p. IsBelow 93_600 p.0.seconds) (read_byte 44 offset.1) _ (anything (read_byte 44 offset.1)) (λ start_text _.
-    after (λ _. Unit {0}) (λ p. IsBelow 93_600 p.0.seconds) (read_day_time start_text) _ (anything (read_day_time start_text)) (λ start _.
-    after (λ _. Unit {0}) (λ p. IsBelow 93_600 p.0.seconds) (read_byte 44 start.1) _ (anything (read_byte 44 start.1)) (λ finish_text _.
-    after (λ _. Unit {0}) (λ p. IsBelow 93_600 p.0.seconds) (read_day_time finish_text) _ (anything (read_day_time finish_text)) (λ finish _. below))))))
+    after (λ _. Unit {0}) (λ p. IsBelow 93_600 p.0.seconds) (read_abbreviation text) _
+    (anything (read_abbreviation text)) (λ name _.
+    after (λ p. IsBelow 93_600 p.0) (λ p. IsBelow 93_600 p.0.seconds)
+    (cond (begins 44 name.1) (Some (standard +ℤ pos 3600, name.1)) (read_offset name.1)) _
+    (summer_offset standard name.1 near) (λ offset below.
+    after (λ _. Unit {0}) (λ p. IsBelow 93_600 p.0.seconds) (read_byte 44 offset.1) _
+    (anything (read_byte 44 offset.1)) (λ start_text _.
+    after (λ _. Unit {0}) (λ p. IsBelow 93_600 p.0.seconds) (read_day_time start_text) _
+    (anything (read_day_time start_text)) (λ start _.
+    after (λ _. Unit {0}) (λ p. IsBelow 93_600 p.0.seconds) (read_byte 44 start.1) _
+    (anything (read_byte 44 start.1)) (λ finish_text _.
+    after (λ _. Unit {0}) (λ p. IsBelow 93_600 p.0.seconds) (read_day_time finish_text) _
+    (anything (read_day_time finish_text)) (λ finish _. below))))))
 
 -- both offsets of a rule
 pub record AreNear (zone : TzText) : Type 0 where
@@ -106,10 +121,12 @@ pub record AreNear (zone : TzText) : Type 0 where
 front : (text : List ℕ) → IfSome (read_tz text) (λ p. AreNear p.0)
 unfolding read_tz
 front text =
-    after (λ _. Unit {0}) (λ p. AreNear p.0) (read_abbreviation text) _ (anything (read_abbreviation text)) (λ name _.
+    after (λ _. Unit {0}) (λ p. AreNear p.0) (read_abbreviation text) _ (anything (read_abbreviation text))
+    (λ name _.
     after (λ p. IsBelow 90_000 p.0) (λ p. AreNear p.0) (read_offset name.1) _ (offset name.1) (λ found near.
     either (λ p. AreNear p.0) (begins_name found.1)
-    (option_and_then (λ dst. Some (tz_text name.0 found.0 (Some dst.0), dst.1)) (read_dst found.0 found.1)) (Some (tz_text name.0 found.0 None, found.1))
+    (option_and_then (λ dst. Some (tz_text name.0 found.0 (Some dst.0), dst.1)) (read_dst found.0 found.1))
+    (Some (tz_text name.0 found.0 None, found.1))
     (after (λ p. IsBelow 93_600 p.0.seconds) (λ p. AreNear p.0) (read_dst found.0 found.1) (λ dst. Some (tz_text name.0 found.0 (Some dst.0), dst.1)) (summer found.0 found.1 near)
     (λ dst below. record { standard = farther found.0 near; summer = below }))
     (record { standard = farther found.0 near; summer = tt })))
@@ -130,7 +147,8 @@ one_of : (test : Bool) (a b : ℤ) → IsBelow 93_600 a → IsBelow 93_600 b →
 one_of true a b first second = first
 one_of false a b first second = second
 
-by_season : (standard summer : ℤ) (season : ℤ × ℤ) (at : ℤ) → IsBelow 93_600 standard → IsBelow 93_600 summer → IsBelow 93_600 (offset_by standard summer season at)
+by_season : (standard summer : ℤ) (season : ℤ × ℤ) (at : ℤ) → IsBelow 93_600 standard → IsBelow 93_600 summer
+    → IsBelow 93_600 (offset_by standard summer season at)
 by_season standard summer season at first second =
     one_of (int_lt summer standard) _ _
     (one_of (in_window season at) _ _ second
@@ -138,17 +156,20 @@ by_season standard summer season at first second =
     (one_of (in_span season.1 (season.1 -ℤ (summer -ℤ standard)) at) _ _ second first)))
     (one_of (in_window season at && not (in_span season.0 (season.0 +ℤ (summer -ℤ standard)) at)) _ _ second first)
 
-by_rule : (standard : ℤ) (summer : Option DstText) (year at : ℤ) → IsBelow 93_600 standard → IfSome summer (λ d. IsBelow 93_600 d.seconds)
+by_rule : (standard : ℤ) (summer : Option DstText) (year at : ℤ) → IsBelow 93_600 standard
+    → IfSome summer (λ d. IsBelow 93_600 d.seconds)
     → IsBelow 93_600 (match_some summer standard (λ d. offset_by standard d.seconds (change_in year d.start, change_in year d.finish) at))
 by_rule standard None year at first second = first
-by_rule standard (Some d) year at first second = by_season standard d.seconds (change_in year d.start, change_in year d.finish) at first second
+by_rule standard (Some d) year at first second =
+    by_season standard d.seconds (change_in year d.start, change_in year d.finish) at first second
 
 near_at : (zone : TzText) (year at : ℤ) → AreNear zone → IsBelow 93_600 (offset_at zone year at)
 unfolding offset_at
 near_at zone year at near = by_rule zone.std_seconds zone.dst year at near.standard near.summer
 
 -- numbers that lie so far apart at most, and so their sizes
-sizes : (a b : ℤ) (most : ℕ) → (a -ℤ b) ≤ℤ pos most → (b -ℤ a) ≤ℤ pos most → unsigned_abs a ≤ unsigned_abs b + most
+sizes : (a b : ℤ) (most : ℕ) → (a -ℤ b) ≤ℤ pos most → (b -ℤ a) ≤ℤ pos most
+    → unsigned_abs a ≤ unsigned_abs b + most
 sizes (pos a) (pos b) most up down = omega (arith, signed_arith)
 sizes (pos a) (negsuc b) most up down = omega (arith, signed_arith)
 sizes (negsuc a) (pos b) most up down = omega (arith, signed_arith)
@@ -157,15 +178,18 @@ sizes (negsuc a) (negsuc b) most up down = omega (arith, signed_arith)
 in_minutes : (a b : ℕ) → a ≤ b + 60 * MOST_MONTH_MINUTES → a / 60 ≤ b / 60 + MOST_MONTH_MINUTES
 in_minutes a b h = omega arith
 
-moments : (day n : ℕ) (a b : ℤ) → n ≤ 31 → IsBelow 93_600 a → IsBelow 93_600 b → unsigned_abs (moment (day + n) 0 -ℤ b) ≤ unsigned_abs (moment day 0 -ℤ a) + 60 * MOST_MONTH_MINUTES
+moments : (day n : ℕ) (a b : ℤ) → n ≤ 31 → IsBelow 93_600 a → IsBelow 93_600 b
+    → unsigned_abs (moment (day + n) 0 -ℤ b) ≤ unsigned_abs (moment day 0 -ℤ a) + 60 * MOST_MONTH_MINUTES
 moments day n a b few first second =
     sizes (moment (day + n) 0 -ℤ b) (moment day 0 -ℤ a) (60 * MOST_MONTH_MINUTES)
     (omega (arith, signed_arith, first.behind, first.ahead, second.behind, second.ahead))
     (omega (arith, signed_arith, first.behind, first.ahead, second.behind, second.ahead))
 
-pub days-short : (zone : TzText) (day n : ℕ) → AreNear zone → n ≤ 31 → minute_at zone (day + n) 0 ≤ minute_at zone day 0 + MOST_MONTH_MINUTES
+pub days-short : (zone : TzText) (day n : ℕ) → AreNear zone → n ≤ 31
+    → minute_at zone (day + n) 0 ≤ minute_at zone day 0 + MOST_MONTH_MINUTES
 unfolding second_at
 days-short zone day n near few =
     let first = near_at zone (year_of_day (pos day)) (moment day 0) near in
     let last = near_at zone (year_of_day (pos (day + n))) (moment (day + n) 0) near in
-    in_minutes (unsigned_abs (second_at zone (day + n) 0)) (unsigned_abs (second_at zone day 0)) (moments day n _ _ few first last)
+    in_minutes (unsigned_abs (second_at zone (day + n) 0)) (unsigned_abs (second_at zone day 0))
+    (moments day n _ _ few first last)

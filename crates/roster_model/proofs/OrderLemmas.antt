@@ -8,7 +8,8 @@ use Rattle.roster_model.specs.Problem.{precedes}
 use Rattle.roster_model.specs.records.Duty.{Duty}
 
 -- what all pairs have, those at two places have
-pub pair_at : (R : Duty → Duty → Type 0) (list : List Duty) → AllPairs R list → (i j : ℕ) (a b : Duty) → i < j → slice_get list i ≡ Some a → slice_get list j ≡ Some b → R a b
+pub pair_at : (R : Duty → Duty → Type 0) (list : List Duty) → AllPairs R list → (i j : ℕ) (a b : Duty) → i < j
+    → slice_get list i ≡ Some a → slice_get list j ≡ Some b → R a b
 pair_at R list all i j a b before first second =
     let inside : j < length list = slice_get_within list j b second in
     subst (R a) (get_or_from_slice_get list j b b second)
@@ -18,7 +19,8 @@ reports : (a b : Duty) → precedes b a ≡ false → a.report ≤ b.report
 reports a b h = grind (arith, nat_tests)
 
 -- a later duty reports no earlier
-pub reports-later : (list : List Duty) → AllPairs (λ a b. precedes b a ≡ false) list → (i j : ℕ) (a b : Duty) → i ≤ j → slice_get list i ≡ Some a → slice_get list j ≡ Some b → a.report ≤ b.report
+pub reports-later : (list : List Duty) → AllPairs (λ a b. precedes b a ≡ false) list → (i j : ℕ) (a b : Duty)
+    → i ≤ j → slice_get list i ≡ Some a → slice_get list j ≡ Some b → a.report ≤ b.report
 reports-later list ordered i j a b order first second =
     elim (cases_eq i j) [
       | inl same ↦

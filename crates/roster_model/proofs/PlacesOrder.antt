@@ -6,7 +6,8 @@ use Rattle.roster_model.specs.Places.{places_le}
 
 -- ---- a total order
 
-heads : (x y : ℕ) (xs ys : List ℕ) → places_le (x ∷ xs) (y ∷ ys) ≡ true → (x < y) ⊎ ((x ≡ y) × (places_le xs ys ≡ true))
+heads : (x y : ℕ) (xs ys : List ℕ) → places_le (x ∷ xs) (y ∷ ys) ≡ true
+    → (x < y) ⊎ ((x ≡ y) × (places_le xs ys ≡ true))
 heads x y xs ys h =
     elim (or_cases (ltb x y) _ h) [
       | inl less ↦ inl (ltb-true x y less)
@@ -19,14 +20,16 @@ by_less x y xs ys h = or_left (ltb x y) _ (lt-ltb x y h)
 by_rest : (x y : ℕ) (xs ys : List ℕ) → x ≡ y → places_le xs ys ≡ true → places_le (x ∷ xs) (y ∷ ys) ≡ true
 by_rest x y xs ys e h = or_right (ltb x y) _ (and_from _ _ (eq-eqb x y e) h)
 
-before-rest : (x y : ℕ) (xs ys : List ℕ) → x ≡ y → places_le (x ∷ xs) (y ∷ ys) ≡ false → places_le xs ys ≡ false
+before-rest : (x y : ℕ) (xs ys : List ℕ) → x ≡ y → places_le (x ∷ xs) (y ∷ ys) ≡ false
+    → places_le xs ys ≡ false
 before-rest x y xs ys same before = false_from_ne_true _ (λ h. both_ways _ before (by_rest x y xs ys same h))
 
 pub places_le-refl : (xs : List ℕ) → places_le xs xs ≡ true
 places_le-refl [] = refl
 places_le-refl (x ∷ xs) = by_rest x x xs xs refl (places_le-refl xs)
 
-pub places_le-trans : (xs ys zs : List ℕ) → places_le xs ys ≡ true → places_le ys zs ≡ true → places_le xs zs ≡ true
+pub places_le-trans : (xs ys zs : List ℕ) → places_le xs ys ≡ true → places_le ys zs ≡ true
+    → places_le xs zs ≡ true
 places_le-trans [] ys zs h g = refl
 places_le-trans (x ∷ xs) [] zs h g = absurd (false≢true h)
 places_le-trans (x ∷ xs) (y ∷ ys) [] h g = absurd (false≢true g)
@@ -73,11 +76,13 @@ pub at_most_from_before : (xs ys : List ℕ) → places_le ys xs ≡ false → p
 at_most_from_before xs ys before =
     elim (places_le-total xs ys) [ inl h ↦ h | inr h ↦ absurd (both_ways _ before h) ]
 
-pub before-trans_left : (xs ys zs : List ℕ) → places_le xs ys ≡ true → places_le zs ys ≡ false → places_le zs xs ≡ false
+pub before-trans_left : (xs ys zs : List ℕ) → places_le xs ys ≡ true → places_le zs ys ≡ false
+    → places_le zs xs ≡ false
 before-trans_left xs ys zs first second =
     false_from_ne_true _ (λ h. both_ways _ second (places_le-trans zs xs ys h first))
 
-pub before-trans_right : (xs ys zs : List ℕ) → places_le ys xs ≡ false → places_le ys zs ≡ true → places_le zs xs ≡ false
+pub before-trans_right : (xs ys zs : List ℕ) → places_le ys xs ≡ false → places_le ys zs ≡ true
+    → places_le zs xs ≡ false
 before-trans_right xs ys zs first second =
     false_from_ne_true _ (λ h. both_ways _ first (places_le-trans ys zs xs second h))
 
@@ -106,11 +111,14 @@ single_at_most p q rest l =
 pub first_at_most : (p q : ℕ) (rest : List ℕ) → places_le (p ∷ []) (q ∷ rest) ≡ true → p ≤ q
 first_at_most p q rest h = elim (heads p q [] rest h) [ inl less ↦ omega arith | inr same ↦ omega (arith, same.0) ]
 
-pub marks_at_most : (front : List ℕ) (p q : ℕ) (rest : List ℕ) → p ≤ q → places_le (front ++ p ∷ []) (front ++ q ∷ rest) ≡ true
+pub marks_at_most : (front : List ℕ) (p q : ℕ) (rest : List ℕ) → p ≤ q
+    → places_le (front ++ p ∷ []) (front ++ q ∷ rest) ≡ true
 marks_at_most front p q rest l = places_le-append front (p ∷ []) (q ∷ rest) ∙ single_at_most p q rest l
 
 -- what isn't before one mark and is before another goes on between them
-pub between_marks : (front : List ℕ) (a b : ℕ) (xs : List ℕ) → places_le (front ++ a ∷ []) xs ≡ true → places_le (front ++ b ∷ []) xs ≡ false → (p : ℕ) × (rest : List ℕ) × (xs ≡ front ++ p ∷ rest) × (a ≤ p) × (p < b)
+pub between_marks : (front : List ℕ) (a b : ℕ) (xs : List ℕ) → places_le (front ++ a ∷ []) xs ≡ true
+    → places_le (front ++ b ∷ []) xs ≡ false
+    → (p : ℕ) × (rest : List ℕ) × (xs ≡ front ++ p ∷ rest) × (a ≤ p) × (p < b)
 between_marks [] a b [] on before = absurd (false≢true on)
 between_marks [] a b (p ∷ rest) on before =
     let most : p < b = elim (cases_lt p b) [ inl less ↦ less | inr more ↦ absurd (both_ways _ before (single_at_most b p rest more)) ] in
@@ -126,7 +134,8 @@ between_marks (x ∷ front) a b (y ∷ xs) on before =
     ]
 
 -- nothing stands between a list and the same with the least place behind it
-pub nothing_between : (front xs : List ℕ) → places_le front xs ≡ true → places_le (front ++ 0 ∷ []) xs ≡ false → xs ≡ front
+pub nothing_between : (front xs : List ℕ) → places_le front xs ≡ true → places_le (front ++ 0 ∷ []) xs ≡ false
+    → xs ≡ front
 nothing_between [] [] on before = refl
 nothing_between [] (y ∷ xs) on before = absurd (both_ways _ before (single_at_most 0 y xs (omega arith)))
 nothing_between (x ∷ front) [] on before = absurd (false≢true on)

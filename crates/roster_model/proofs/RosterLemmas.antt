@@ -13,7 +13,8 @@ nowhere k p zero n h = refl
 nowhere k p (suc m) n h = cond-false (eqb n k) _ _ (ne_eqb n k (λ e. omega arith)) ∙ nowhere k (p + 1) m n h
 
 -- no person is given a pairing, and the empty set is legal
-pub all_open_legal : (problem : Problem) → IsLegalRoster problem (replicate (length problem.pairings) (length problem.persons))
+pub all_open_legal : (problem : Problem)
+    → IsLegalRoster problem (replicate (length problem.pairings) (length problem.persons))
 all_open_legal problem =
     let count : ℕ = length problem.pairings in
     let nobody : ℕ = length problem.persons in

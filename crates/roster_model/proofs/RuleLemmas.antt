@@ -27,7 +27,8 @@ rule_at rule = refl
 pub rules-ranked : IsRanking rank_of by_rank
 rules-ranked = record { at = rule_at; counts = refl }
 
-pub one_of_rank : {R : Type 0} (rank : R → ℕ) (ranked : List R) → IsRanking rank ranked → (a b : R) → rank a ≡ rank b → a ≡ b
+pub one_of_rank : {R : Type 0} (rank : R → ℕ) (ranked : List R) → IsRanking rank ranked → (a b : R)
+    → rank a ≡ rank b → a ≡ b
 one_of_rank rank ranked ranking a b same =
     same_Some a b (sym (ranking.at a) ∙ ap (slice_get ranked) same ∙ ranking.at b)
 
@@ -35,7 +36,8 @@ one_of_rank rank ranked ranking a b same =
 abbrev pub HoldBelow : {R : Type 0} → (R → ℕ) → (R → Type 0) → ℕ → Type 0
 HoldBelow {R} rank Says n = (r : R) → rank r < n → Says r
 
-module _ {R : Type 0} (rank : R → ℕ) (ranked : List R) (ranking : IsRanking rank ranked) (Says : R → Type 0) where
+module _ {R : Type 0} (rank : R → ℕ) (ranked : List R) (ranking : IsRanking rank ranked)
+    (Says : R → Type 0) where
   below-more : (a : R) → HoldBelow rank Says (rank a) → Says a → HoldBelow rank Says (suc (rank a))
   below-more a below here r before =
       elim (cases_eq (rank r) (rank a)) [
@@ -48,13 +50,16 @@ module _ {R : Type 0} (rank : R → ℕ) (ranked : List R) (ranking : IsRanking 
 
   -- ---- all in their order, by other names
 
-  module _ {X : Type 0} (seen : X → R) (names : List X) (i : ℕ) (d : X) (all : AreByRank ranked seen names) (inside : i < length names) where
+  module _ {X : Type 0} (seen : X → R) (names : List X) (i : ℕ) (d : X) (all : AreByRank ranked seen names)
+      (inside : i < length names) where
     rank_at : rank (seen (get_or names i d)) ≡ i
     rank_at =
         let long : length ranked ≡ length names = ap length (sym all) ∙ length-map names seen in
         let name : seen (get_or names i d) ≡ get_or ranked i (seen d) =
         sym (get_or-map seen names i d (seen d) inside) ∙ ap (λ rs. get_or rs i (seen d)) all in
-        ap rank name ∙ sym (get_or-map rank ranked i (seen d) 0 (omega arith)) ∙ ap (λ ns. get_or ns i 0) ranking.counts ∙ get_or-range_with_len 0 (length ranked) i 0 (omega arith) ∙ omega arith
+        ap rank name ∙ sym (get_or-map rank ranked i (seen d) 0 (omega arith))
+        ∙ ap (λ ns. get_or ns i 0) ranking.counts ∙ get_or-range_with_len 0 (length ranked) i 0 (omega arith)
+        ∙ omega arith
 
     -- what the next one says is so too,
     pub below-next : HoldBelow rank Says i → Says (seen (get_or names i d)) → HoldBelow rank Says (i + 1)
@@ -63,5 +68,6 @@ module _ {R : Type 0} (rank : R → ℕ) (ranked : List R) (ranking : IsRanking 
         below-more (seen (get_or names i d)) (subst (HoldBelow rank Says) (sym at) below) here r (omega arith)
 
     -- or it is the first that isn't
-    pub fails-first : HoldBelow rank Says i → ¬ Says (seen (get_or names i d)) → IsFirstFailing rank Says (Some (seen (get_or names i d)))
+    pub fails-first : HoldBelow rank Says i → ¬ Says (seen (get_or names i d))
+        → IsFirstFailing rank Says (Some (seen (get_or names i d)))
     fails-first below fails = (fails, subst (HoldBelow rank Says) (sym rank_at) below)

@@ -31,7 +31,8 @@ head_below p (q ∷ set) rises =
 
 pub Ascends-from_rising : (set : List ℕ) → IsStrictlyIncreasing set → Ascends set
 Ascends-from_rising [] rises = tt
-Ascends-from_rising (p ∷ set) rises = (head_below p set rises, Ascends-from_rising set (tail_rises p set rises))
+Ascends-from_rising (p ∷ set) rises =
+    (head_below p set rises, Ascends-from_rising set (tail_rises p set rises))
 
 pub rising_from_Ascends : (set : List ℕ) → Ascends set → IsStrictlyIncreasing set
 rising_from_Ascends [] up k inside = absurd (omega arith)
@@ -55,7 +56,8 @@ Ascends-push (r ∷ set) p up below =
     (All-push (λ q. r < q) set p up.0 (All-head (λ q. q < p) r set below), Ascends-push set p up.1 (All-tail (λ q. q < p) r set below))
 
 -- one ascending list behind another
-pub Ascends-append : (set more : List ℕ) (p : ℕ) → Ascends set → Ascends more → All (λ q. q < p) set → All (λ q. p ≤ q) more → Ascends (set ++ more)
+pub Ascends-append : (set more : List ℕ) (p : ℕ) → Ascends set → Ascends more → All (λ q. q < p) set
+    → All (λ q. p ≤ q) more → Ascends (set ++ more)
 Ascends-append [] more p up later below above = later
 Ascends-append (r ∷ set) more p up later below above =
     let first : r < p = All-head (λ q. q < p) r set below in
@@ -63,17 +65,23 @@ Ascends-append (r ∷ set) more p up later below above =
     (All-append (λ q. r < q) set more up.0 (All-weaker (λ q. p ≤ q) (λ q. r < q) (λ q l. omega arith) more above), Ascends-append set more p up.1 later rest above)
 
 -- as many places as lie between its bounds, at most
-ascending_length : (set : List ℕ) (p n : ℕ) → Ascends set → All (λ i. p ≤ i) set → All (λ i. i < n) set → p ≤ n → length set + p ≤ n
+ascending_length : (set : List ℕ) (p n : ℕ) → Ascends set → All (λ i. p ≤ i) set → All (λ i. i < n) set
+    → p ≤ n → length set + p ≤ n
 ascending_length [] p n up above below l = omega arith
 ascending_length (i ∷ set) p n up above below l =
     let first : p ≤ i = All-head (λ i. p ≤ i) i set above in
     let last : i < n = All-head (λ i. i < n) i set below in
-    let rest = ascending_length set (i + 1) n up.1 (All-weaker (λ j. i < j) (λ j. i + 1 ≤ j) (λ j h. omega arith) set up.0) (All-tail (λ i. i < n) i set below) (omega arith) in
+    let rest =
+    ascending_length set (i + 1) n up.1
+    (All-weaker (λ j. i < j) (λ j. i + 1 ≤ j) (λ j h. omega arith) set up.0)
+    (All-tail (λ i. i < n) i set below) (omega arith) in
     omega arith
 
 pub length_within : (set : List ℕ) (n : ℕ) → IsStrictlyIncreasing set → All (λ i. i < n) set → length set ≤ n
 length_within set n rises below =
-    let all = ascending_length set 0 n (Ascends-from_rising set rises) (λ k d inside. omega arith) below (omega arith) in
+    let all =
+    ascending_length set 0 n (Ascends-from_rising set rises) (λ k d inside. omega arith) below
+    (omega arith) in
     omega arith
 
 -- ---- what a set has
@@ -91,11 +99,14 @@ is_among-before p q (r ∷ set) above most =
     let other : r ≡ q → ⊥ = λ e. omega arith in
     is_among-later r q set other ∙ is_among-before p q set (All-tail (λ r. p < r) r set above) most
 
-pub is_among-append : (set more : List ℕ) (p : ℕ) → is_among (set ++ more) p ≡ (is_among set p || is_among more p)
+pub is_among-append : (set more : List ℕ) (p : ℕ)
+    → is_among (set ++ more) p ≡ (is_among set p || is_among more p)
 is_among-append set more p = list_any-append (λ q. eqb q p) set more
 
-pub is_among-filter : (test : ℕ → Bool) (set : List ℕ) (p : ℕ) → is_among (filter test set) p ≡ (test p && is_among set p)
-is_among-filter test set p = any-filter_same (λ q. eqb q p) test (test p) (λ q same. ap test (eqb-true q p same)) set
+pub is_among-filter : (test : ℕ → Bool) (set : List ℕ) (p : ℕ)
+    → is_among (filter test set) p ≡ (test p && is_among set p)
+is_among-filter test set p =
+    any-filter_same (λ q. eqb q p) test (test p) (λ q same. ap test (eqb-true q p same)) set
 
 pub is_among-from_Contains : (set : List ℕ) (p : ℕ) → Contains set p → is_among set p ≡ true
 is_among-from_Contains set p h = list_any_at (λ q. eqb q p) set h.0 p h.1 (eq-eqb _ p h.2)
@@ -113,11 +124,14 @@ All-is_among P set p all h =
     subst P there.2 (all there.0 p there.1)
 
 pub All-from_is_among : (P : ℕ → Type 0) (set : List ℕ) → ((p : ℕ) → is_among set p ≡ true → P p) → All P set
-All-from_is_among P set each k d inside = each (get_or set k d) (list_any_at (λ q. eqb q (get_or set k d)) set k d inside (eq-eqb _ _ refl))
+All-from_is_among P set each k d inside =
+    each (get_or set k d) (list_any_at (λ q. eqb q (get_or set k d)) set k d inside (eq-eqb _ _ refl))
 
 -- ---- two sets that have the same places are one
 
-same_tails : (p : ℕ) (set others : List ℕ) → Ascends (p ∷ set) → Ascends (p ∷ others) → ((q : ℕ) → is_among (p ∷ set) q ≡ is_among (p ∷ others) q) → (q : ℕ) → is_among set q ≡ is_among others q
+same_tails : (p : ℕ) (set others : List ℕ) → Ascends (p ∷ set) → Ascends (p ∷ others)
+    → ((q : ℕ) → is_among (p ∷ set) q ≡ is_among (p ∷ others) q) → (q : ℕ)
+    → is_among set q ≡ is_among others q
 same_tails p set others up down same q =
     elim (cases_eq p q) [
       | inl here ↦ is_among-before p q set up.0 (omega arith) ∙ sym (is_among-before p q others down.0 (omega arith))
@@ -125,13 +139,16 @@ same_tails p set others up down same q =
     ]
 
 -- the first place of one isn't below that of the other
-not_below : (p q : ℕ) (set others : List ℕ) → Ascends (q ∷ others) → is_among (p ∷ set) p ≡ is_among (q ∷ others) p → p < q → ⊥
+not_below : (p q : ℕ) (set others : List ℕ) → Ascends (q ∷ others)
+    → is_among (p ∷ set) p ≡ is_among (q ∷ others) p → p < q → ⊥
 not_below p q set others up same l =
     let other : q ≡ p → ⊥ = λ e. omega arith in
-    let none : is_among (q ∷ others) p ≡ false = is_among-later q p others other ∙ is_among-before q p others up.0 (omega arith) in
+    let none : is_among (q ∷ others) p ≡ false =
+    is_among-later q p others other ∙ is_among-before q p others up.0 (omega arith) in
     both_ways _ none (sym same ∙ is_among-here p set)
 
-pub same_set : (set others : List ℕ) → Ascends set → Ascends others → ((p : ℕ) → is_among set p ≡ is_among others p) → set ≡ others
+pub same_set : (set others : List ℕ) → Ascends set → Ascends others
+    → ((p : ℕ) → is_among set p ≡ is_among others p) → set ≡ others
 same_set [] [] up down same = refl
 same_set [] (q ∷ others) up down same =
     let none : is_among (q ∷ others) q ≡ false = sym (same q) in
@@ -159,13 +176,16 @@ empty_set (p ∷ set) none = absurd (both_ways _ (none p) (is_among-here p set))
 
 -- ---- the set of a number in a list
 
-places_from_first : (k first : ℕ) (places : List ℕ) → All (λ p. first ≤ p) (places_with k first places) × Ascends (places_with k first places)
+places_from_first : (k first : ℕ) (places : List ℕ)
+    → All (λ p. first ≤ p) (places_with k first places) × Ascends (places_with k first places)
 places_from_first k first [] = (All-nil (λ p. first ≤ p), tt)
 places_from_first k first (x ∷ places) =
     let rest = places_from_first k (first + 1) places in
     let later = All-weaker (λ p. first + 1 ≤ p) (λ p. first < p) (λ p l. omega arith) _ rest.0 in
     let P : Bool → Type 0 = λ b. All (λ p. first ≤ p) (cond b (first ∷ places_with k (first + 1) places) (places_with k (first + 1) places)) × Ascends (cond b (first ∷ places_with k (first + 1) places) (places_with k (first + 1) places)) in
-    let weak = All-weaker (λ p. first + 1 ≤ p) (λ p. first ≤ p) (λ p l. omega arith) (places_with k (first + 1) places) rest.0 in
+    let weak =
+    All-weaker (λ p. first + 1 ≤ p) (λ p. first ≤ p) (λ p l. omega arith)
+    (places_with k (first + 1) places) rest.0 in
     elim (eqb x k) as P [
       | true ↦ (All-cons (λ p. first ≤ p) first _ (omega arith) weak, (later, rest.1))
       | false ↦ (weak, rest.1)

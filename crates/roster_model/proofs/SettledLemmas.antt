@@ -19,19 +19,22 @@ unfolding key
 held-key problem new held = ap (λ cost. key cost new.places) held.cost
 
 -- places with their cost are the key of an equal list
-pub key_of-same : (problem : Problem) (cost : ℤ) (places others : List ℕ) → cost ≡ cost_of problem places → others ≡ places → key_of problem others ≡ record { cost = cost; places = places }
+pub key_of-same : (problem : Problem) (cost : ℤ) (places others : List ℕ) → cost ≡ cost_of problem places
+    → others ≡ places → key_of problem others ≡ record { cost = cost; places = places }
 unfolding key
 key_of-same problem cost places others costs is = ap (key_of problem) is ∙ ap (λ z. key z places) (sym costs)
 
 -- ---- what is settled
 
 -- an earlier key is no later than the old one
-kept_before : (old : Option Key) (mid new : Key) → key_le new mid ≡ true → IfSome old (λ k. key_le mid k ≡ true) → IfSome old (λ k. key_le new k ≡ true)
+kept_before : (old : Option Key) (mid new : Key) → key_le new mid ≡ true
+    → IfSome old (λ k. key_le mid k ≡ true) → IfSome old (λ k. key_le new k ≡ true)
 kept_before None mid new h kept = tt
 kept_before (Some k) mid new h kept = key_le-trans new mid k h kept
 
 -- nothing is tried
-pub Settles-nothing : (problem : Problem) (Region Own : List ℕ → Type 0) (old : Key) → IsHeld problem old → ((others : List ℕ) → Region others → ⊥) → Settles problem Region Own (Some old) old
+pub Settles-nothing : (problem : Problem) (Region Own : List ℕ → Type 0) (old : Key) → IsHeld problem old
+    → ((others : List ℕ) → Region others → ⊥) → Settles problem Region Own (Some old) old
 Settles-nothing problem Region Own old held nothing = record {
   held = held;
   kept = key_le-refl old;
@@ -40,7 +43,10 @@ Settles-nothing problem Region Own old held nothing = record {
 }
 
 -- a region in which every legal roster lies in one that is settled
-pub Settles-within : (problem : Problem) (Region Inner Own : List ℕ → Type 0) (old : Option Key) (new : Key) → Settles problem Region Own old new → ((others : List ℕ) → IsLegalRoster problem others → Inner others → Region others) → Settles problem Inner Own old new
+pub Settles-within : (problem : Problem) (Region Inner Own : List ℕ → Type 0) (old : Option Key) (new : Key)
+    → Settles problem Region Own old new
+    → ((others : List ℕ) → IsLegalRoster problem others → Inner others → Region others)
+    → Settles problem Inner Own old new
 Settles-within problem Region Inner Own old new settled covers = record {
   held = settled.held;
   kept = settled.kept;
@@ -49,7 +55,10 @@ Settles-within problem Region Inner Own old new settled covers = record {
 }
 
 -- a new roster may lie in more than it has to
-pub Settles-wider : (problem : Problem) (Region Own Wider : List ℕ → Type 0) (old : Option Key) (new : Key) → Settles problem Region Own old new → ((places : List ℕ) → IsLegalRoster problem places → Own places → Wider places) → Settles problem Region Wider old new
+pub Settles-wider : (problem : Problem) (Region Own Wider : List ℕ → Type 0) (old : Option Key) (new : Key)
+    → Settles problem Region Own old new
+    → ((places : List ℕ) → IsLegalRoster problem places → Own places → Wider places)
+    → Settles problem Region Wider old new
 Settles-wider problem Region Own Wider old new settled covers = record {
   held = settled.held;
   kept = settled.kept;
@@ -74,7 +83,8 @@ Settles-then problem First Second Both Own old mid new first second covers = rec
 }
 
 -- if the new roster lies in the region, it is the least there
-pub Settles-least : (problem : Problem) (Region Own : List ℕ → Type 0) (old : Option Key) (new : Key) → Settles problem Region Own old new → Region new.places → IsLeastIn problem Region new.places
+pub Settles-least : (problem : Problem) (Region Own : List ℕ → Type 0) (old : Option Key) (new : Key)
+    → Settles problem Region Own old new → Region new.places → IsLeastIn problem Region new.places
 Settles-least problem Region Own old new settled inside = record {
   is_legal = settled.held.legal;
   inside = inside;
@@ -82,7 +92,8 @@ Settles-least problem Region Own old new settled inside = record {
 }
 
 -- if the region has all lists, the key is that of the best roster
-pub Settles-all : (problem : Problem) (Region Own : List ℕ → Type 0) (old : Option Key) (new : Key) → Settles problem Region Own old new → ((others : List ℕ) → Region others) → IsBest problem new.places
+pub Settles-all : (problem : Problem) (Region Own : List ℕ → Type 0) (old : Option Key) (new : Key)
+    → Settles problem Region Own old new → ((others : List ℕ) → Region others) → IsBest problem new.places
 Settles-all problem Region Own old new settled all =
     let whole = Settles-within problem Region Anywhere Own old new settled (λ others _ _. all others) in
     Settles-least problem Anywhere Own old new whole tt
@@ -90,10 +101,14 @@ Settles-all problem Region Own old new settled all =
 -- ---- one list
 
 -- a legal roster that comes before the one held
-pub Settles-taken : (problem : Problem) (Own : List ℕ → Type 0) (old : Key) (cost : ℤ) (places taken : List ℕ) → cost ≡ cost_of problem places → taken ≡ places → IsLegalRoster problem places → Own places → key_le old (record { cost = cost; places = places }) ≡ false → Settles problem (λ others. others ≡ places) Own (Some old) (record { cost = cost; places = taken })
+pub Settles-taken : (problem : Problem) (Own : List ℕ → Type 0) (old : Key) (cost : ℤ) (places taken : List ℕ)
+    → cost ≡ cost_of problem places → taken ≡ places → IsLegalRoster problem places → Own places
+    → key_le old (record { cost = cost; places = places }) ≡ false
+    → Settles problem (λ others. others ≡ places) Own (Some old) (record { cost = cost; places = taken })
 unfolding key
 Settles-taken problem Own old cost places taken costs copied legal own after =
-    subst (λ xs. Settles problem (λ others. others ≡ places) Own (Some old) (key cost xs)) (sym copied) (record {
+    subst (λ xs. Settles problem (λ others. others ≡ places) Own (Some old) (key cost xs)) (sym copied)
+    (record {
       held = record { legal = legal; cost = costs };
       kept = key_le-other old (key cost places) after;
       least = λ others _ is. subst (λ k. key_le (key cost places) k ≡ true) (sym (key_of-same problem cost places others costs is)) (key_le-refl (key cost places));
@@ -101,7 +116,10 @@ Settles-taken problem Own old cost places taken costs copied legal own after =
     })
 
 -- a roster that doesn't come before the one held
-pub Settles-left : (problem : Problem) (Own : List ℕ → Type 0) (old : Key) (cost : ℤ) (places : List ℕ) → IsHeld problem old → cost ≡ cost_of problem places → key_le old (record { cost = cost; places = places }) ≡ true → Settles problem (λ others. others ≡ places) Own (Some old) old
+pub Settles-left : (problem : Problem) (Own : List ℕ → Type 0) (old : Key) (cost : ℤ) (places : List ℕ)
+    → IsHeld problem old → cost ≡ cost_of problem places
+    → key_le old (record { cost = cost; places = places }) ≡ true
+    → Settles problem (λ others. others ≡ places) Own (Some old) old
 unfolding key
 Settles-left problem Own old cost places held costs before = record {
   held = held;
@@ -111,7 +129,9 @@ Settles-left problem Own old cost places held costs before = record {
 }
 
 -- a list that is no legal roster
-pub Settles-illegal : (problem : Problem) (Own : List ℕ → Type 0) (old : Key) (places : List ℕ) → IsHeld problem old → (IsLegalRoster problem places → ⊥) → Settles problem (λ others. others ≡ places) Own (Some old) old
+pub Settles-illegal : (problem : Problem) (Own : List ℕ → Type 0) (old : Key) (places : List ℕ)
+    → IsHeld problem old → (IsLegalRoster problem places → ⊥)
+    → Settles problem (λ others. others ≡ places) Own (Some old) old
 Settles-illegal problem Own old places held illegal = record {
   held = held;
   kept = key_le-refl old;

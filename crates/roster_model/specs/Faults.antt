@@ -63,13 +63,15 @@ fault_at row code = record { row = row; code = number_of_code code }
 -- the first pairing without a duty, with its place
 abbrev pub pairing_without_duty : Problem → Option (ℕ × Pairing)
 pairing_without_duty tables =
-    find (λ (entry : ℕ × Pairing). not (list_any (λ d. duty.is_held_by_pairing entry.0 d.holder) tables.duties))
+    find
+    (λ (entry : ℕ × Pairing). not (list_any (λ d. duty.is_held_by_pairing entry.0 d.holder) tables.duties))
     (enumerate_from 0 tables.pairings)
 
 -- after the last record, a pairing without a duty is told, with its record
 unfoldable pub missing_duty : List Record → Option Fault
 missing_duty records =
-    option_map (λ (entry : ℕ × Pairing). fault_at entry.1.row NoDuty) (pairing_without_duty (tables_in records))
+    option_map (λ (entry : ℕ × Pairing). fault_at entry.1.row NoDuty)
+    (pairing_without_duty (tables_in records))
 
 abbrev pub fault_or : Option Code → ℕ → Option Fault → Option Fault
 fault_or (Some code) row later = Some (fault_at row code)

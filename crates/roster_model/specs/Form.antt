@@ -14,7 +14,8 @@ is_identifier_byte c = is_ascii_alphanumeric c || (c == 95) || (c == 45)
 -- such bytes, as many as a name may have, of which the first is a letter or a digit
 unfoldable pub is_identifier : List ℕ → Bool
 is_identifier text =
-    is_in_range 1 MOST_NAME_BYTES (length text) && is_ascii_alphanumeric (slice_index text 0) && list_all is_identifier_byte text
+    is_in_range 1 MOST_NAME_BYTES (length text) && is_ascii_alphanumeric
+    (slice_index text 0) && list_all is_identifier_byte text
 
 -- what follows a minus, or the whole text
 abbrev pub unsigned_part : List ℕ → List ℕ

@@ -47,7 +47,8 @@ pub record AreTables (problem : Problem) (tables : List (List (List ℕ))) : Typ
 -- One number for each person, that of a line. The lists of them are the box.
 pub record IsInBox (tables : List (List (List ℕ))) (numbers : List ℕ) : Type 0 where
   pub covers : length numbers ≡ length tables
-  pub numbered : (k i : ℕ) (sets : List (List ℕ)) → slice_get numbers k ≡ Some i → slice_get tables k ≡ Some sets → i < length sets
+  pub numbered : (k i : ℕ) (sets : List (List ℕ)) → slice_get numbers k ≡ Some i
+      → slice_get tables k ≡ Some sets → i < length sets
 
 -- the numbers are those of each person's set in the list of places
 pub record AreNumbersOf (tables : List (List (List ℕ))) (places numbers : List ℕ) : Type 0 where

@@ -88,7 +88,8 @@ abbrev pub next_row : List Record → ℕ
 next_row before = length before + 1
 
 -- What one record adds to a table, gathered from all records; each is seen with those before it.
-unfoldable pub gather_after : {X : Type 0} → (List Record → Record → Option X) → List Record → List Record → List X
+unfoldable pub gather_after : {X : Type 0} → (List Record → Record → Option X) → List Record → List Record
+    → List X
 gather_after entry before [] = []
 gather_after entry before (fields ∷ rest) =
     cons_option (entry before fields) (gather_after entry (before ++ fields ∷ []) rest)

@@ -122,7 +122,8 @@ Holds problem k set LeaveRule = KeepsLeave (leaves_of problem k) (duty_list prob
 Holds problem k set RestRule = KeepsRest (home_of problem k) (duty_list problem k set)
 Holds problem k set RecoveryRule = KeepsRecovery (home_of problem k).days (duty_list problem k set)
 Holds problem k set (LimitRule limit) =
-    HoldsLimit (home_of problem k).days (duty_list problem k set) (year_of problem k) (eleven_of problem k) limit
+    HoldsLimit (home_of problem k).days (duty_list problem k set) (year_of problem k)
+    (eleven_of problem k) limit
 Holds problem k set DaysOffRule = KeepsDaysOff (home_of problem k).days (duty_list problem k set)
 
 -- A set is legal for a person if it is empty or no rule is broken.
@@ -141,7 +142,8 @@ abbrev pub IsFirstBroken : Problem → ℕ → List ℕ → Option Rule → Type
 IsFirstBroken problem k set broken = IsFirstFailing rank_of (Holds problem k set) broken
 
 -- the first limit that a duty list breaks, if there is one, as a rule
-pub record IsFirstLimit (days : Days) (list : List Duty) (year eleven : ℕ) (broken : Option Rule) : Type 0 where
+pub record IsFirstLimit (days : Days) (list : List Duty) (year eleven : ℕ)
+    (broken : Option Rule) : Type 0 where
   pub limit : Option Limit
   pub rule : broken ≡ option_map LimitRule limit
   pub first : IsFirstFailing rank_of_limit (HoldsLimit days list year eleven) limit
@@ -158,7 +160,8 @@ abbrev pub IsLock : Problem → ℕ → Option Rule → Type 0
 IsLock problem k lock = IsFirstBroken problem k [] lock
 
 -- for each person, in book order, a rule or none, of which this is said
-pub record AreOfEach (Says : ℕ → Option Rule → Type 0) (problem : Problem) (rules : List (Option Rule)) : Type 0 where
+pub record AreOfEach (Says : ℕ → Option Rule → Type 0) (problem : Problem)
+    (rules : List (Option Rule)) : Type 0 where
   pub covers : length rules ≡ length problem.persons
   pub each : (k : ℕ) (rule : Option Rule) → slice_get rules k ≡ Some rule → Says k rule
 

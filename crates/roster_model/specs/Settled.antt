@@ -17,7 +17,8 @@ IsNotAfter problem Region key =
 
 -- The new key is that of a legal roster, isn't after the old one, if there is one, and isn't after that of
 -- any legal roster in the region. It lies where the last condition says, if it isn't the old one.
-pub record Settles (problem : Problem) (Region Own : List ℕ → Type 0) (old : Option Key) (new : Key) : Type 0 where
+pub record Settles (problem : Problem) (Region Own : List ℕ → Type 0) (old : Option Key)
+    (new : Key) : Type 0 where
   pub held : IsHeld problem new
   pub kept : IfSome old (λ key. key_le new key ≡ true)
   pub least : IsNotAfter problem Region new
@@ -55,4 +56,5 @@ IsFoundWithin problem Region most (Some key) = IsWithinCost problem Region most 
 
 -- no legal roster costs less
 abbrev pub IsLowerBound : Problem → ℤ → Type 0
-IsLowerBound problem bound = (places : List ℕ) → IsLegalRoster problem places → bound ≤ℤ cost_of problem places
+IsLowerBound problem bound =
+    (places : List ℕ) → IsLegalRoster problem places → bound ≤ℤ cost_of problem places

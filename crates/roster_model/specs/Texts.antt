@@ -19,7 +19,8 @@ line_of words = join_with_byte 32 words ++ 10 ∷ []
 
 -- `YYYY-MM`
 abbrev pub period_text : Period → List ℕ
-period_text period = decimal period.year ++ codes "-" ++ decimal (period.month / 10) ++ decimal (period.month % 10)
+period_text period =
+    decimal period.year ++ codes "-" ++ decimal (period.month / 10) ++ decimal (period.month % 10)
 
 -- the names of the pairings in a set, or a dash
 abbrev pub names_of : Problem → List ℕ → List (List ℕ)

@@ -25,7 +25,8 @@ wants between problem k set = IsBetween between.must between.may set
 
 -- a legal roster of the neighbourhood has lines of the table
 pub of_near : (problem : Problem) (wanted : List Between) (table : List (List Entry))
-    → AreListed problem table → AreAllWanted wants problem wanted table → length wanted ≡ length problem.persons → HasAllNear problem wanted table
+    → AreListed problem table → AreAllWanted wants problem wanted table
+    → length wanted ≡ length problem.persons → HasAllNear problem wanted table
 of_near problem wanted table listed all covers places legal near k inside =
     let person : k < length problem.persons = omega (arith, inside, listed.covers) in
     let none : List Entry = [] in
@@ -48,7 +49,8 @@ first_true true b is = refl
 first_true false b is = absurd (false≢true is)
 
 -- which has one more with each step
-pub HasAll-next : (p : ℕ) (old new : List ℕ) → HasAll p old → ((q : ℕ) → is_among new q ≡ (is_among old q || eqb p q)) → HasAll (p + 1) new
+pub HasAll-next : (p : ℕ) (old new : List ℕ) → HasAll p old
+    → ((q : ℕ) → is_among new q ≡ (is_among old q || eqb p q)) → HasAll (p + 1) new
 HasAll-next p old new has members q below = elim (cases_lt q p) [
   | inl before ↦ members q ∙ first_true (is_among old q) (eqb p q) (has q before)
   | inr after ↦ members q ∙ either_true (is_among old q) (eqb p q) (eq-eqb p q (omega arith))
@@ -60,10 +62,12 @@ pub record IsFree (problem : Problem) (base k : ℕ) (between : Between) : Type 
   pub may : base_of_person problem k ≡ base → HasAll (length problem.pairings) between.may
 
 abbrev pub AreFree : Problem → ℕ → List Between → Type 0
-AreFree problem base wanted = (k : ℕ) (between : Between) → slice_get wanted k ≡ Some between → IsFree problem base k between
+AreFree problem base wanted =
+    (k : ℕ) (between : Between) → slice_get wanted k ≡ Some between → IsFree problem base k between
 
 -- so each legal roster in which only persons of the base fly is near
-pub free_near : (problem : Problem) (base : ℕ) (wanted : List Between) (places : List ℕ) → AreFree problem base wanted → length wanted ≡ length problem.persons
+pub free_near : (problem : Problem) (base : ℕ) (wanted : List Between) (places : List ℕ)
+    → AreFree problem base wanted → length wanted ≡ length problem.persons
     → IsLegalRoster problem places → IsHome problem base places → IsNear wanted places
 free_near problem base wanted places free covers legal home k between at =
     let is = free k between at in

@@ -29,20 +29,25 @@ use Rattle.roster_pricing.proofs.HomeLemmas.{nobody}
 use Rattle.roster_pricing.proofs.ShareLemmas.{bound_below, parts_of_cost, reduced_more, reduced_none, IsPriced, IsShared}
 
 -- the end of a chain is one behind the pairing before it
-chain_behind : (followers : List (List ℕ)) (first set : List ℕ) (p : ℕ) (rest : List ℕ) → IsChain followers first (set ++ p ∷ rest) → IsChain followers (followers_of followers p) rest
+chain_behind : (followers : List (List ℕ)) (first set : List ℕ) (p : ℕ) (rest : List ℕ)
+    → IsChain followers first (set ++ p ∷ rest) → IsChain followers (followers_of followers p) rest
 unfolding IsChain
 chain_behind followers first [] p rest chain = chain.1
-chain_behind followers first (q ∷ set) p rest chain = chain_behind followers (followers_of followers q) set p rest chain.1
+chain_behind followers first (q ∷ set) p rest chain =
+    chain_behind followers (followers_of followers q) set p rest chain.1
 
 -- what the set brought, the pairing, and the least that may follow it
-pub least_behind_is : (problem : Problem) (network : Network) (values : List ℤ) (rows : List (List ℤ)) (set : List ℕ) (p : ℕ) (value : ℤ) (state : ℕ) (behind : List ℤ)
+pub least_behind_is : (problem : Problem) (network : Network) (values : List ℤ) (rows : List (List ℤ))
+    (set : List ℕ) (p : ℕ) (value : ℤ) (state : ℕ) (behind : List ℤ)
     → AreRows problem network values rows → 0 < length network.terms.items → p < length problem.pairings
     → slice_get rows (length problem.pairings - 1 - p) ≡ Some behind → IsAlong network values set value state
     → IsLeastBehind network values set p (value +ℤ (value_at values p +ℤ value_at behind (next_state (length network.terms.items) state (get_or network.steps.items p 0))))
 least_behind_is problem network values rows set p value state behind are some inside at along rest chain =
     let next : ℕ = next_state (length network.terms.items) state (get_or network.steps.items p 0) in
     let follows = chain_behind network.followers.items network.first set p rest chain in
-    let below = (are.each p behind inside at).below next (next_inside (length network.terms.items) state (get_or network.steps.items p 0) some) rest follows in
+    let below =
+    (are.each p behind inside at).below next
+    (next_inside (length network.terms.items) state (get_or network.steps.items p 0) some) rest follows in
     let whole = along.brought (p ∷ rest) in
     let step = chain-cons network values state p rest in
     omega (arith, ints, below, whole, step)
@@ -50,7 +55,8 @@ least_behind_is problem network values rows set p value state behind are some in
 -- ---- what persons' reduced costs are at least
 
 -- of nobody
-pub leasts_none : (problem : Problem) (prices : List ℤ) (base : ℕ) → AreLeasts problem prices base 0 (pos 0) []
+pub leasts_none : (problem : Problem) (prices : List ℤ) (base : ℕ)
+    → AreLeasts problem prices base 0 (pos 0) []
 leasts_none problem prices base = record {
   covers = refl;
   small = All-nil (IsWithin MOST_LEAST);
@@ -65,21 +71,24 @@ pub record IsLeastIn (problem : Problem) (prices : List ℤ) (base k : ℕ) (lea
   pub within : IsWithin MOST_LEAST least
 
 -- what is so of all lines is so of those of rosters
-pub least_home : (problem : Problem) (prices : List ℤ) (base k : ℕ) (least : ℤ) → IsLeastOf problem prices k least → k < length problem.persons → IsLeastIn problem prices base k least
+pub least_home : (problem : Problem) (prices : List ℤ) (base k : ℕ) (least : ℤ)
+    → IsLeastOf problem prices k least → k < length problem.persons → IsLeastIn problem prices base k least
 least_home problem prices base k least is person = record {
   below = λ places roster home. is.below (set_of k places) (given_line problem k places roster person);
   within = is.within;
 }
 
 -- who is of another base flies nothing
-pub least_away : (problem : Problem) (prices : List ℤ) (base k : ℕ) (person : Person) → slice_get problem.persons k ≡ Some person → person.base ≢ base → IsLeastIn problem prices base k (pos 0)
+pub least_away : (problem : Problem) (prices : List ℤ) (base k : ℕ) (person : Person)
+    → slice_get problem.persons k ≡ Some person → person.base ≢ base → IsLeastIn problem prices base k (pos 0)
 least_away problem prices base k person is other = record {
   below = λ places roster home. subst (λ set. pos 0 ≤ℤ reduced problem prices k set) (sym (home k person is other)) (omega (arith, ints, total-nil (price_at prices)));
   within = (omega (arith, ints), omega (arith, ints));
 }
 
 -- of one person more
-pub leasts_more : (problem : Problem) (prices : List ℤ) (base k : ℕ) (sum least : ℤ) (each : List ℤ) → AreLeasts problem prices base k sum each → IsLeastIn problem prices base k least
+pub leasts_more : (problem : Problem) (prices : List ℤ) (base k : ℕ) (sum least : ℤ) (each : List ℤ)
+    → AreLeasts problem prices base k sum each → IsLeastIn problem prices base k least
     → AreLeasts problem prices base (k + 1) (sum +ℤ least) (each ++ least ∷ [])
 leasts_more problem prices base k sum least each are is = record {
   covers = length_push each least ∙ ap (λ n. n + 1) are.covers;
@@ -93,7 +102,8 @@ leasts_more problem prices base k sum least each are is = record {
         (omega (arith, ints, last, are.below places roster home, reduced_more problem prices k places))
     | inr other ↦
         let before : j < k = omega (arith, inside, other) in
-        let kept : value_at (each ++ least ∷ []) j ≡ value_at each j = get_or_append_left each (least ∷ []) (pos 0) j (omega (arith, before, are.covers)) in
+        let kept : value_at (each ++ least ∷ []) j ≡ value_at each j =
+        get_or_append_left each (least ∷ []) (pos 0) j (omega (arith, before, are.covers)) in
         omega (arith, ints, kept, are.near places roster home j before, is.below places roster home, reduced_more problem prices k places)
   ];
 }
@@ -102,7 +112,9 @@ leasts_more problem prices base k sum least each are is = record {
 
 -- so no roster of the base costs less than all that comes to, and none of its persons' reduced costs is far
 -- above the least
-pub look_is : (problem : Problem) (prices : List ℤ) (base : ℕ) (sum terms units : ℤ) (each : List ℤ) → ((places : List ℕ) → IsLegalRoster problem places → IsShared problem places) → ((places : List ℕ) → IsLegalRoster problem places → IsPriced problem prices places)
+pub look_is : (problem : Problem) (prices : List ℤ) (base : ℕ) (sum terms units : ℤ) (each : List ℤ)
+    → ((places : List ℕ) → IsLegalRoster problem places → IsShared problem places)
+    → ((places : List ℕ) → IsLegalRoster problem places → IsPriced problem prices places)
     → AreLeasts problem prices base (length problem.persons) sum each
     → EachHomeRoster problem base (λ places. terms ≤ℤ shares_behind problem prices 0 places)
     → ((more : ℤ) → (sum +ℤ terms) ≤ℤ (pos PARTS *ℤ more) → units ≤ℤ more)
@@ -121,7 +133,8 @@ look_is problem prices base sum terms units each shared priced are pairings leas
 -- in a roster of the base that costs no more than so many units above the bound no person's reduced cost is
 -- above the limit
 pub cheap_enough : (problem : Problem) (prices leasts : List ℤ) (base : ℕ) (bound least limit : ℤ) (gap k : ℕ) (places : List ℕ) → IsLook problem prices base bound leasts → IsLegalRoster problem places → IsHome problem base places → k < length problem.persons
-    → cost_of problem places ≤ℤ (bound +ℤ pos gap) → least ≡ value_at leasts k → limit ≡ least +ℤ (pos PARTS *ℤ (pos gap +ℤ pos 1))
+    → cost_of problem places ≤ℤ (bound +ℤ pos gap) → least ≡ value_at leasts k
+    → limit ≡ least +ℤ (pos PARTS *ℤ (pos gap +ℤ pos 1))
     → reduced problem prices k (set_of k places) ≤ℤ limit
 cheap_enough problem prices leasts base bound least limit gap k places look roster home person cost own is =
     let near = look.near places roster home k person in
@@ -142,18 +155,21 @@ pub cheap_more : (problem : Problem) (base : ℕ) (bound : ℤ) (gap k : ℕ) (t
 cheap_more problem base bound gap k table lines long before here places roster home cost j inside =
     elim (cases_eq j k) [
       | inl same ↦
-          let last : lines_at (table ++ lines ∷ []) j ≡ lines = get_or_push table lines [] j (long ∙ sym same) in
+          let last : lines_at (table ++ lines ∷ []) j ≡ lines =
+          get_or_push table lines [] j (long ∙ sym same) in
           let found = here places roster home cost in
           (found.0, ap (λ ls. slice_get (sets_of ls) found.0) last ∙ found.1 ∙ ap (λ i. Some (set_of i places)) (sym same))
       | inr other ↦
-          let kept : lines_at (table ++ lines ∷ []) j ≡ lines_at table j = get_or_append_left table (lines ∷ []) [] j (omega (arith, inside, other, long)) in
+          let kept : lines_at (table ++ lines ∷ []) j ≡ lines_at table j =
+          get_or_append_left table (lines ∷ []) [] j (omega (arith, inside, other, long)) in
           let found = before places roster home cost j (omega (arith, inside, other)) in
           (found.0, ap (λ ls. slice_get (sets_of ls) found.0) kept ∙ found.1)
     ]
 
 -- what the lines of person k have that a cheap roster of the base gives
 pub cheap_given : (problem : Problem) (prices : List ℤ) (base k : ℕ) (limit : ℤ) (lines : List Entry) (places : List ℕ) → AreCheapOf problem prices base k limit lines → k < length problem.persons
-    → IsLegalRoster problem places → IsHome problem base places → reduced problem prices k (set_of k places) ≤ℤ limit
+    → IsLegalRoster problem places → IsHome problem base places
+    → reduced problem prices k (set_of k places) ≤ℤ limit
     → (i : ℕ) × (slice_get (sets_of lines) i ≡ Some (set_of k places))
 cheap_given problem prices base k limit lines places are inside roster home low =
     let person : Person = get_or problem.persons k nobody in
@@ -166,15 +182,20 @@ cheap_given problem prices base k limit lines places are inside roster home low 
 -- of each of the first persons who is of another base the table has the empty line alone
 abbrev pub HasNone : Problem → ℕ → List (List Entry) → Type 0
 HasNone problem base table = (k : ℕ) (lines : List Entry) → slice_get table k ≡ Some lines
-    → (person : Person) → slice_get problem.persons k ≡ Some person → person.base ≢ base → sets_of lines ≡ [] ∷ []
+    → (person : Person) → slice_get problem.persons k ≡ Some person → person.base ≢ base
+    → sets_of lines ≡ [] ∷ []
 
 -- so in its rosters nobody of another base flies
-pub none_flies : (problem : Problem) (base : ℕ) (table : List (List Entry)) (places : List ℕ) → length table ≡ length problem.persons → HasNone problem base table → IsOfTable table places → IsHome problem base places
+pub none_flies : (problem : Problem) (base : ℕ) (table : List (List Entry)) (places : List ℕ)
+    → length table ≡ length problem.persons → HasNone problem base table → IsOfTable table places
+    → IsHome problem base places
 none_flies problem base table places covers none is k person at other =
     let inside : k < length table = omega (arith, covers, slice_get_within problem.persons k person at) in
     let found = is k inside in
-    let alone : sets_of (lines_at table k) ≡ [] ∷ [] = none k (lines_at table k) (slice_get-get_or table k [] inside) person at other in
-    let there : slice_get ([] ∷ []) found.0 ≡ Some (set_of k places) = ap (λ sets. slice_get sets found.0) (sym alone) ∙ found.1 in
+    let alone : sets_of (lines_at table k) ≡ [] ∷ [] =
+    none k (lines_at table k) (slice_get-get_or table k [] inside) person at other in
+    let there : slice_get ([] ∷ []) found.0 ≡ Some (set_of k places) =
+    ap (λ sets. slice_get sets found.0) (sym alone) ∙ found.1 in
     only found.0 (set_of k places) there
   where
     only : (i : ℕ) (set : List ℕ) → slice_get ([] ∷ []) i ≡ Some set → set ≡ []

@@ -11,7 +11,8 @@ use Rattle.roster_pricing.specs.Chains.{next_state, value_at}
 use Rattle.roster_pricing.specs.Networks.{missed_at, AreTerms}
 
 -- so much flight, or more, misses the target by no less than it is above it
-last_below : (problem : Problem) (k least flight : ℕ) → least ≤ flight → (pos PARTS *ℤ pos (weight_of problem * (least - target_of problem k))) ≤ℤ missed_at problem k flight
+last_below : (problem : Problem) (k least flight : ℕ) → least ≤ flight
+    → (pos PARTS *ℤ pos (weight_of problem * (least - target_of problem k))) ≤ℤ missed_at problem k flight
 last_below problem k least flight more =
     let nearer : least - target_of problem k ≤ distance flight (target_of problem k) = omega (arith, more) in
     let weighed = mul-le-mul_left (weight_of problem) nearer in
@@ -27,25 +28,33 @@ next_above last f above = elim (cases_lt f (last + 1)) [
 ]
 
 -- the states that are told apart, and the last one behind
-pub terms_are : (problem : Problem) (k step last fixed : ℕ) (front terms : List ℤ) (end : ℤ) → terms ≡ front ++ end ∷ [] → length front ≡ last → fixed ≡ flight_of problem k []
+pub terms_are : (problem : Problem) (k step last fixed : ℕ) (front terms : List ℤ) (end : ℤ)
+    → terms ≡ front ++ end ∷ [] → length front ≡ last → fixed ≡ flight_of problem k []
     → ((f : ℕ) → f < last → value_at front f ≡ missed_at problem k (fixed + f * step) -ℤ missed_at problem k fixed)
     → end ≡ (pos PARTS *ℤ pos (weight_of problem * ((fixed + last * step) - target_of problem k))) -ℤ missed_at problem k fixed
     → AreTerms problem k step terms
 terms_are problem k step last fixed front terms end pushed long none each ends steps =
     let count : length terms ≡ last + 1 = ap length pushed ∙ length_push front end ∙ ap (λ n. n + 1) long in
-    let idle : missed_at problem k fixed ≡ missed_at problem k (flight_of problem k []) = ap (missed_at problem k) none in
-    let flight : missed_at problem k (fixed + steps * step) ≡ missed_at problem k (flight_of problem k [] + steps * step) = ap (λ f. missed_at problem k (f + steps * step)) none in
+    let idle : missed_at problem k fixed ≡ missed_at problem k (flight_of problem k []) =
+    ap (missed_at problem k) none in
+    let flight : missed_at problem k (fixed + steps * step)
+    ≡ missed_at problem k (flight_of problem k [] + steps * step) =
+    ap (λ f. missed_at problem k (f + steps * step)) none in
     elim (cases_lt steps last) [
       | inl below ↦
           let at : value_at terms (next_state (length terms) 0 steps) ≡ value_at front steps =
           ap (value_at terms) (next_below (length terms) steps (omega (arith, count, below)))
-          ∙ ap (λ (xs : List ℤ). value_at xs steps) pushed ∙ get_or_append_left front (end ∷ []) (pos 0) steps (omega (arith, long, below)) in
+          ∙ ap (λ (xs : List ℤ). value_at xs steps) pushed
+          ∙ get_or_append_left front (end ∷ []) (pos 0) steps (omega (arith, long, below)) in
           omega (arith, ints, at, each steps below, idle, flight)
       | inr above ↦
-          let there : next_state (length terms) 0 steps ≡ last = ap (λ n. next_state n 0 steps) count ∙ next_above last steps above in
+          let there : next_state (length terms) 0 steps ≡ last =
+          ap (λ n. next_state n 0 steps) count ∙ next_above last steps above in
           let at : value_at terms (next_state (length terms) 0 steps) ≡ end =
-          ap (value_at terms) there ∙ ap (λ (xs : List ℤ). value_at xs last) pushed ∙ get_or_push front end (pos 0) last long in
+          ap (value_at terms) there ∙ ap (λ (xs : List ℤ). value_at xs last) pushed
+          ∙ get_or_push front end (pos 0) last long in
           let more = mul-le-mul_right step above in
-          let below = last_below problem k (fixed + last * step) (fixed + steps * step) (omega (arith, more)) in
+          let below =
+          last_below problem k (fixed + last * step) (fixed + steps * step) (omega (arith, more)) in
           omega (arith, ints, at, ends, below, idle, flight)
     ]

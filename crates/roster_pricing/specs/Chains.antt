@@ -19,7 +19,8 @@ next_state states f step = if nat_lt (f + step) states then f + step else states
 -- the first pairing is one of those, and each other may follow the one before
 unfoldable pub IsChain : List (List ℕ) → List ℕ → List ℕ → Type 0
 IsChain followers first [] = Unit {0}
-IsChain followers first (p ∷ rest) = (is_among first p ≡ true) × IsChain followers (followers_of followers p) rest
+IsChain followers first (p ∷ rest) =
+    (is_among first p ≡ true) × IsChain followers (followers_of followers p) rest
 
 -- what the chain brings that begins in state f
 unfoldable pub chain_value : Network → List ℤ → ℕ → List ℕ → ℤ
@@ -31,7 +32,8 @@ chain_value network values f (p ∷ rest) =
 -- the row has for each state no more than any chain brings from there whose first pairing is one of those
 pub record IsRow (network : Network) (values : List ℤ) (first : List ℕ) (row : List ℤ) : Type 0 where
   pub covers : length row ≡ length network.terms.items
-  pub below : (f : ℕ) → f < length network.terms.items → (rest : List ℕ) → IsChain network.followers.items first rest
+  pub below : (f : ℕ) → f < length network.terms.items → (rest : List ℕ)
+      → IsChain network.followers.items first rest
       → value_at row f ≤ℤ chain_value network values f rest
 
 -- no pairing of the chain is before that place, if its pairings ascend
@@ -42,5 +44,6 @@ IsBehind from chain = (p : ℕ) (rest : List ℕ) → chain ≡ p ∷ rest → f
 -- that place or behind it
 pub record IsTail (network : Network) (values : List ℤ) (from : ℕ) (tail : List ℤ) : Type 0 where
   pub covers : length tail ≡ length network.terms.items
-  pub below : (f : ℕ) → f < length network.terms.items → (rest : List ℕ) → IsChain network.followers.items network.first rest
+  pub below : (f : ℕ) → f < length network.terms.items → (rest : List ℕ)
+      → IsChain network.followers.items network.first rest
       → IsBehind from rest → value_at tail f ≤ℤ chain_value network values f rest

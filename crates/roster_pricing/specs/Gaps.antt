@@ -30,7 +30,8 @@ pub record IsOf (problem : Problem) (k : ℕ) (prices : List ℤ) (cheap : Cheap
   pub priced : cheap.prices ≡ prices
 
 -- the network of the person, and for each pairing what it brings, and the row behind it
-pub record IsTabled (problem : Problem) (k : ℕ) (prices : List ℤ) (network : Network) (values : List ℤ) (rows : List (List ℤ)) : Type 0 where
+pub record IsTabled (problem : Problem) (k : ℕ) (prices : List ℤ) (network : Network) (values : List ℤ)
+    (rows : List (List ℤ)) : Type 0 where
   pub person : k < length problem.persons
   pub is : IsNetwork problem k network
   pub are : AreValues problem prices k values
@@ -40,7 +41,8 @@ pub record IsTabled (problem : Problem) (k : ℕ) (prices : List ℤ) (network :
 -- Where a chain has come to that begins with the pairings: what it has brought, and the state of flight there.
 pub record IsAlong (network : Network) (values : List ℤ) (set : List ℕ) (value : ℤ) (state : ℕ) : Type 0 where
   pub inside : state < length network.terms.items
-  pub brought : (rest : List ℕ) → chain_value network values 0 (set ++ rest) ≡ value +ℤ chain_value network values state rest
+  pub brought : (rest : List ℕ)
+      → chain_value network values 0 (set ++ rest) ≡ value +ℤ chain_value network values state rest
 
 -- no chain that begins with the set and the pairing behind it brings less
 abbrev pub IsLeastBehind : Network → List ℤ → List ℕ → ℕ → ℤ → Type 0
@@ -50,8 +52,11 @@ IsLeastBehind network values set p least =
 
 -- Lines of person k: all whose reduced cost is no more than it may be, if the person is of the base, and else
 -- the empty one alone.
-pub record AreCheapOf (problem : Problem) (prices : List ℤ) (base k : ℕ) (limit : ℤ) (lines : List Entry) : Type 0 where
+pub record AreCheapOf (problem : Problem) (prices : List ℤ) (base k : ℕ) (limit : ℤ)
+    (lines : List Entry) : Type 0 where
   pub listed : AreListedOf problem k lines
   pub every : (person : Person) → slice_get problem.persons k ≡ Some person → person.base ≡ base
-      → (set : List ℕ) → IsLine problem k set → reduced problem prices k set ≤ℤ limit → (i : ℕ) × (slice_get (sets_of lines) i ≡ Some set)
-  pub none : (person : Person) → slice_get problem.persons k ≡ Some person → person.base ≢ base → sets_of lines ≡ [] ∷ []
+      → (set : List ℕ) → IsLine problem k set → reduced problem prices k set ≤ℤ limit
+      → (i : ℕ) × (slice_get (sets_of lines) i ≡ Some set)
+  pub none : (person : Person) → slice_get problem.persons k ≡ Some person → person.base ≢ base
+      → sets_of lines ≡ [] ∷ []

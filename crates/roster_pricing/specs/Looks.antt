@@ -18,7 +18,8 @@ base_of_person problem k = unwrap_or (option_map (λ person. person.base) (slice
 -- how many of the first persons are of the base
 unfoldable pub homes_before : Problem → ℕ → ℕ → ℕ
 homes_before problem base zero = 0
-homes_before problem base (suc k) = homes_before problem base k + (if base_of_person problem k == base then 1 else 0)
+homes_before problem base (suc k) =
+    homes_before problem base k + (if base_of_person problem k == base then 1 else 0)
 
 -- the persons of the base, by their places, in book order
 pub record ArePersonsOf (problem : Problem) (base : ℕ) (persons : List ℕ) : Type 0 where
@@ -28,7 +29,8 @@ pub record ArePersonsOf (problem : Problem) (base : ℕ) (persons : List ℕ) : 
 
 -- What the reduced costs of the first persons are at least in rosters of the base, and the sum. In such a
 -- roster no person's is further above its least than all of them are above the sum.
-pub record AreLeasts (problem : Problem) (prices : List ℤ) (base count : ℕ) (sum : ℤ) (each : List ℤ) : Type 0 where
+pub record AreLeasts (problem : Problem) (prices : List ℤ) (base count : ℕ) (sum : ℤ)
+    (each : List ℤ) : Type 0 where
   pub covers : length each ≡ count
   pub small : All (IsWithin MOST_LEAST) each
   pub within : IsWithin (count * MOST_LEAST) sum
@@ -44,11 +46,13 @@ IsSeen problem prices k seen = IfOk seen.least (IsLeastOf problem prices k)
 -- so it is with each of these persons
 pub record AreSeen (problem : Problem) (prices : List ℤ) (persons : List ℕ) (all : List Seen) : Type 0 where
   pub covers : length all ≡ length persons
-  pub each : (i k : ℕ) (seen : Seen) → slice_get persons i ≡ Some k → slice_get all i ≡ Some seen → IsSeen problem prices k seen
+  pub each : (i k : ℕ) (seen : Seen) → slice_get persons i ≡ Some k → slice_get all i ≡ Some seen
+      → IsSeen problem prices k seen
 
 -- No legal roster of the base costs less than the bound. In one that costs so many units more, no person's
 -- reduced cost is further above its least than that, rounded up.
-pub record IsLook (problem : Problem) (prices : List ℤ) (base : ℕ) (bound : ℤ) (leasts : List ℤ) : Type 0 where
+pub record IsLook (problem : Problem) (prices : List ℤ) (base : ℕ) (bound : ℤ)
+    (leasts : List ℤ) : Type 0 where
   pub bounded : IsHomeBound problem base bound
   pub covers : length leasts ≡ length problem.persons
   pub small : All (IsWithin MOST_LEAST) leasts
@@ -63,7 +67,8 @@ pub record Bounded : Type 0 where
   pub bound : ℤ
 
 -- the persons of the base, as many as were seen, prices within their limits, and what these say
-pub record IsPricedBound (problem : Problem) (base : ℕ) (persons : List ℕ) (seen : ℕ) (prices leasts : List ℤ) (bound : ℤ) : Type 0 where
+pub record IsPricedBound (problem : Problem) (base : ℕ) (persons : List ℕ) (seen : ℕ) (prices leasts : List ℤ)
+    (bound : ℤ) : Type 0 where
   pub home : ArePersonsOf problem base persons
   pub all : seen ≡ length persons
   pub priced : ArePrices problem prices

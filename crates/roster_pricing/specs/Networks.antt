@@ -24,13 +24,15 @@ AreTerms problem k step terms =
 -- the flight of each pairing is so many steps
 pub record AreSteps (problem : Problem) (k step : ℕ) (steps : List ℕ) : Type 0 where
   pub covers : length steps ≡ length problem.pairings
-  pub each : (p : ℕ) → p < length problem.pairings → slice_index steps p * step ≡ minutes_of_pairing problem k p
+  pub each : (p : ℕ) → p < length problem.pairings
+      → slice_index steps p * step ≡ minutes_of_pairing problem k p
 
 -- which pairings may follow which, and where a chain may begin
 pub record IsNetwork (problem : Problem) (k : ℕ) (network : Network) : Type 0 where
   pub alone : AreAlone problem k network.first
   pub covers : length network.followers.items ≡ length problem.pairings
-  pub followers : (p : ℕ) (row : List ℕ) → slice_get network.followers.items p ≡ Some row → AreFollowers problem k p row
+  pub followers : (p : ℕ) (row : List ℕ) → slice_get network.followers.items p ≡ Some row
+      → AreFollowers problem k p row
   pub step : ℕ
   pub steps : AreSteps problem k step network.steps.items
   pub terms : AreTerms problem k step network.terms.items
@@ -46,7 +48,8 @@ pub record AreValues (problem : Problem) (prices : List ℤ) (k : ℕ) (values :
 
 -- the rows of the problem's last pairings, that of the last one first: for each the chains of those that may
 -- follow it
-pub record AreRows (problem : Problem) (network : Network) (values : List ℤ) (rows : List (List ℤ)) : Type 0 where
+pub record AreRows (problem : Problem) (network : Network) (values : List ℤ)
+    (rows : List (List ℤ)) : Type 0 where
   pub few : length rows ≤ length problem.pairings
   pub each : (p : ℕ) (row : List ℤ) → p < length problem.pairings
       → slice_get rows (length problem.pairings - 1 - p) ≡ Some row
@@ -54,7 +57,8 @@ pub record AreRows (problem : Problem) (network : Network) (values : List ℤ) (
   pub within : All (λ row. All (IsWithin (MOST_TERM + length rows * MOST_VALUE)) row) rows
 
 -- the tails, the shortest one first, which is that behind the problem's last pairing
-pub record AreTails (problem : Problem) (network : Network) (values : List ℤ) (tails : List (List ℤ)) : Type 0 where
+pub record AreTails (problem : Problem) (network : Network) (values : List ℤ)
+    (tails : List (List ℤ)) : Type 0 where
   pub each : (i : ℕ) (tail : List ℤ) → i ≤ length problem.pairings → slice_get tails i ≡ Some tail
       → IsTail network values (length problem.pairings - i) tail
   pub within : All (λ tail. All (IsWithin (MOST_TERM + length tails * MOST_VALUE)) tail) tails

@@ -30,7 +30,8 @@ pub record IsLeastOf (problem : Problem) (prices : List ℤ) (k : ℕ) (least : 
   pub within : IsWithin MOST_LEAST least
 
 -- no more than the limit, and none of the sets has a lower reduced cost
-pub record IsLeastListed (problem : Problem) (prices : List ℤ) (k : ℕ) (sets : List (List ℕ)) (limit least : ℤ) : Type 0 where
+pub record IsLeastListed (problem : Problem) (prices : List ℤ) (k : ℕ) (sets : List (List ℕ))
+    (limit least : ℤ) : Type 0 where
   pub low : least ≤ℤ limit
   pub below : (i : ℕ) (set : List ℕ) → slice_get sets i ≡ Some set → least ≤ℤ reduced problem prices k set
   pub within : IsWithin MOST_LEAST least
@@ -50,5 +51,7 @@ shares_behind problem prices p places =
 -- No more than the penalty of the pairing at place p, nor than its price, if it is of the base. One of another
 -- base has no price in a roster of the base: nobody flies it.
 pub record IsTermOf (problem : Problem) (base p : ℕ) (price term : ℤ) : Type 0 where
-  pub flown : (pairing : Pairing) → slice_get problem.pairings p ≡ Some pairing → pairing.base ≡ base → term ≤ℤ price
-  pub unflown : (pairing : Pairing) → slice_get problem.pairings p ≡ Some pairing → term ≤ℤ pos (PARTS * pairing.penalty)
+  pub flown : (pairing : Pairing) → slice_get problem.pairings p ≡ Some pairing → pairing.base ≡ base
+      → term ≤ℤ price
+  pub unflown : (pairing : Pairing) → slice_get problem.pairings p ≡ Some pairing
+      → term ≤ℤ pos (PARTS * pairing.penalty)

@@ -1,6 +1,7 @@
 //! Lower bounds by dual prices.
 
-ghost use Rattle.std.specs.Prelude.{◌≡◌, ◌⊎◌, ◌<◌, ◌*◌, ◌≤ℤ◌, ◌+ℤ◌, ◌-ℤ◌, ◌*ℤ◌, ℤ, pos, IfOk, Some, length, slice_get};
+ghost use Rattle.std.specs.Prelude.{◌≡◌, ◌⊎◌, ◌<◌, ◌*◌, ◌≤ℤ◌, ◌+ℤ◌, ◌-ℤ◌, ◌*ℤ◌, ℤ, pos, IfOk, Some, length};
+ghost use Rattle.std.specs.Prelude.{slice_get};
 ghost use Rattle.roster_lines.specs.Listing.{AreAllPairs, ArePairs};
 ghost use Rattle.roster_model.specs.Problem.{units_of};
 ghost use Rattle.roster_model.specs.records.Pairing.{Pairing};

@@ -1,9 +1,11 @@
 //! Rows of least values of chains, for each state of flight.
 
-ghost use Rattle.std.specs.Prelude.{◌≡◌, ◌≢◌, ◌⊎◌, ◌<◌, ◌≤◌, ◌+◌, ◌-◌, ◌*◌, ◌+ℤ◌, ◌≤ℤ◌, ℕ, true, false, All, IfOk, IfSome, List, MatchOption, length};
+ghost use Rattle.std.specs.Prelude.{◌≡◌, ◌≢◌, ◌⊎◌, ◌<◌, ◌≤◌, ◌+◌, ◌-◌, ◌*◌, ◌+ℤ◌, ◌≤ℤ◌, ℕ, true, false, All};
+ghost use Rattle.std.specs.Prelude.{IfOk, IfSome, List, MatchOption, length};
 ghost use Rattle.roster_model.specs.Rules.{is_among};
 ghost use Rattle.roster_cost.specs.Amounts.{IsWithin};
-ghost use Rattle.roster_pricing.specs.Chains.{followers_of, next_state as plain_next_state, value_at, IsRow, IsTail};
+ghost use Rattle.roster_pricing.specs.Chains.{followers_of, next_state as plain_next_state, value_at, IsRow};
+ghost use Rattle.roster_pricing.specs.Chains.{IsTail};
 ghost use Rattle.roster_pricing.specs.Networks.{AreRows, IsNetwork};
 
 use crate::network::Network;

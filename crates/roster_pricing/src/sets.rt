@@ -4,7 +4,8 @@
 //! than any line does. So the lines are listed whose reduced cost is at most a limit: no line has less than the
 //! least of them, and if none is listed, than the limit.
 
-ghost use Rattle.std.specs.Prelude.{◌≡◌, ◌<◌, ◌*◌, ◌-ℤ◌, ◌*ℤ◌, ◌≤ℤ◌, ◌⊎◌, [], pos, All, IfOk, IfSome, MatchOption, Some, length, slice_get};
+ghost use Rattle.std.specs.Prelude.{◌≡◌, ◌<◌, ◌*◌, ◌-ℤ◌, ◌*ℤ◌, ◌≤ℤ◌, ◌⊎◌, [], pos, All, IfOk, IfSome};
+ghost use Rattle.std.specs.Prelude.{MatchOption, Some, length, slice_get};
 ghost use Rattle.roster_model.specs.Costs.{line_cost, total};
 ghost use Rattle.roster_cost.specs.Amounts.{IsWithin};
 ghost use Rattle.roster_lines.specs.Entries.{set_at, sets_of};

@@ -14,5 +14,8 @@ or_len_by : (found : Bool) (i n : ℕ) → nat_lt i n ≡ found → i ≤ n → 
 or_len_by true i n h most = refl
 or_len_by false i n h most = grind (arith, nat_tests)
 
-pub place_or_len : {X : Type 0} (p : X → Bool) (xs : List X) → unwrap_or (position p xs) (length xs) ≡ position_or_len p xs
-place_or_len p xs = or_len_by (nat_lt (position_or_len p xs) (length xs)) (position_or_len p xs) (length xs) refl (place_at_most p xs)
+pub place_or_len : {X : Type 0} (p : X → Bool) (xs : List X)
+    → unwrap_or (position p xs) (length xs) ≡ position_or_len p xs
+place_or_len p xs =
+    or_len_by (nat_lt (position_or_len p xs) (length xs)) (position_or_len p xs) (length xs) refl
+    (place_at_most p xs)

@@ -8,11 +8,13 @@ use Rattle.roster_model.proofs.SetLemmas.{All-is_among}
 use Rattle.roster_problem.specs.Placing.{IsPut}
 
 -- the number at a place of the set, and at another one
-pub put_there : (number : ℕ) (set old new : List ℕ) (p : ℕ) → IsPut number set old new → p < length old → is_among set p ≡ true → get_or new p 0 ≡ number
+pub put_there : (number : ℕ) (set old new : List ℕ) (p : ℕ) → IsPut number set old new → p < length old
+    → is_among set p ≡ true → get_or new p 0 ≡ number
 put_there number set old new p put inside member =
     put.each p inside ∙ ap (λ b. cond b number (get_or old p 0)) member
 
-pub put_elsewhere : (number : ℕ) (set old new : List ℕ) (p : ℕ) → IsPut number set old new → p < length old → is_among set p ≡ false → get_or new p 0 ≡ get_or old p 0
+pub put_elsewhere : (number : ℕ) (set old new : List ℕ) (p : ℕ) → IsPut number set old new → p < length old
+    → is_among set p ≡ false → get_or new p 0 ≡ get_or old p 0
 put_elsewhere number set old new p put inside other =
     put.each p inside ∙ ap (λ b. cond b number (get_or old p 0)) other
 
@@ -21,7 +23,8 @@ abbrev pub Throughout : ℕ → List ℕ → List ℕ → Type 0
 Throughout number set places = All (λ p. get_or places p 0 ≡ number) set
 
 -- if the old number is put back, the list is the old one
-pub put_back : (number before : ℕ) (set old mid new : List ℕ) → Throughout before set old → IsPut number set old mid → IsPut before set mid new → new ≡ old
+pub put_back : (number before : ℕ) (set old mid new : List ℕ) → Throughout before set old
+    → IsPut number set old mid → IsPut before set mid new → new ≡ old
 put_back number before set old mid new free put back =
     let long = put.covers in
     let longer = back.covers in

@@ -18,7 +18,8 @@ record Follows (duty : Duty) (off on : ℕ) : Type 0 where
   end : on ≤ duty.release
   after : option_map_or (λ last. nat_le last.on off) (last_sector duty.sectors) true ≡ true
 
-tests : (a b c d e f : ℕ) (after : Bool) → (nat_lt a b && nat_le c d && nat_le e f && after) ≡ true → (a < b) × (c ≤ d) × (e ≤ f) × (after ≡ true)
+tests : (a b c d e f : ℕ) (after : Bool) → (nat_lt a b && nat_le c d && nat_le e f && after) ≡ true
+    → (a < b) × (c ≤ d) × (e ≤ f) × (after ≡ true)
 tests a b c d e f true h = grind (arith, nat_tests)
 tests a b c d e f false h = grind (arith, nat_tests)
 
@@ -36,7 +37,8 @@ ended : (report release off : ℕ) (sectors : List Sector) → AreSectors report
     → (k : ℕ) (d : Sector) → k < length sectors → (get_or sectors k d).on ≤ off
 ended report release off sectors s h k d l =
     let n : ℕ = length sectors - 1 in
-    let last : (get_or sectors n d).on ≤ off = ends_by off _ (rw (slice_get-get_or sectors n d (omega arith)) at h) in
+    let last : (get_or sectors n d).on ≤ off =
+    ends_by off _ (rw (slice_get-get_or sectors n d (omega arith)) at h) in
     elim (cases_lt k n) [
       | inl before ↦
           let apart = s.apart k n d before (omega arith) in
@@ -48,7 +50,8 @@ ended report release off sectors s h k d l =
           subst P same last
     ]
 
-pub AreSectors-push : (duty : Duty) (sector : Sector) → AreSectors duty.report duty.release duty.sectors → is_in_sequence duty sector.off sector.on ≡ true
+pub AreSectors-push : (duty : Duty) (sector : Sector) → AreSectors duty.report duty.release duty.sectors
+    → is_in_sequence duty sector.off sector.on ≡ true
     → AreSectors duty.report duty.release (duty.sectors ++ sector ∷ [])
 AreSectors-push duty sector s h =
     let f = follows duty sector.off sector.on h in
@@ -56,5 +59,7 @@ AreSectors-push duty sector s h =
       begin = All-push (λ x. duty.report ≤ x.off) duty.sectors sector s.begin f.begin;
       timed = All-push (λ x. x.off < x.on) duty.sectors sector s.timed f.timed;
       end = All-push (λ x. x.on ≤ duty.release) duty.sectors sector s.end f.end;
-      apart = all_pairs_push (λ a b. a.on ≤ b.off) duty.sectors sector s.apart (ended duty.report duty.release sector.off duty.sectors s f.after);
+      apart =
+          all_pairs_push (λ a b. a.on ≤ b.off) duty.sectors sector s.apart
+          (ended duty.report duty.release sector.off duty.sectors s f.after);
     }

@@ -11,15 +11,20 @@ use Rattle.roster_problem.specs.Set.{with_place, places_from}
 -- ---- one place more
 
 above : (p : ℕ) (set : List ℕ) → All (λ q. p < q) (filter (λ q. nat_lt p q) set)
-above p set = All-weaker (λ q. nat_lt p q ≡ true) (λ q. p < q) (λ q h. ltb-true p q h) _ (filter_passes (λ q. nat_lt p q) set)
+above p set =
+    All-weaker (λ q. nat_lt p q ≡ true) (λ q. p < q) (λ q h. ltb-true p q h) _
+    (filter_passes (λ q. nat_lt p q) set)
 
 below : (p : ℕ) (set : List ℕ) → All (λ q. q < p) (filter (λ q. nat_lt q p) set)
-below p set = All-weaker (λ q. nat_lt q p ≡ true) (λ q. q < p) (λ q h. ltb-true q p h) _ (filter_passes (λ q. nat_lt q p) set)
+below p set =
+    All-weaker (λ q. nat_lt q p ≡ true) (λ q. q < p) (λ q h. ltb-true q p h) _
+    (filter_passes (λ q. nat_lt q p) set)
 
 pub Ascends-with_place : (p : ℕ) (set : List ℕ) → Ascends set → Ascends (with_place p set)
 Ascends-with_place p set up =
     let rest = above p set in
-    Ascends-append _ (p ∷ filter (λ q. nat_lt p q) set) p (Ascends-filter (λ q. nat_lt q p) set up) (rest, Ascends-filter (λ q. nat_lt p q) set up) (below p set)
+    Ascends-append _ (p ∷ filter (λ q. nat_lt p q) set) p (Ascends-filter (λ q. nat_lt q p) set up)
+    (rest, Ascends-filter (λ q. nat_lt p q) set up) (below p set)
     (All-cons (λ q. p ≤ q) p _ (omega arith) (All-weaker (λ q. p < q) (λ q. p ≤ q) (λ q l. omega arith) _ rest))
 
 either_side : (p q : ℕ) (b : Bool) → ((nat_lt q p && b) || (eqb p q || (nat_lt p q && b))) ≡ (b || eqb p q)
@@ -36,35 +41,43 @@ either_side p q b =
       ]
     ]
 
-pub is_among-with_place : (p : ℕ) (set : List ℕ) (q : ℕ) → is_among (with_place p set) q ≡ (is_among set q || eqb p q)
+pub is_among-with_place : (p : ℕ) (set : List ℕ) (q : ℕ)
+    → is_among (with_place p set) q ≡ (is_among set q || eqb p q)
 is_among-with_place p set q =
     is_among-append (filter (λ r. nat_lt r p) set) (p ∷ filter (λ r. nat_lt p r) set) q
     ∙ rw (is_among-filter (λ r. nat_lt r p) set q, is_among-filter (λ r. nat_lt p r) set q) (either_side p q (is_among set q))
 
 -- a place behind all others stands at the end
-pub with_place-last : (p : ℕ) (set : List ℕ) → Ascends set → All (λ q. q < p) set → with_place p set ≡ set ++ p ∷ []
+pub with_place-last : (p : ℕ) (set : List ℕ) → Ascends set → All (λ q. q < p) set
+    → with_place p set ≡ set ++ p ∷ []
 with_place-last p set up last =
     same_set _ _ (Ascends-with_place p set up) (Ascends-push set p up last) (λ q.
-    is_among-with_place p set q ∙ sym (is_among-append set (p ∷ []) q ∙ ap (λ b. is_among set q || b) (or-false (eqb p q))))
+    is_among-with_place p set q
+    ∙ sym (is_among-append set (p ∷ []) q ∙ ap (λ b. is_among set q || b) (or-false (eqb p q))))
 
 -- a place before all others stands at the front
-pub with_place-first : (p : ℕ) (set : List ℕ) → Ascends set → All (λ q. p < q) set → with_place p set ≡ p ∷ set
+pub with_place-first : (p : ℕ) (set : List ℕ) → Ascends set → All (λ q. p < q) set
+    → with_place p set ≡ p ∷ set
 with_place-first p set up first =
-    same_set _ _ (Ascends-with_place p set up) (first, up) (λ q. is_among-with_place p set q ∙ or_comm (is_among set q) (eqb p q))
+    same_set _ _ (Ascends-with_place p set up) (first, up)
+    (λ q. is_among-with_place p set q ∙ or_comm (is_among set q) (eqb p q))
 
 -- ---- the places from one on
 
-from_or_before : (from : ℕ) (set : List ℕ) (q : ℕ) → is_among (places_from from set) q ≡ (nat_le from q && is_among set q)
+from_or_before : (from : ℕ) (set : List ℕ) (q : ℕ)
+    → is_among (places_from from set) q ≡ (nat_le from q && is_among set q)
 from_or_before from set q = is_among-filter (λ r. nat_le from r) set q
 
-pub places_from-none : (from : ℕ) (set : List ℕ) → ((q : ℕ) → from ≤ q → is_among set q ≡ false) → places_from from set ≡ []
+pub places_from-none : (from : ℕ) (set : List ℕ) → ((q : ℕ) → from ≤ q → is_among set q ≡ false)
+    → places_from from set ≡ []
 places_from-none from set none =
     empty_set (places_from from set) (λ q. from_or_before from set q ∙ elim (cases_lt q from) [
       | inl l ↦ rw (lt-leb from q l) refl
       | inr l ↦ rw (le-leb from q l) (none q l)
     ])
 
-first_or_later : (from p q : ℕ) (b : Bool) → from ≤ p → (eqb p q ≡ true → b ≡ true) → (from ≤ q → q < p → b ≡ false) → (nat_le from q && b) ≡ (eqb p q || (nat_le (p + 1) q && b))
+first_or_later : (from p q : ℕ) (b : Bool) → from ≤ p → (eqb p q ≡ true → b ≡ true)
+    → (from ≤ q → q < p → b ≡ false) → (nat_le from q && b) ≡ (eqb p q || (nat_le (p + 1) q && b))
 first_or_later from p q b l here before =
     elim (cases_order p q) [
       | inl same ↦ rw (le-leb from q (omega arith), eq-eqb p q same) (here (eq-eqb p q same))
@@ -81,10 +94,13 @@ first_or_later from p q b l here before =
       ]
     ]
 
-pub places_from-some : (from p : ℕ) (set : List ℕ) → Ascends set → from ≤ p → is_among set p ≡ true → ((q : ℕ) → from ≤ q → q < p → is_among set q ≡ false) → places_from from set ≡ p ∷ places_from (p + 1) set
+pub places_from-some : (from p : ℕ) (set : List ℕ) → Ascends set → from ≤ p → is_among set p ≡ true
+    → ((q : ℕ) → from ≤ q → q < p → is_among set q ≡ false)
+    → places_from from set ≡ p ∷ places_from (p + 1) set
 places_from-some from p set up l here before =
     let later = All-weaker (λ q. nat_le (p + 1) q ≡ true) (λ q. p < q) (λ q h. let m = leb-true (p + 1) q h in omega arith) _ (filter_passes (λ q. nat_le (p + 1) q) set) in
-    same_set (places_from from set) (p ∷ places_from (p + 1) set) (Ascends-filter (λ q. nat_le from q) set up) (later, Ascends-filter (λ q. nat_le (p + 1) q) set up) (λ q.
+    same_set (places_from from set) (p ∷ places_from (p + 1) set) (Ascends-filter (λ q. nat_le from q) set up)
+    (later, Ascends-filter (λ q. nat_le (p + 1) q) set up) (λ q.
     from_or_before from set q
     ∙ first_or_later from p q (is_among set q) l (λ e. subst (λ r. is_among set r ≡ true) (eqb-true p q e) here) (before q)
     ∙ ap (λ b. eqb p q || b) (sym (from_or_before (p + 1) set q)))

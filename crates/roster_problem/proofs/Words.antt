@@ -15,23 +15,32 @@ use Rattle.roster_problem.specs.Bits.{has_bit_at, places_in_set}
 
 -- ---- one bit set
 
-bit_of_other : (words : List ℕ) (p q : ℕ) (b : ℕ) → (p ≡ q → ⊥) → p / 64 < length words → b ≡ bit_or (get_or words (p / 64) 0) (1 * 2 ^ (p % 64) % 2 ^ 64) → has_bit (set words (p / 64) b) q ≡ has_bit words q
+bit_of_other : (words : List ℕ) (p q : ℕ) (b : ℕ) → (p ≡ q → ⊥) → p / 64 < length words
+    → b ≡ bit_or (get_or words (p / 64) 0) (1 * 2 ^ (p % 64) % 2 ^ 64)
+    → has_bit (set words (p / 64) b) q ≡ has_bit words q
 bit_of_other words p q b other inside is =
     elim (cases_eq (q / 64) (p / 64)) [
       | inl same ↦
-          let apart : q % 64 ≡ p % 64 → ⊥ = λ e. other (sym (div-add-mod' p 64) ∙ rw (← same, ← e) (div-add-mod' q 64)) in
+          let apart : q % 64 ≡ p % 64 → ⊥ =
+          λ e. other (sym (div-add-mod' p 64) ∙ rw (← same, ← e) (div-add-mod' q 64)) in
           ap (λ w. eqb (bit_at w (q % 64)) 1) (rw same (get_or-set_same words (p / 64) b 0 inside) ∙ is)
           ∙ ap (λ n. eqb n 1) (bit_at_set_other w64 (get_or words (p / 64) 0) (p % 64) (omega arith) (q % 64) apart)
           ∙ ap (λ w. eqb (bit_at (get_or words w 0) (q % 64)) 1) (sym same)
       | inr away ↦ ap (λ w. eqb (bit_at w (q % 64)) 1) (get_or-set_other words (p / 64) (q / 64) b 0 away)
     ]
 
-bit_of_same : (words : List ℕ) (p : ℕ) (b : ℕ) → p / 64 < length words → b ≡ bit_or (get_or words (p / 64) 0) (1 * 2 ^ (p % 64) % 2 ^ 64) → has_bit (set words (p / 64) b) p ≡ true
+bit_of_same : (words : List ℕ) (p : ℕ) (b : ℕ) → p / 64 < length words
+    → b ≡ bit_or (get_or words (p / 64) 0) (1 * 2 ^ (p % 64) % 2 ^ 64)
+    → has_bit (set words (p / 64) b) p ≡ true
 bit_of_same words p b inside is =
-    let word : get_or (set words (p / 64) b) (p / 64) 0 ≡ bit_or (get_or words (p / 64) 0) (1 * 2 ^ (p % 64) % 2 ^ 64) = get_or-set_same words (p / 64) b 0 inside ∙ is in
+    let word : get_or (set words (p / 64) b) (p / 64) 0
+    ≡ bit_or (get_or words (p / 64) 0) (1 * 2 ^ (p % 64) % 2 ^ 64) =
+    get_or-set_same words (p / 64) b 0 inside ∙ is in
     rw (word, bit_at_set_same w64 (get_or words (p / 64) 0) (p % 64) (omega arith)) refl
 
-pub has_bit-set : (words : List ℕ) (p : ℕ) (b : ℕ) → p / 64 < length words → b ≡ bit_or (get_or words (p / 64) 0) (1 * 2 ^ (p % 64) % 2 ^ 64) → (q : ℕ) → has_bit (set words (p / 64) b) q ≡ (has_bit words q || eqb p q)
+pub has_bit-set : (words : List ℕ) (p : ℕ) (b : ℕ) → p / 64 < length words
+    → b ≡ bit_or (get_or words (p / 64) 0) (1 * 2 ^ (p % 64) % 2 ^ 64) → (q : ℕ)
+    → has_bit (set words (p / 64) b) q ≡ (has_bit words q || eqb p q)
 has_bit-set words p b inside is q =
     elim (cases_eq p q) [
       | inl here ↦ subst (λ r. has_bit (set words (p / 64) b) r ≡ (has_bit words r || eqb p r)) here (bit_of_same words p b inside is ∙ rw (eq-eqb p p refl) (sym (or-true (has_bit words p))))
@@ -39,7 +48,9 @@ has_bit-set words p b inside is q =
     ]
 
 pub word_fits : (words : List ℕ) (p : ℕ) → p / 64 < length words → All (λ word. word < 2 ^ 64) words → All (λ word. word < 2 ^ 64) (set words (p / 64) (bit_or (get_or words (p / 64) 0) (1 * 2 ^ (p % 64) % 2 ^ 64)))
-word_fits words p inside fits = All-set (λ word. word < 2 ^ 64) words (p / 64) _ (or_lt 64 _ _ (fits (p / 64) 0 inside) (omega arith)) fits
+word_fits words p inside fits =
+    All-set (λ word. word < 2 ^ 64) words (p / 64) _
+    (or_lt 64 _ _ (fits (p / 64) 0 inside) (omega arith)) fits
 
 -- ---- the first bit of a word
 
@@ -50,14 +61,17 @@ bit_past word from j i e =
 
 pub no_bit_from : (word from : ℕ) → word / 2 ^ from ≡ 0 → (i : ℕ) → from ≤ i → bit_at word i ≡ 0
 no_bit_from word from none i l =
-    sym (bit_past word from (i - from) i (omega arith)) ∙ ap (λ n. bit_at n (i - from)) none ∙ bit_at-zero (i - from)
+    sym (bit_past word from (i - from) i (omega arith)) ∙ ap (λ n. bit_at n (i - from)) none
+    ∙ bit_at-zero (i - from)
 
-pub first_bit_from : (word from : ℕ) → word < 2 ^ 64 → 0 < word / 2 ^ from → IsFirstInWord word from (Some (from + trailing_zeros w64 (word / 2 ^ from)))
+pub first_bit_from : (word from : ℕ) → word < 2 ^ 64 → 0 < word / 2 ^ from
+    → IsFirstInWord word from (Some (from + trailing_zeros w64 (word / 2 ^ from)))
 first_bit_from word from fits some =
     let rest : ℕ = word / 2 ^ from in
     let small : rest < 2 ^ 64 = omega (arith, div-le_self word (2 ^ from)) in
     let lowest = bit_at-trailing_zeros w64 rest some small in
-    let here : bit_at word (from + trailing_zeros w64 rest) ≡ 1 = sym (bit_past word from (trailing_zeros w64 rest) _ refl) ∙ lowest.1 in
+    let here : bit_at word (from + trailing_zeros w64 rest) ≡ 1 =
+    sym (bit_past word from (trailing_zeros w64 rest) _ refl) ∙ lowest.1 in
     let inside : from + trailing_zeros w64 rest < 64 = elim (cases_lt (from + trailing_zeros w64 rest) 64) [
       | inl l ↦ l
       | inr past ↦ absurd (let none = bit_at_above word 64 (from + trailing_zeros w64 rest) fits past in omega arith)
@@ -66,7 +80,8 @@ first_bit_from word from fits some =
 
 -- ---- the first bit of some words
 
-pub no_bit_in_word : (words : List ℕ) (i low p : ℕ) → IsFirstInWord (get_or words i 0) low None → i * 64 + low ≤ p → p < (i + 1) * 64 → has_bit words p ≡ false
+pub no_bit_in_word : (words : List ℕ) (i low p : ℕ) → IsFirstInWord (get_or words i 0) low None
+    → i * 64 + low ≤ p → p < (i + 1) * 64 → has_bit words p ≡ false
 no_bit_in_word words i low p none l inside =
     let word : p / 64 ≡ i = omega arith in
     let bit : bit_at (get_or words (p / 64) 0) (p % 64) ≡ 0 = rw word (none (p % 64) (omega arith)) in
@@ -75,9 +90,12 @@ no_bit_in_word words i low p none l inside =
 -- no bit past the words is set
 pub no_bit_past : (words : List ℕ) (p : ℕ) → length words * 64 ≤ p → has_bit words p ≡ false
 no_bit_past words p past =
-    ap (λ w. eqb (bit_at w (p % 64)) 1) (get_or_past words (p / 64) 0 (omega arith)) ∙ ap (λ n. eqb n 1) (bit_at-zero (p % 64))
+    ap (λ w. eqb (bit_at w (p % 64)) 1) (get_or_past words (p / 64) 0 (omega arith))
+    ∙ ap (λ n. eqb n 1) (bit_at-zero (p % 64))
 
-pub first_in_words : (words : List ℕ) (from i low bit : ℕ) → from ≤ i * 64 + low → ((p : ℕ) → from ≤ p → p < i * 64 + low → has_bit words p ≡ false) → IsFirstInWord (get_or words i 0) low (Some bit) → IsFirstBit words from (Some (i * 64 + bit))
+pub first_in_words : (words : List ℕ) (from i low bit : ℕ) → from ≤ i * 64 + low
+    → ((p : ℕ) → from ≤ p → p < i * 64 + low → has_bit words p ≡ false)
+    → IsFirstInWord (get_or words i 0) low (Some bit) → IsFirstBit words from (Some (i * 64 + bit))
 first_in_words words from i low bit onward before found =
     let inside : bit < 64 = found.1 in
     let above : low ≤ bit = found.0 in
@@ -88,13 +106,16 @@ first_in_words words from i low bit onward before found =
         | inl earlier ↦ before q l earlier
         | inr on ↦
             let word : q / 64 ≡ i = omega arith in
-            let none : bit_at (get_or words (q / 64) 0) (q % 64) ≡ 0 = rw word (found.3 (q % 64) (omega arith) (omega arith)) in
+            let none : bit_at (get_or words (q / 64) 0) (q % 64) ≡ 0 =
+            rw word (found.3 (q % 64) (omega arith) (omega arith)) in
             ap (λ n. eqb n 1) none
       ],
     )
 
 -- the first bit from a place on is that from an earlier place on if none is set between them
-pub first_from_before : (words : List ℕ) (from mid : ℕ) (found : Option ℕ) → from ≤ mid → ((p : ℕ) → from ≤ p → p < mid → has_bit words p ≡ false) → IsFirstBit words mid found → IsFirstBit words from found
+pub first_from_before : (words : List ℕ) (from mid : ℕ) (found : Option ℕ) → from ≤ mid
+    → ((p : ℕ) → from ≤ p → p < mid → has_bit words p ≡ false) → IsFirstBit words mid found
+    → IsFirstBit words from found
 first_from_before words from mid None onward before none = λ p l. elim (cases_lt p mid) [
   | inl earlier ↦ before p l earlier
   | inr on ↦ none p on
@@ -116,7 +137,8 @@ zero_at (suc n) zero = refl
 zero_at (suc n) (suc i) = zero_at n i
 
 no_bit : (n p : ℕ) → has_bit (replicate n 0) p ≡ false
-no_bit n p = ap (λ w. eqb (bit_at w (p % 64)) 1) (zero_at n (p / 64)) ∙ ap (λ b. eqb b 1) (bit_at-zero (p % 64))
+no_bit n p =
+    ap (λ w. eqb (bit_at w (p % 64)) 1) (zero_at n (p / 64)) ∙ ap (λ b. eqb b 1) (bit_at-zero (p % 64))
 
 pub IsSet-zeros : IsSet (replicate SET_WORDS 0)
 IsSet-zeros = record {
@@ -126,7 +148,8 @@ IsSet-zeros = record {
 }
 
 pub places_in-zeros : places_in (replicate SET_WORDS 0) ≡ []
-places_in-zeros = places_in_set (replicate SET_WORDS 0) [] tt (λ p h. absurd (both_ways _ refl h)) (no_bit SET_WORDS)
+places_in-zeros =
+    places_in_set (replicate SET_WORDS 0) [] tt (λ p h. absurd (both_ways _ refl h)) (no_bit SET_WORDS)
 
 -- ---- bits in common
 
@@ -137,7 +160,8 @@ none_in_common (suc zero) (suc zero) l m e = absurd (omega arith)
 none_in_common (suc zero) (suc (suc b)) l m e = absurd (omega arith)
 none_in_common (suc (suc a)) b l m e = absurd (omega arith)
 
-pub apart_in_word : (words others : List ℕ) (i p : ℕ) → p / 64 ≡ i → bit_and (get_or words i 0) (get_or others i 0) ≡ 0 → (has_bit words p && has_bit others p) ≡ false
+pub apart_in_word : (words others : List ℕ) (i p : ℕ) → p / 64 ≡ i
+    → bit_and (get_or words i 0) (get_or others i 0) ≡ 0 → (has_bit words p && has_bit others p) ≡ false
 apart_in_word words others i p word none =
     let bit : ℕ = p % 64 in
     let least : min (bit_at (get_or words (p / 64) 0) bit) (bit_at (get_or others (p / 64) 0) bit) ≡ 0 =
@@ -148,13 +172,17 @@ apart_in_word words others i p word none =
 both_one : (a b : ℕ) → a < 2 → b < 2 → min a b ≡ 1 → (a ≡ 1) × (b ≡ 1)
 both_one a b l m e = (omega arith, omega arith)
 
-pub meet_in_word : (words others : List ℕ) (i : ℕ) → get_or words i 0 < 2 ^ 64 → 0 < bit_and (get_or words i 0) (get_or others i 0) → (p : ℕ) × (has_bit words p ≡ true) × (has_bit others p ≡ true)
+pub meet_in_word : (words others : List ℕ) (i : ℕ) → get_or words i 0 < 2 ^ 64
+    → 0 < bit_and (get_or words i 0) (get_or others i 0)
+    → (p : ℕ) × (has_bit words p ≡ true) × (has_bit others p ≡ true)
 meet_in_word words others i fits some =
     let both : ℕ = bit_and (get_or words i 0) (get_or others i 0) in
     let small : both < 2 ^ 64 = omega (arith, and_le_l (get_or words i 0) (get_or others i 0)) in
     let lowest = bit_at-trailing_zeros w64 both some small in
     let bit : ℕ = trailing_zeros w64 both in
-    let ones = both_one _ _ (bit_at-lt (get_or words i 0) bit) (bit_at-lt (get_or others i 0) bit) (sym (bit_at_and (get_or words i 0) (get_or others i 0) bit) ∙ lowest.1) in
+    let ones =
+    both_one _ _ (bit_at-lt (get_or words i 0) bit) (bit_at-lt (get_or others i 0) bit)
+    (sym (bit_at_and (get_or words i 0) (get_or others i 0) bit) ∙ lowest.1) in
     (i * 64 + bit, has_bit_at words i bit lowest.0 ∙ ap (λ n. eqb n 1) ones.0, has_bit_at others i bit lowest.0 ∙ ap (λ n. eqb n 1) ones.1)
 
 one_of_both : (a b : ℕ) → a < 2 → b < 2 → eqb (min a b) 1 ≡ (eqb a 1 && eqb b 1)
@@ -165,7 +193,9 @@ one_of_both (suc zero) (suc (suc b)) l m = absurd (omega arith)
 one_of_both (suc (suc a)) b l m = absurd (omega arith)
 
 -- a bit of words that have the bits of both
-pub bit_of_both : (words others both : List ℕ) (p : ℕ) → get_or both (p / 64) 0 ≡ bit_and (get_or words (p / 64) 0) (get_or others (p / 64) 0) → has_bit both p ≡ (has_bit words p && has_bit others p)
+pub bit_of_both : (words others both : List ℕ) (p : ℕ)
+    → get_or both (p / 64) 0 ≡ bit_and (get_or words (p / 64) 0) (get_or others (p / 64) 0)
+    → has_bit both p ≡ (has_bit words p && has_bit others p)
 bit_of_both words others both p word =
     let bit : ℕ = p % 64 in
     ap (λ w. eqb (bit_at w bit) 1) word

@@ -58,7 +58,8 @@ is_at p None = false
 is_at p (Some q) = q == p
 
 -- There is a list for each place, with the positions of the elements that belong to it.
-pub record IsIndex {X : Type 0} (belongs : ℕ → X → Bool) (places : ℕ) (xs : List X) (lists : List (List ℕ)) : Type 0 where
+pub record IsIndex {X : Type 0} (belongs : ℕ → X → Bool) (places : ℕ) (xs : List X)
+    (lists : List (List ℕ)) : Type 0 where
   pub long : length lists ≡ places
   pub each : (p : ℕ) → p < places → slice_get lists p ≡ Some (positions_where (belongs p) 0 xs)
 

@@ -58,7 +58,8 @@ number_where test (suc n) = (if test n then 1 else 0) * 2 ^ n + number_where tes
 -- n words of the set, from this one on
 unfoldable pub words_from : List ℕ → ℕ → ℕ → List ℕ
 words_from set word zero = []
-words_from set word (suc n) = number_where (λ bit. is_among set (word * 64 + bit)) 64 ∷ words_from set (word + 1) n
+words_from set word (suc n) =
+    number_where (λ bit. is_among set (word * 64 + bit)) 64 ∷ words_from set (word + 1) n
 
 unfoldable pub words_of : List ℕ → List ℕ
 words_of set = words_from set 0 SET_WORDS

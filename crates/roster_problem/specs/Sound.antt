@@ -49,7 +49,8 @@ pub record IsSound (problem : Problem) : Type 0 where
   -- what is referred to is there
   pub homes : All (λ person. person.base < length problem.bases) problem.persons
   pub starts : All (λ pairing. pairing.base < length problem.bases) problem.pairings
-  pub holders : All (λ duty. IsHolder (length problem.pairings) (length problem.persons) duty.holder) problem.duties
+  pub holders : All
+      (λ duty. IsHolder (length problem.pairings) (length problem.persons) duty.holder) problem.duties
   pub absences : All (λ leave. leave.person < length problem.persons) problem.leaves
   pub cost_persons : All (λ cost. cost.person < length problem.persons) problem.costs
   pub cost_pairings : All (λ cost. cost.pairing < length problem.pairings) problem.costs

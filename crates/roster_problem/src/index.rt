@@ -1,6 +1,7 @@
 //! The entries of each place of a table, without a look at the others.
 
-ghost use Rattle.std.specs.Prelude.{◌≡◌, ◌<◌, ◌≤◌, ◌++◌, ◌∷◌, [], ℕ, Bool, IfOk, OnOk, Option, Some, All, length, replicate, slice_get, slice_index_or, slice_set};
+ghost use Rattle.std.specs.Prelude.{◌≡◌, ◌<◌, ◌≤◌, ◌++◌, ◌∷◌, [], ℕ, Bool, IfOk, OnOk, Option, Some, All};
+ghost use Rattle.std.specs.Prelude.{length, replicate, slice_get, slice_index_or, slice_set};
 ghost use Rattle.std.specs.Fn.{FnReturnsAt};
 ghost use Rattle.roster_problem.specs.Duties.{IsIndex, is_at};
 

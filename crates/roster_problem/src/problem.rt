@@ -4,7 +4,8 @@ ghost use Rattle.std.specs.Prelude.{◌≡◌, ◌<◌, ◌≤◌, IfOk, Some, l
 ghost use Rattle.roster_model.specs.declared.limits.TheConstants.{MOST_UNITS, MOST_WEIGHT};
 ghost use Rattle.roster_model.specs.Faults.{IsFaultless};
 ghost use Rattle.roster_model.specs.Problem.{home_of, units_of, weight_of};
-ghost use Rattle.roster_problem.specs.Duties.{AreFlown, ArePositionsOf, AreTimed, IsInOrder, is_of_pairing, is_of_person};
+ghost use Rattle.roster_problem.specs.Duties.{AreFlown, ArePositionsOf, AreTimed, IsInOrder, is_of_pairing};
+ghost use Rattle.roster_problem.specs.Duties.{is_of_person};
 ghost use Rattle.roster_problem.specs.Sound.{IsSound};
 
 use crate::base::Base;

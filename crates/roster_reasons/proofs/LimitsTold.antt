@@ -10,7 +10,8 @@ use Rattle.roster_reasons.specs.Reasons.{IsReasonOn}
 use Rattle.roster_reasons.specs.declared.rules.Reason.{Reason}
 
 -- a limit is what it looks at
-HoldsLimit-from_bound : (days : Days) (list : List Duty) (year eleven : ℕ) (limit : Limit) → KeepsBound days list (bound_of year eleven limit) → HoldsLimit days list year eleven limit
+HoldsLimit-from_bound : (days : Days) (list : List Duty) (year eleven : ℕ) (limit : Limit)
+    → KeepsBound days list (bound_of year eleven limit) → HoldsLimit days list year eleven limit
 HoldsLimit-from_bound days list year eleven Duty7 keeps = keeps
 HoldsLimit-from_bound days list year eleven Duty14 keeps = keeps
 HoldsLimit-from_bound days list year eleven Duty28 keeps = keeps

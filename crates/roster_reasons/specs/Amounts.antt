@@ -12,7 +12,8 @@ use Rattle.roster_reasons.specs.Bounds.{minutes_by}
 use Rattle.roster_reasons.specs.Runs.{IsFirstRunOver, IsGreatestRun}
 
 -- So much was flown before the month, so much is flown in it, and so much there may be of both.
-pub record IsMonthFlight (days : Days) (list : List Duty) (before limit : ℕ) (told : MonthFlight) : Type 0 where
+pub record IsMonthFlight (days : Days) (list : List Duty) (before limit : ℕ)
+    (told : MonthFlight) : Type 0 where
   pub carried : told.carried ≡ before
   pub flown : told.flown ≡ month_flight days list
   pub most : told.most ≡ limit
@@ -24,14 +25,16 @@ pub record IsMonthOver (days : Days) (list : List Duty) (before limit : ℕ) (to
 
 -- The amount is what first breaks a limit that looks at this.
 abbrev pub IsOver : Days → List Duty → Bound → Amount → Type 0
-IsOver days list (bounds.Run measure n most) (amounts.Run run) = IsFirstRunOver (minutes_by measure days list) days n most run
+IsOver days list (bounds.Run measure n most) (amounts.Run run) =
+    IsFirstRunOver (minutes_by measure days list) days n most run
 IsOver days list (bounds.Run measure n most) (amounts.Month month) = ⊥
 IsOver days list (bounds.Month carried most) (amounts.Run run) = ⊥
 IsOver days list (bounds.Month carried most) (amounts.Month month) = IsMonthOver days list carried most month
 
 -- The amount is what is used of a limit that looks at this.
 abbrev pub IsUse : Days → List Duty → Bound → Amount → Type 0
-IsUse days list (bounds.Run measure n most) (amounts.Run run) = IsGreatestRun (minutes_by measure days list) days n most run
+IsUse days list (bounds.Run measure n most) (amounts.Run run) =
+    IsGreatestRun (minutes_by measure days list) days n most run
 IsUse days list (bounds.Run measure n most) (amounts.Month month) = ⊥
 IsUse days list (bounds.Month carried most) (amounts.Run run) = ⊥
 IsUse days list (bounds.Month carried most) (amounts.Month month) = IsMonthFlight days list carried most month

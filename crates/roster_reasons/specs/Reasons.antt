@@ -39,7 +39,8 @@ TellsOn problem k set list (reasons.Leave told) = IsFirstDutyInLeave problem k l
 TellsOn problem k set list (reasons.Rest short) = IsFirstShortRest (home_of problem k) list short
 TellsOn problem k set list (reasons.Recovery block) = IsFirstLongBlock (home_of problem k).days list block
 TellsOn problem k set list (reasons.Limit limit amount) =
-    IsOver (home_of problem k).days list (bound_of (year_of problem k) (eleven_of problem k) (limit_of limit)) amount
+    IsOver (home_of problem k).days list
+    (bound_of (year_of problem k) (eleven_of problem k) (limit_of limit)) amount
 TellsOn problem k set list (reasons.DaysOff few) = IsFewDaysOff (home_of problem k).days list few
 
 -- The reason tells of the duty at place i of the list: of both that overlap, of those before and after a
@@ -54,7 +55,8 @@ IsTold (reasons.Limit limit amount) i = ⊥
 IsTold (reasons.DaysOff few) i = ⊥
 
 -- The reason speaks of the rule, and what it tells is so.
-pub record IsReasonOn (problem : Problem) (k : ℕ) (set : List ℕ) (list : List Duty) (law : Rule) (reason : Reason) : Type 0 where
+pub record IsReasonOn (problem : Problem) (k : ℕ) (set : List ℕ) (list : List Duty) (law : Rule)
+    (reason : Reason) : Type 0 where
   pub rule : rule_told reason ≡ law
   pub tells : TellsOn problem k set list reason
 

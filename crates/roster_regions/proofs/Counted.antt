@@ -21,7 +21,8 @@ within_times (suc n) most z within =
     both (n * most) (suc n * most) (pos n *ℤ z) (pos (suc n) *ℤ z) product more rest
   where
     both : (m m' : ℕ) (y y' : ℤ) → m' ≡ m + most → y' ≡ y +ℤ z → IsWithin m y → IsWithin m' y'
-    both m m' y y' e f inside = (omega (arith, ints, inside.0, within.0), omega (arith, ints, inside.1, within.1))
+    both m m' y y' e f inside =
+        (omega (arith, ints, inside.0, within.0), omega (arith, ints, inside.1, within.1))
 
 -- a number is as far from 0 as its absolute value says
 pub within_from_abs : (z : ℤ) (most : ℕ) → unsigned_abs z ≤ most → IsWithin most z
@@ -33,7 +34,8 @@ abs_from_within (pos n) most within = omega (arith, ints, within.1)
 abs_from_within (negsuc n) most within = omega (arith, ints, within.0)
 
 -- the greatest so far, with one number more
-pub greatest-more : (f : ℕ → ℤ) (old new i : ℕ) → ((j : ℕ) → j < i → IsWithin old (f j)) → new ≡ max old (unsigned_abs (f i)) → (j : ℕ) → j < i + 1 → IsWithin new (f j)
+pub greatest-more : (f : ℕ → ℤ) (old new i : ℕ) → ((j : ℕ) → j < i → IsWithin old (f j))
+    → new ≡ max old (unsigned_abs (f i)) → (j : ℕ) → j < i + 1 → IsWithin new (f j)
 greatest-more f old new i before is j inside =
     elim (cases_lt j i) [
       | inl l ↦ within_more old new (f j) (omega (arith, is)) (before j l)

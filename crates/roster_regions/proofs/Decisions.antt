@@ -24,15 +24,20 @@ use Rattle.roster_regions.proofs.RegionLemmas.{among_from_Has, chosen_line, Has-
 -- ---- splits
 
 -- a pairing of some line is one of the problem's
-pub split_within : (problem : Problem) (region : Region) (k p : ℕ) → IsRegion problem region → k < length problem.persons → IsSplit region k p → p < length problem.pairings
+pub split_within : (problem : Problem) (region : Region) (k p : ℕ) → IsRegion problem region
+    → k < length problem.persons → IsSplit region k p → p < length problem.pairings
 split_within problem region k p is person split =
-    let found = Any-from_list_any (λ (line : AllowedLine). is_among line.set p) (lines_of region k) split.some in
+    let found =
+    Any-from_list_any (λ (line : AllowedLine). is_among line.set p) (lines_of region k) split.some in
     let inside : k < length region.choices = omega (arith, is.covers) in
-    let known = All-contains (IsAllowedLine problem region.scale k) (lines_of region k) found.1 (is.each k (lines_of region k) (lines_of_get region k inside)) (found.0, found.2, found.3) in
+    let known =
+    All-contains (IsAllowedLine problem region.scale k) (lines_of region k) found.1
+    (is.each k (lines_of region k) (lines_of_get region k inside)) (found.0, found.2, found.3) in
     All-is_among (λ q. q < length problem.pairings) found.1.set p known.is_line.places found.4
 
 -- if the lines of each person are the same, nobody is split
-pub decided_by_each : (region : Region) (n : ℕ) → length region.choices ≡ n → ((k : ℕ) → k < n → AgreesOn (lines_of region k)) → IsDecided region
+pub decided_by_each : (region : Region) (n : ℕ) → length region.choices ≡ n
+    → ((k : ℕ) → k < n → AgreesOn (lines_of region k)) → IsDecided region
 decided_by_each region n covers each k lines at =
     let inside = slice_get_within region.choices k lines at in
     subst AgreesOn (lines_of_is region k lines at) (each k (omega arith))
@@ -41,10 +46,14 @@ decided_by_each region n covers each k lines at =
 
 offered_line : (problem : Problem) (region : Region) (places : List ℕ) (k : ℕ) → IsRegion problem region → k < length region.choices → Offers (lines_of region k) (set_of k places) → (line : AllowedLine) × Contains (lines_of region k) line × (line.set ≡ set_of k places) × IsAllowedLine problem region.scale k line
 offered_line problem region places k is inside offer =
-    let known = All-contains (IsAllowedLine problem region.scale k) (lines_of region k) offer.0 (is.each k (lines_of region k) (lines_of_get region k inside)) offer.1 in
+    let known =
+    All-contains (IsAllowedLine problem region.scale k) (lines_of region k) offer.0
+    (is.each k (lines_of region k) (lines_of_get region k inside)) offer.1 in
     (offer.0, offer.1, same_set offer.0.set (set_of k places) (Ascends-from_rising offer.0.set known.is_line.ascending) (Ascends-set_of k places) offer.2, known)
 
-pub inside_by_parts : (problem : Problem) (region : Region) (places : List ℕ) → IsRegion problem region → length places ≡ length problem.pairings → All (λ x. x ≤ length problem.persons) places → AreStatesKept problem region places → AreChosen problem region places → IsIn problem region places
+pub inside_by_parts : (problem : Problem) (region : Region) (places : List ℕ) → IsRegion problem region
+    → length places ≡ length problem.pairings → All (λ x. x ≤ length problem.persons) places
+    → AreStatesKept problem region places → AreChosen problem region places → IsIn problem region places
 inside_by_parts problem region places is covers numbers states chosen = record {
   legal = record {
     covers = covers;
@@ -62,18 +71,23 @@ inside_by_parts problem region places is covers numbers states chosen = record {
   flown = states.flown;
 }
 
-pub chosen_inside : (problem : Problem) (region : Region) (places : List ℕ) → IsRegion problem region → IsIn problem region places → AreChosen problem region places
+pub chosen_inside : (problem : Problem) (region : Region) (places : List ℕ) → IsRegion problem region
+    → IsIn problem region places → AreChosen problem region places
 chosen_inside problem region places is there k person =
     let line = chosen_line problem region places k there (omega (arith, is.covers)) in
     (line.0, line.1, λ p. ap (λ set. is_among set p) line.2)
 
 -- ---- the one roster
 
-pub number_of_owner : (problem : Problem) (region : Region) (k p : ℕ) → IsWhollyIn problem region (Has k p) → IsNumberOf problem region p k
+pub number_of_owner : (problem : Problem) (region : Region) (k p : ℕ) → IsWhollyIn problem region (Has k p)
+    → IsNumberOf problem region p k
 number_of_owner problem region k p all places there = get_or_from_slice_get places p k 0 (all places there)
 
 -- if all lines of each person are the same, a pairing that nobody's lines all have is open
-pub number_of_nobody : (problem : Problem) (region : Region) (p : ℕ) → IsRegion problem region → IsDecided region → p < length problem.pairings → ((k : ℕ) → k < length problem.persons → IsUncertain region p k) → IsNumberOf problem region p (open_number problem)
+pub number_of_nobody : (problem : Problem) (region : Region) (p : ℕ) → IsRegion problem region
+    → IsDecided region → p < length problem.pairings
+    → ((k : ℕ) → k < length problem.persons → IsUncertain region p k)
+    → IsNumberOf problem region p (open_number problem)
 number_of_nobody problem region p is decided inside uncertain places there =
     elim (number_of problem region p places there inside) [
       | inl free ↦ get_or_from_slice_get places p (open_number problem) 0 free
@@ -81,15 +95,23 @@ number_of_nobody problem region p is decided inside uncertain places there =
           let k : ℕ = held.0 in
           let room : k < length region.choices = omega (arith, held.1, is.covers) in
           let line = chosen_line problem region places k there room in
-          let has : is_among line.0.set p ≡ true = ap (λ set. is_among set p) line.2 ∙ among_from_Has k p places held.2 in
+          let has : is_among line.0.set p ≡ true =
+          ap (λ set. is_among set p) line.2 ∙ among_from_Has k p places held.2 in
           let same = decided k (lines_of region k) (lines_of_get region k room) in
-          let here = All-contains (λ (l : AllowedLine). (q : ℕ) → is_among l.set q ≡ is_among same.0 q) (lines_of region k) line.0 same.1 line.1 in
-          let all = list_all-from_AllPass (λ (l : AllowedLine). is_among l.set p) (lines_of region k) (λ i d l. same.1 i d l p ∙ sym (here p) ∙ has) in
+          let here =
+          All-contains (λ (l : AllowedLine). (q : ℕ) → is_among l.set q ≡ is_among same.0 q)
+          (lines_of region k) line.0 same.1 line.1 in
+          let all =
+          list_all-from_AllPass (λ (l : AllowedLine). is_among l.set p) (lines_of region k)
+          (λ i d l. same.1 i d l p ∙ sym (here p) ∙ has) in
           absurd (both_ways (list_all (λ (l : AllowedLine). is_among l.set p) (lines_of region k)) (uncertain k held.1 (omega (arith, line.1.1))) all)
     ]
 
 -- the rosters of a region agree with the list of numbers
-pub only_one : (problem : Problem) (region : Region) (numbers : List ℕ) → length numbers ≡ length problem.pairings → ((p : ℕ) → p < length problem.pairings → IsNumberOf problem region p (get_or numbers p 0)) → (others : List ℕ) → IsIn problem region others → others ≡ numbers
+pub only_one : (problem : Problem) (region : Region) (numbers : List ℕ)
+    → length numbers ≡ length problem.pairings
+    → ((p : ℕ) → p < length problem.pairings → IsNumberOf problem region p (get_or numbers p 0))
+    → (others : List ℕ) → IsIn problem region others → others ≡ numbers
 only_one problem region numbers covers each others there =
     same_lists others numbers (there.legal.covers ∙ sym covers) (λ p d inside.
     get_or_default others p d 0 inside
@@ -101,18 +123,31 @@ only_one problem region numbers covers each others there =
 abbrev pub IsMeet : List ℕ → List ℕ → List ℕ → Type 0
 IsMeet both left free = (p : ℕ) → is_among both p ≡ (is_among left p && is_among free p)
 
-pub states_kept : (problem : Problem) (region : Region) (places free both : List ℕ) → ((p : ℕ) → is_among free p ≡ is_among (set_of (open_number problem) places) p) → IsMeet both region.left_open free → ((p : ℕ) → is_among both p ≡ is_among region.left_open p) → (((p : ℕ) × (is_among region.flown p ≡ true) × (is_among free p ≡ true)) → ⊥) → AreStatesKept problem region places
+pub states_kept : (problem : Problem) (region : Region) (places free both : List ℕ)
+    → ((p : ℕ) → is_among free p ≡ is_among (set_of (open_number problem) places) p)
+    → IsMeet both region.left_open free → ((p : ℕ) → is_among both p ≡ is_among region.left_open p)
+    → (((p : ℕ) × (is_among region.flown p ≡ true) × (is_among free p ≡ true)) → ⊥)
+    → AreStatesKept problem region places
 states_kept problem region places free both is meet same apart = record {
   left_open = λ p left. Has-from_among (open_number problem) p places (sym (is p) ∙ ap (λ b. b && is_among free p) (sym left) ∙ sym (meet p) ∙ same p ∙ left);
   flown = λ p flown has. apart (p, flown, is p ∙ among_from_Has (open_number problem) p places has);
 }
 
-pub states_same : (problem : Problem) (region : Region) (places free both : List ℕ) → ((p : ℕ) → is_among free p ≡ is_among (set_of (open_number problem) places) p) → IsMeet both region.left_open free → AreStatesKept problem region places → (p : ℕ) → is_among both p ≡ is_among region.left_open p
+pub states_same : (problem : Problem) (region : Region) (places free both : List ℕ)
+    → ((p : ℕ) → is_among free p ≡ is_among (set_of (open_number problem) places) p)
+    → IsMeet both region.left_open free → AreStatesKept problem region places → (p : ℕ)
+    → is_among both p ≡ is_among region.left_open p
 states_same problem region places free both is meet kept p = go (is_among region.left_open p) refl
   where
     go : (b : Bool) → is_among region.left_open p ≡ b → is_among both p ≡ is_among region.left_open p
-    go true e = meet p ∙ ap (λ b. b && is_among free p) e ∙ is p ∙ among_from_Has (open_number problem) p places (kept.left_open p e) ∙ sym e
+    go true e =
+        meet p ∙ ap (λ b. b && is_among free p) e ∙ is p
+        ∙ among_from_Has (open_number problem) p places (kept.left_open p e) ∙ sym e
     go false e = meet p ∙ ap (λ b. b && is_among free p) e ∙ sym e
 
-pub states_apart : (problem : Problem) (region : Region) (places free : List ℕ) → ((p : ℕ) → is_among free p ≡ is_among (set_of (open_number problem) places) p) → AreStatesKept problem region places → ((p : ℕ) × (is_among region.flown p ≡ true) × (is_among free p ≡ true)) → ⊥
-states_apart problem region places free is kept (p, flown, here) = kept.flown p flown (Has-from_among (open_number problem) p places (sym (is p) ∙ here))
+pub states_apart : (problem : Problem) (region : Region) (places free : List ℕ)
+    → ((p : ℕ) → is_among free p ≡ is_among (set_of (open_number problem) places) p)
+    → AreStatesKept problem region places
+    → ((p : ℕ) × (is_among region.flown p ≡ true) × (is_among free p ≡ true)) → ⊥
+states_apart problem region places free is kept (p, flown, here) =
+    kept.flown p flown (Has-from_among (open_number problem) p places (sym (is p) ∙ here))

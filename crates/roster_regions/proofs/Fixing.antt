@@ -16,40 +16,58 @@ use Rattle.roster_regions.proofs.BoundLemmas.{true-int_le, value_is}
 use Rattle.roster_regions.proofs.RegionLemmas.{narrowed_by_filter}
 
 -- lines beyond the cut are in no roster within the cost
-pub lines_within : (problem : Problem) (region : Region) (prices : List ℤ) (k : ℕ) (most cut : ℤ) → IsRegion problem region → k < length problem.persons → IsValueWithin problem region prices k most cut
+pub lines_within : (problem : Problem) (region : Region) (prices : List ℤ) (k : ℕ) (most cut : ℤ)
+    → IsRegion problem region → k < length problem.persons → IsValueWithin problem region prices k most cut
     → IsNarrowed problem (CostsAtMost problem most) region (with_lines region k (filter (λ line. int_le (value_of prices line) cut) (lines_of region k)))
 lines_within problem region prices k most cut is person within =
     let inside : k < length region.choices = omega (arith, is.covers) in
-    narrowed_by_filter problem (CostsAtMost problem most) region k (λ line. int_le (value_of prices line) cut) is inside
+    narrowed_by_filter problem (CostsAtMost problem most) region k
+    (λ line. int_le (value_of prices line) cut) is inside
     (λ places line there costs among same. true-int_le (value_of prices line) cut (subst (λ z. z ≤ℤ cut) (sym (value_is problem region prices places k line is inside among same)) (within places there costs)))
 
 -- what stays so in a part of the region
-pub value_within_part : (problem : Problem) (whole region : Region) (prices : List ℤ) (k : ℕ) (most cut : ℤ) → IsNarrowed problem (CostsAtMost problem most) whole region → IsValueWithin problem whole prices k most cut → IsValueWithin problem region prices k most cut
+pub value_within_part : (problem : Problem) (whole region : Region) (prices : List ℤ) (k : ℕ) (most cut : ℤ)
+    → IsNarrowed problem (CostsAtMost problem most) whole region
+    → IsValueWithin problem whole prices k most cut → IsValueWithin problem region prices k most cut
 value_within_part problem whole region prices k most cut part within places there costs =
     let same = ap (λ scale. pos scale *ℤ extra_of problem k (set_of k places) -ℤ total (price_at prices) (set_of k places)) part.scale in
     subst (λ z. z ≤ℤ cut) (sym same) (within places (part.inside places there) costs)
 
-pub share_within_part : (problem : Problem) (whole region : Region) (prices : List ℤ) (p : ℕ) (most cut : ℤ) → IsNarrowed problem (CostsAtMost problem most) whole region → IsShareWithin problem whole prices p most cut → IsShareWithin problem region prices p most cut
+pub share_within_part : (problem : Problem) (whole region : Region) (prices : List ℤ) (p : ℕ) (most cut : ℤ)
+    → IsNarrowed problem (CostsAtMost problem most) whole region
+    → IsShareWithin problem whole prices p most cut → IsShareWithin problem region prices p most cut
 share_within_part problem whole region prices p most cut part within places there costs =
     let same = ap (λ scale. cond (eqb (get_or places p 0) (open_number problem)) (pos (scale * penalty_at problem p)) (price_at prices p)) part.scale in
     subst (λ z. z ≤ℤ cut) (sym same) (within places (part.inside places there) costs)
 
 -- a pairing whose penalty is beyond the cut isn't open
-pub flown_within : (problem : Problem) (region : Region) (prices : List ℤ) (p : ℕ) (most cut : ℤ) → IsShareWithin problem region prices p most cut → cut <ℤ fine_penalty problem region p → (places : List ℕ) → IsIn problem region places → CostsAtMost problem most places → HasNot (open_number problem) p places
+pub flown_within : (problem : Problem) (region : Region) (prices : List ℤ) (p : ℕ) (most cut : ℤ)
+    → IsShareWithin problem region prices p most cut → cut <ℤ fine_penalty problem region p
+    → (places : List ℕ) → IsIn problem region places → CostsAtMost problem most places
+    → HasNot (open_number problem) p places
 flown_within problem region prices p most cut within beyond places there costs has =
-    let free = eq-eqb (get_or places p 0) (open_number problem) (get_or_from_slice_get places p (open_number problem) 0 has) in
-    let share : fine_penalty problem region p ≤ℤ cut = subst (λ b. cond b (fine_penalty problem region p) (price_at prices p) ≤ℤ cut) free (within places there costs) in
+    let free =
+    eq-eqb (get_or places p 0) (open_number problem)
+    (get_or_from_slice_get places p (open_number problem) 0 has) in
+    let share : fine_penalty problem region p ≤ℤ cut =
+    subst (λ b. cond b (fine_penalty problem region p) (price_at prices p) ≤ℤ cut) free
+    (within places there costs) in
     omega (arith, ints, share, beyond)
 
 -- and one whose price is is
-pub open_within : (problem : Problem) (region : Region) (prices : List ℤ) (p : ℕ) (most cut : ℤ) → p < length problem.pairings → IsShareWithin problem region prices p most cut → cut <ℤ price_at prices p → (places : List ℕ) → IsIn problem region places → CostsAtMost problem most places → Has (open_number problem) p places
+pub open_within : (problem : Problem) (region : Region) (prices : List ℤ) (p : ℕ) (most cut : ℤ)
+    → p < length problem.pairings → IsShareWithin problem region prices p most cut → cut <ℤ price_at prices p
+    → (places : List ℕ) → IsIn problem region places → CostsAtMost problem most places
+    → Has (open_number problem) p places
 open_within problem region prices p most cut inside within beyond places there costs =
     let at = slice_get-get_or places p 0 (omega (arith, there.legal.covers)) in
     elim (cases_eq (get_or places p 0) (open_number problem)) [
       | inl same ↦ at ∙ ap Some same
       | inr other ↦
           let held = ne_eqb (get_or places p 0) (open_number problem) other in
-          let share : price_at prices p ≤ℤ cut = subst (λ b. cond b (fine_penalty problem region p) (price_at prices p) ≤ℤ cut) held (within places there costs) in
+          let share : price_at prices p ≤ℤ cut =
+          subst (λ b. cond b (fine_penalty problem region p) (price_at prices p) ≤ℤ cut) held
+          (within places there costs) in
           absurd (omega (arith, ints, share, beyond))
     ]
 

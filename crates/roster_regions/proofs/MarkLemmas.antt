@@ -14,7 +14,8 @@ use Rattle.roster_regions.specs.Rows.{choice_of, choices_of}
 use Rattle.roster_regions.specs.Trees.{line_here, lines_after, lines_in, next_path, path_after, ArePossible, AreCertain, IsLimited}
 use Rattle.roster_regions.proofs.TreeLemmas.{certain_first, certain_more, filter-lines_more, length-lines_in, lines_in-dead, lines_in-live, possible_more}
 
-pub length-remarked : (marks : List Bool) (choices : List Choice) → length (remarked marks choices) ≡ length choices
+pub length-remarked : (marks : List Bool) (choices : List Choice)
+    → length (remarked marks choices) ≡ length choices
 unfolding remarked
 length-remarked [] choices = refl
 length-remarked (mark ∷ marks) [] = refl
@@ -23,19 +24,24 @@ length-remarked (mark ∷ marks) (choice ∷ choices) = omega (arith, length-rem
 get_or-remarked : (marks : List Bool) (choices : List Choice) (i : ℕ) (d : Choice) → i < length choices → get_or (remarked marks choices) i d ≡ with_live (get_or marks i (get_or choices i d).live) (get_or choices i d)
 unfolding remarked
 get_or-remarked [] choices i d inside =
-    ap (λ live. with_live live (get_or choices i d)) (sym (get_or_past [] i (get_or choices i d).live (omega arith)))
+    ap (λ live. with_live live (get_or choices i d))
+    (sym (get_or_past [] i (get_or choices i d).live (omega arith)))
 get_or-remarked (mark ∷ marks) [] i d inside = absurd (omega (arith, inside))
 get_or-remarked (mark ∷ marks) (choice ∷ choices) zero d inside = refl
-get_or-remarked (mark ∷ marks) (choice ∷ choices) (suc i) d inside = get_or-remarked marks choices i d (omega (arith, inside))
+get_or-remarked (mark ∷ marks) (choice ∷ choices) (suc i) d inside =
+    get_or-remarked marks choices i d (omega (arith, inside))
 
 -- the choice at a place
-pub remarked-at : (marks : List Bool) (choices : List Choice) (i : ℕ) (choice : Choice) → slice_get choices i ≡ Some choice → slice_get (remarked marks choices) i ≡ Some (with_live (get_or marks i choice.live) choice)
+pub remarked-at : (marks : List Bool) (choices : List Choice) (i : ℕ) (choice : Choice)
+    → slice_get choices i ≡ Some choice
+    → slice_get (remarked marks choices) i ≡ Some (with_live (get_or marks i choice.live) choice)
 remarked-at marks choices i choice at =
     let inside = slice_get_within choices i choice at in
     slice_get-get_or (remarked marks choices) i choice (omega (arith, inside, length-remarked marks choices))
     ∙ ap Some (get_or-remarked marks choices i choice inside ∙ ap (λ (c : Choice). with_live (get_or marks i c.live) c) (get_or_from_slice_get choices i choice choice at))
 
-pub limited-remarked : (marks : List Bool) (choices : List Choice) → All IsLimited choices → All IsLimited (remarked marks choices)
+pub limited-remarked : (marks : List Bool) (choices : List Choice) → All IsLimited choices
+    → All IsLimited (remarked marks choices)
 unfolding remarked
 limited-remarked [] choices all = all
 limited-remarked (mark ∷ marks) [] all = All-nil IsLimited
@@ -46,7 +52,8 @@ limited-remarked (mark ∷ marks) (choice ∷ choices) all =
     (limited-remarked marks choices (All-tail IsLimited choice choices all))
 
 -- marks take the place of earlier ones
-pub remarked-again : (others marks : List Bool) (choices : List Choice) → length others ≡ length choices → remarked others (remarked marks choices) ≡ remarked others choices
+pub remarked-again : (others marks : List Bool) (choices : List Choice) → length others ≡ length choices
+    → remarked others (remarked marks choices) ≡ remarked others choices
 unfolding remarked
 remarked-again [] [] choices same = refl
 remarked-again [] (mark ∷ marks) [] same = refl
@@ -65,11 +72,13 @@ remarked-push (first ∷ marks) mark (other ∷ choices) choice same =
     ap (λ rest. with_live first other ∷ rest) (remarked-push marks mark choices choice (omega (arith, same)))
 
 -- the way to a choice doesn't ask what is live
-path_after-remarked : (marks : List Bool) (path : List ℕ) (choices : List Choice) → path_after path (remarked marks choices) ≡ path_after path choices
+path_after-remarked : (marks : List Bool) (path : List ℕ) (choices : List Choice)
+    → path_after path (remarked marks choices) ≡ path_after path choices
 unfolding path_after remarked
 path_after-remarked [] path choices = refl
 path_after-remarked (mark ∷ marks) path [] = refl
-path_after-remarked (mark ∷ marks) path (choice ∷ choices) = path_after-remarked marks (next_path path choice) choices
+path_after-remarked (mark ∷ marks) path (choice ∷ choices) =
+    path_after-remarked marks (next_path path choice) choices
 
 -- ---- rows with marks
 
@@ -79,7 +88,8 @@ lines_after-remarked [] path scale empty rows = refl
 lines_after-remarked (mark ∷ marks) path scale empty [] = refl
 lines_after-remarked (true ∷ marks) path scale empty (row ∷ rows) =
     let choice : Choice = choice_of scale empty row in
-    ap (λ lines. allowed (next_path path choice) choice.extra ∷ lines) (lines_after-remarked marks (next_path path choice) scale empty rows)
+    ap (λ lines. allowed (next_path path choice) choice.extra ∷ lines)
+    (lines_after-remarked marks (next_path path choice) scale empty rows)
 lines_after-remarked (false ∷ marks) path scale empty (row ∷ rows) =
     lines_after-remarked marks (next_path path (choice_of scale empty row)) scale empty rows
 
@@ -92,22 +102,27 @@ unfolding picked
 picked-all lines = refl
 
 -- without marks all rows are live
-all-live : (scale : ℕ) (empty : ℤ) (rows : List Row) → All (λ choice. choice.live ≡ true) (choices_of scale empty rows)
+all-live : (scale : ℕ) (empty : ℤ) (rows : List Row)
+    → All (λ choice. choice.live ≡ true) (choices_of scale empty rows)
 all-live scale empty [] = All-nil (λ (choice : Choice). choice.live ≡ true)
 all-live scale empty (row ∷ rows) =
-    All-cons (λ (choice : Choice). choice.live ≡ true) (choice_of scale empty row) (choices_of scale empty rows) refl (all-live scale empty rows)
+    All-cons (λ (choice : Choice). choice.live ≡ true) (choice_of scale empty row)
+    (choices_of scale empty rows) refl (all-live scale empty rows)
 
-pub live-unmarked : (marks : List Bool) (scale : ℕ) (empty : ℤ) (rows : List Row) → marks ≡ [] → AreAllLive (remarked marks (choices_of scale empty rows))
+pub live-unmarked : (marks : List Bool) (scale : ℕ) (empty : ℤ) (rows : List Row) → marks ≡ []
+    → AreAllLive (remarked marks (choices_of scale empty rows))
 unfolding remarked
 live-unmarked marks scale empty rows none i choice at =
     let choices : List Choice = choices_of scale empty rows in
-    let there : slice_get choices i ≡ Some choice = ap (λ ms. slice_get (remarked ms choices) i) (sym none) ∙ at in
+    let there : slice_get choices i ≡ Some choice =
+    ap (λ ms. slice_get (remarked ms choices) i) (sym none) ∙ at in
     ap (λ (c : Choice). c.live) (sym (get_or_from_slice_get choices i choice choice there))
     ∙ all-live scale empty rows i choice (slice_get_within choices i choice there)
 
 -- ---- a mark more
 
-pub IsMarking-nil : (marker : Marker) → marker.marks.items ≡ [] → marker.possible ≡ [] → marker.count ≡ 0 → IsMarking marker [] []
+pub IsMarking-nil : (marker : Marker) → marker.marks.items ≡ [] → marker.possible ≡ [] → marker.count ≡ 0
+    → IsMarking marker [] []
 unfolding lines_in lines_after remarked
 IsMarking-nil marker none possible count = record {
   covers = ap length none;
@@ -117,9 +132,14 @@ IsMarking-nil marker none possible count = record {
   number = count;
 }
 
-pub IsMarking-dead : (old new : Marker) (choices : List Choice) (lines : List AllowedLine) (choice : Choice) → IsMarking old choices lines → new.marks.items ≡ old.marks.items ++ false ∷ [] → new.possible ≡ old.possible → new.certain ≡ old.certain → new.count ≡ old.count → IsMarking new (choices ++ choice ∷ []) lines
+pub IsMarking-dead : (old new : Marker) (choices : List Choice) (lines : List AllowedLine) (choice : Choice)
+    → IsMarking old choices lines → new.marks.items ≡ old.marks.items ++ false ∷ []
+    → new.possible ≡ old.possible → new.certain ≡ old.certain → new.count ≡ old.count
+    → IsMarking new (choices ++ choice ∷ []) lines
 IsMarking-dead old new choices lines choice is pushed possible certain count = record {
-  covers = omega (arith, ap length pushed, length_push old.marks.items false, length_push choices choice, is.covers);
+  covers =
+      omega
+      (arith, ap length pushed, length_push old.marks.items false, length_push choices choice, is.covers);
   written =
       ap (λ ms. lines_in (remarked ms (choices ++ choice ∷ []))) pushed
       ∙ ap lines_in (remarked-push old.marks.items false choices choice is.covers)
@@ -137,7 +157,9 @@ IsMarking-live old new path choices lines choice is there pushed possible certai
     let way : next_path (path_after [] marked) (with_live true choice) ≡ path =
     ap (λ way. next_path way choice) (path_after-remarked old.marks.items [] choices) ∙ sym there in
     record {
-      covers = omega (arith, ap length pushed, length_push old.marks.items true, length_push choices choice, is.covers);
+      covers =
+          omega
+          (arith, ap length pushed, length_push old.marks.items true, length_push choices choice, is.covers);
       written =
           ap (λ ms. lines_in (remarked ms (choices ++ choice ∷ []))) pushed
           ∙ ap lines_in (remarked-push old.marks.items true choices choice is.covers)
@@ -149,7 +171,8 @@ IsMarking-live old new path choices lines choice is there pushed possible certai
     }
 
 -- there are no more live choices than marks
-pub few-marked : (marker : Marker) (choices : List Choice) (lines : List AllowedLine) → IsMarking marker choices lines → marker.count < length marker.marks.items + 1
+pub few-marked : (marker : Marker) (choices : List Choice) (lines : List AllowedLine)
+    → IsMarking marker choices lines → marker.count < length marker.marks.items + 1
 few-marked marker choices lines is =
     omega (arith, is.number, is.covers, ap length is.written, length-lines_in (remarked marker.marks.items choices), length-remarked marker.marks.items choices)
 
@@ -157,7 +180,8 @@ few-marked marker choices lines is =
 pub certain_marked-alone : (marker : Marker) (choices : List Choice) (lines : List AllowedLine) (line : AllowedLine) (next : List ℕ) → IsMarking marker choices lines → marker.count ≡ 0 → ((p : ℕ) → is_among line.set p ≡ is_among next p) → AreCertain (lines ++ line ∷ []) next
 certain_marked-alone marker choices lines line next is none same =
     let none_yet : lines ≡ [] = nil_from_length lines (omega (arith, is.number, none)) in
-    subst (λ ls. AreCertain (ls ++ line ∷ []) next) (sym none_yet) (certain_first line next (λ p. sym (same p)))
+    subst (λ ls. AreCertain (ls ++ line ∷ []) next) (sym none_yet)
+    (certain_first line next (λ p. sym (same p)))
 
 pub certain_marked-too : (marker : Marker) (choices : List Choice) (lines : List AllowedLine) (line : AllowedLine) (set next : List ℕ) → IsMarking marker choices lines → (marker.count ≡ 0 → ⊥) → ((p : ℕ) → is_among line.set p ≡ is_among set p) → ((p : ℕ) → is_among next p ≡ (is_among marker.certain p && is_among set p)) → AreCertain (lines ++ line ∷ []) next
 certain_marked-too marker choices lines line set next is some same both =

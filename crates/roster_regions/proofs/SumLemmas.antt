@@ -22,36 +22,44 @@ price-within prices p are =
           (omega (arith, ints, none), omega (arith, ints, none))
     ]
 
-prices-within : (prices : List ℤ) (path : List ℕ) → ArePrices prices → IsWithin (length path * MOST_PRICE) (total (price_at prices) path)
-prices-within prices [] are = (omega (arith, ints, total-nil (price_at prices)), omega (arith, ints, total-nil (price_at prices)))
+prices-within : (prices : List ℤ) (path : List ℕ) → ArePrices prices
+    → IsWithin (length path * MOST_PRICE) (total (price_at prices) path)
+prices-within prices [] are =
+    (omega (arith, ints, total-nil (price_at prices)), omega (arith, ints, total-nil (price_at prices)))
 prices-within prices (p ∷ path) are =
     let rest = prices-within prices path are in
     let here = price-within prices p are in
     (omega (arith, ints, total-cons (price_at prices) p path, here.0, rest.0), omega (arith, ints, total-cons (price_at prices) p path, here.1, rest.1))
 
-pub sum-within : (prices : List ℤ) (sums : Sums) (path : List ℕ) (j : ℕ) → ArePrices prices → AreSums prices sums path → j ≤ length path → IsWithin (MOST_PAIRINGS * MOST_PRICE) (get_or sums.sums j (pos 0))
+pub sum-within : (prices : List ℤ) (sums : Sums) (path : List ℕ) (j : ℕ) → ArePrices prices
+    → AreSums prices sums path → j ≤ length path
+    → IsWithin (MOST_PAIRINGS * MOST_PRICE) (get_or sums.sums j (pos 0))
 sum-within prices sums path j are known inside =
     let bound = prices-within prices (take j path) are in
-    let long : length (take j path) ≤ MOST_PAIRINGS = omega (arith, length-take-le j path inside, known.few) in
+    let long : length (take j path) ≤ MOST_PAIRINGS =
+    omega (arith, length-take-le j path inside, known.few) in
     let is = known.each j inside in
     (omega (arith, ints, is, bound.0, long), omega (arith, ints, is, bound.1, long))
 
 -- ---- the next choice
 
-pub AreSums-root : (prices sums : List ℤ) → get_or sums 0 (pos 0) ≡ pos 0 → AreSums prices (record { sums = sums; length = 0 }) []
+pub AreSums-root : (prices sums : List ℤ) → get_or sums 0 (pos 0) ≡ pos 0
+    → AreSums prices (record { sums = sums; length = 0 }) []
 AreSums-root prices sums none = record {
   whole = refl;
   few = omega arith;
   each = λ j inside.
       let root : j ≡ 0 = omega arith in
-      ap (λ i. get_or sums i (pos 0)) root ∙ none ∙ sym (total-nil (price_at prices)) ∙ ap (λ i. total (price_at prices) (take i [])) (sym root);
+      ap (λ i. get_or sums i (pos 0)) root ∙ none ∙ sym (total-nil (price_at prices))
+      ∙ ap (λ i. total (price_at prices) (take i [])) (sym root);
 }
 
 -- the sums along a path with one pairing more
 pub AreSums-step : (prices : List ℤ) (sums : Sums) (path : List ℕ) (last at : ℕ) (sum : ℤ) → AreSums prices sums path → at ≤ length path → at < MOST_PAIRINGS → at + 1 < length sums.sums → sum ≡ get_or sums.sums at (pos 0) +ℤ price_at prices last → AreSums prices (record { sums = set sums.sums (at + 1) sum; length = at + 1 }) (take at path ++ last ∷ [])
 AreSums-step prices sums path last at sum known inside few room is =
     let long : length (take at path) ≡ at = length-take-le at path inside in
-    let longer : length (take at path ++ last ∷ []) ≡ at + 1 = omega (arith, long, length_push (take at path) last) in
+    let longer : length (take at path ++ last ∷ []) ≡ at + 1 =
+    omega (arith, long, length_push (take at path) last) in
     record {
       whole = sym longer;
       few = omega (arith, longer);
@@ -61,7 +69,8 @@ AreSums-step prices sums path last at sum known inside few room is =
             let both = total-append (price_at prices) (take at path) (last ∷ []) in
             let one = total-cons (price_at prices) last [] in
             let none = total-nil (price_at prices) in
-            let all : total (price_at prices) (take at path ++ last ∷ []) ≡ sum = omega (arith, ints, both, one, none, is, known.each at inside) in
+            let all : total (price_at prices) (take at path ++ last ∷ []) ≡ sum =
+            omega (arith, ints, both, one, none, is, known.each at inside) in
             ap (λ i. get_or (set sums.sums (at + 1) sum) i (pos 0)) last_one
             ∙ get_or-set_same sums.sums (at + 1) sum (pos 0) room
             ∙ sym all

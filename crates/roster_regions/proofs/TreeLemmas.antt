@@ -14,12 +14,14 @@ use Rattle.roster_regions.specs.Trees.{next_path, path_after, line_here, lines_a
 
 -- ---- choices one behind another
 
-path_after-append : (path : List ℕ) (a b : List Choice) → path_after path (a ++ b) ≡ path_after (path_after path a) b
+path_after-append : (path : List ℕ) (a b : List Choice)
+    → path_after path (a ++ b) ≡ path_after (path_after path a) b
 unfolding path_after
 path_after-append path [] b = refl
 path_after-append path (choice ∷ a) b = path_after-append (next_path path choice) a b
 
-lines_after-append : (path : List ℕ) (a b : List Choice) → lines_after path (a ++ b) ≡ lines_after path a ++ lines_after (path_after path a) b
+lines_after-append : (path : List ℕ) (a b : List Choice)
+    → lines_after path (a ++ b) ≡ lines_after path a ++ lines_after (path_after path a) b
 unfolding path_after lines_after
 lines_after-append path [] b = refl
 lines_after-append path (choice ∷ a) b =
@@ -27,7 +29,8 @@ lines_after-append path (choice ∷ a) b =
     ap (λ lines. line_here next choice ++ lines) (lines_after-append next a b)
     ∙ sym (append_assoc (line_here next choice) (lines_after next a) (lines_after (path_after next a) b))
 
-pub path_after-push : (choices : List Choice) (choice : Choice) → path_after [] (choices ++ choice ∷ []) ≡ next_path (path_after [] choices) choice
+pub path_after-push : (choices : List Choice) (choice : Choice)
+    → path_after [] (choices ++ choice ∷ []) ≡ next_path (path_after [] choices) choice
 unfolding path_after
 path_after-push choices choice = path_after-append [] choices (choice ∷ [])
 
@@ -39,13 +42,15 @@ lines_in-push choices choice =
 
 pub path_more : (choices : List Choice) (i : ℕ) (choice : Choice) → i < length choices → path_after [] (take (i + 1) choices) ≡ next_path (path_after [] (take i choices)) (get_or choices i choice)
 path_more choices i choice inside =
-    ap (path_after []) (take_more choices i choice inside) ∙ path_after-push (take i choices) (get_or choices i choice)
+    ap (path_after []) (take_more choices i choice inside)
+    ∙ path_after-push (take i choices) (get_or choices i choice)
 
 pub lines_more : (choices : List Choice) (i : ℕ) (choice : Choice) → i < length choices → lines_in (take (i + 1) choices) ≡ lines_in (take i choices) ++ line_here (next_path (path_after [] (take i choices)) (get_or choices i choice)) (get_or choices i choice)
 lines_more choices i choice inside =
     ap lines_in (take_more choices i choice inside) ∙ lines_in-push (take i choices) (get_or choices i choice)
 
-length-lines_after : (path : List ℕ) (choices : List Choice) → length (lines_after path choices) ≤ length choices
+length-lines_after : (path : List ℕ) (choices : List Choice)
+    → length (lines_after path choices) ≤ length choices
 unfolding lines_after
 length-lines_after path [] = omega arith
 length-lines_after path (choice ∷ choices) =
@@ -64,15 +69,19 @@ length-lines_in choices = length-lines_after [] choices
 pub next_path-root : (path : List ℕ) (choice : Choice) → choice.depth ≡ 0 → next_path path choice ≡ []
 next_path-root path choice root = rw (eq-eqb choice.depth 0 root) refl
 
-pub next_path-deep : (path : List ℕ) (choice : Choice) → 0 < choice.depth → next_path path choice ≡ take (choice.depth - 1) path ++ choice.last ∷ []
+pub next_path-deep : (path : List ℕ) (choice : Choice) → 0 < choice.depth
+    → next_path path choice ≡ take (choice.depth - 1) path ++ choice.last ∷ []
 next_path-deep path choice deep =
     let other : choice.depth ≡ 0 → ⊥ = λ e. omega arith in
     rw (ne_eqb choice.depth 0 other) refl
 
 -- the step to position n of a path, from what has the path's first n pairings
-pub next_path-along : (out path : List ℕ) (shared n : ℕ) (choice : Choice) → take shared out ≡ take shared path → n ≤ shared → n < length path → choice.depth ≡ n + 1 → choice.last ≡ get_or path n 0 → next_path out choice ≡ take (n + 1) path
+pub next_path-along : (out path : List ℕ) (shared n : ℕ) (choice : Choice)
+    → take shared out ≡ take shared path → n ≤ shared → n < length path → choice.depth ≡ n + 1
+    → choice.last ≡ get_or path n 0 → next_path out choice ≡ take (n + 1) path
 next_path-along out path shared n choice same reached inside deep last =
-    let before : take n out ≡ take n path = sym (take-take n shared out reached) ∙ ap (take n) same ∙ take-take n shared path reached in
+    let before : take n out ≡ take n path =
+    sym (take-take n shared out reached) ∙ ap (take n) same ∙ take-take n shared path reached in
     let above : choice.depth - 1 ≡ n = omega arith in
     next_path-deep out choice (omega arith)
     ∙ ap (λ m. take m out ++ choice.last ∷ []) above
@@ -81,35 +90,44 @@ next_path-along out path shared n choice same reached inside deep last =
     ∙ sym (take_more path n 0 inside)
 
 -- the step to the whole of it
-pub next_path-whole : (out path : List ℕ) (shared : ℕ) (choice : Choice) → take shared out ≡ take shared path → length path ≤ shared + 1 → choice.depth ≡ length path → choice.last ≡ get_or path (length path - 1) 0 → next_path out choice ≡ path
+pub next_path-whole : (out path : List ℕ) (shared : ℕ) (choice : Choice) → take shared out ≡ take shared path
+    → length path ≤ shared + 1 → choice.depth ≡ length path → choice.last ≡ get_or path (length path - 1) 0
+    → next_path out choice ≡ path
 next_path-whole out [] shared choice same reached deep last = next_path-root out choice deep
 next_path-whole out (p ∷ path) shared choice same reached deep last =
     let n : ℕ = length path in
     let here : length (p ∷ path) - 1 ≡ n = omega arith in
-    next_path-along out (p ∷ path) shared n choice same (omega arith) (omega arith) (omega arith) (last ∙ ap (λ m. get_or (p ∷ path) m 0) here)
+    next_path-along out (p ∷ path) shared n choice same (omega arith) (omega arith) (omega arith)
+    (last ∙ ap (λ m. get_or (p ∷ path) m 0) here)
     ∙ take_all (n + 1) (p ∷ path) (omega arith)
 
 -- ---- a choice more
 
-pub line_here-live : (path : List ℕ) (choice : Choice) → choice.live ≡ true → line_here path choice ≡ allowed path choice.extra ∷ []
+pub line_here-live : (path : List ℕ) (choice : Choice) → choice.live ≡ true
+    → line_here path choice ≡ allowed path choice.extra ∷ []
 line_here-live path choice live = rw live refl
 
 line_here-dead : (path : List ℕ) (choice : Choice) → choice.live ≡ false → line_here path choice ≡ []
 line_here-dead path choice dead = rw dead refl
 
-pub lines_in-live : (choices : List Choice) (choice : Choice) (path : List ℕ) → choice.live ≡ true → next_path (path_after [] choices) choice ≡ path → lines_in (choices ++ choice ∷ []) ≡ lines_in choices ++ allowed path choice.extra ∷ []
+pub lines_in-live : (choices : List Choice) (choice : Choice) (path : List ℕ) → choice.live ≡ true
+    → next_path (path_after [] choices) choice ≡ path
+    → lines_in (choices ++ choice ∷ []) ≡ lines_in choices ++ allowed path choice.extra ∷ []
 lines_in-live choices choice path live there =
     lines_in-push choices choice
     ∙ ap (λ lines. lines_in choices ++ lines) (line_here-live (next_path (path_after [] choices) choice) choice live)
     ∙ ap (λ set. lines_in choices ++ allowed set choice.extra ∷ []) there
 
-pub lines_in-dead : (choices : List Choice) (choice : Choice) → choice.live ≡ false → lines_in (choices ++ choice ∷ []) ≡ lines_in choices
+pub lines_in-dead : (choices : List Choice) (choice : Choice) → choice.live ≡ false
+    → lines_in (choices ++ choice ∷ []) ≡ lines_in choices
 lines_in-dead choices choice dead =
     lines_in-push choices choice
     ∙ ap (λ lines. lines_in choices ++ lines) (line_here-dead (next_path (path_after [] choices) choice) choice dead)
     ∙ append-nil (lines_in choices)
 
-pub IsTree-dead : (choices : List Choice) (choice : Choice) (possible certain : List ℕ) (count : ℕ) → IsTree choices possible certain count → IsLimited choice → choice.live ≡ false → IsTree (choices ++ choice ∷ []) possible certain count
+pub IsTree-dead : (choices : List Choice) (choice : Choice) (possible certain : List ℕ) (count : ℕ)
+    → IsTree choices possible certain count → IsLimited choice → choice.live ≡ false
+    → IsTree (choices ++ choice ∷ []) possible certain count
 IsTree-dead choices choice possible certain count tree limited dead =
     let same = sym (lines_in-dead choices choice dead) in
     record {
@@ -124,7 +142,9 @@ pub or_false : (b : Bool) → b ≡ (b || false)
 or_false true = refl
 or_false false = refl
 
-pub possible_more : (lines : List AllowedLine) (line : AllowedLine) (possible next : List ℕ) → ArePossible lines possible → ((p : ℕ) → is_among next p ≡ (is_among possible p || is_among line.set p)) → ArePossible (lines ++ line ∷ []) next
+pub possible_more : (lines : List AllowedLine) (line : AllowedLine) (possible next : List ℕ)
+    → ArePossible lines possible → ((p : ℕ) → is_among next p ≡ (is_among possible p || is_among line.set p))
+    → ArePossible (lines ++ line ∷ []) next
 possible_more lines line possible next old joined p =
     let test : AllowedLine → Bool = λ l. is_among l.set p in
     joined p
@@ -136,10 +156,13 @@ pub and_true : (b : Bool) → b ≡ (b && true)
 and_true true = refl
 and_true false = refl
 
-pub certain_first : (line : AllowedLine) (next : List ℕ) → ((p : ℕ) → is_among next p ≡ is_among line.set p) → AreCertain (line ∷ []) next
+pub certain_first : (line : AllowedLine) (next : List ℕ) → ((p : ℕ) → is_among next p ≡ is_among line.set p)
+    → AreCertain (line ∷ []) next
 certain_first line next same some p = same p ∙ and_true (is_among line.set p)
 
-pub certain_more : (lines : List AllowedLine) (line : AllowedLine) (certain next : List ℕ) → 0 < length lines → AreCertain lines certain → ((p : ℕ) → is_among next p ≡ (is_among certain p && is_among line.set p)) → AreCertain (lines ++ line ∷ []) next
+pub certain_more : (lines : List AllowedLine) (line : AllowedLine) (certain next : List ℕ) → 0 < length lines
+    → AreCertain lines certain → ((p : ℕ) → is_among next p ≡ (is_among certain p && is_among line.set p))
+    → AreCertain (lines ++ line ∷ []) next
 certain_more lines line certain next some old both _ p =
     let test : AllowedLine → Bool = λ l. is_among l.set p in
     both p
@@ -149,10 +172,12 @@ certain_more lines line certain next some old both _ p =
 
 -- ---- what is so of the lines so far, with the next choice
 
-pub All-line_here : (P : AllowedLine → Type 0) (path : List ℕ) (choice : Choice) → (choice.live ≡ true → P (allowed path choice.extra)) → All P (line_here path choice)
+pub All-line_here : (P : AllowedLine → Type 0) (path : List ℕ) (choice : Choice)
+    → (choice.live ≡ true → P (allowed path choice.extra)) → All P (line_here path choice)
 All-line_here P path choice here = go choice.live here
   where
-    go : (live : Bool) → (live ≡ true → P (allowed path choice.extra)) → All P (cond live (allowed path choice.extra ∷ []) [])
+    go : (live : Bool) → (live ≡ true → P (allowed path choice.extra))
+        → All P (cond live (allowed path choice.extra ∷ []) [])
     go true h = All-cons P (allowed path choice.extra) [] (h refl) (All-nil P)
     go false h = All-nil P
 
@@ -166,7 +191,8 @@ pub All-lines_none : (P : AllowedLine → Type 0) → All P (lines_in [])
 unfolding lines_in lines_after
 All-lines_none P = All-nil P
 
-filter-line_here : (test : AllowedLine → Bool) (path : List ℕ) (choice : Choice) → filter test (line_here path choice) ≡ cond (test (allowed path choice.extra)) (line_here path choice) []
+filter-line_here : (test : AllowedLine → Bool) (path : List ℕ) (choice : Choice)
+    → filter test (line_here path choice) ≡ cond (test (allowed path choice.extra)) (line_here path choice) []
 filter-line_here test path choice = go choice.live (test (allowed path choice.extra)) refl
   where
     go : (live passes : Bool) → test (allowed path choice.extra) ≡ passes → filter test (cond live (allowed path choice.extra ∷ []) []) ≡ cond passes (cond live (allowed path choice.extra ∷ []) []) []
@@ -193,16 +219,19 @@ Contains-live choices i choice inside live =
     let next : List ℕ = next_path (path_after [] (take i choices)) item in
     let front : List Choice = take (i + 1) choices in
     let split : lines_after [] front ++ lines_after (path_after [] front) (drop (i + 1) choices) ≡ lines_in choices =
-    sym (lines_after-append [] front (drop (i + 1) choices)) ∙ ap (lines_after []) (take-append-drop (i + 1) choices) in
+    sym (lines_after-append [] front (drop (i + 1) choices))
+    ∙ ap (lines_after []) (take-append-drop (i + 1) choices) in
     let here : lines_in (take i choices) ++ allowed next item.extra ∷ [] ≡ lines_after [] front =
-    ap (λ ls. lines_in (take i choices) ++ ls) (sym (line_here-live next item live)) ∙ sym (lines_more choices i choice inside) in
+    ap (λ ls. lines_in (take i choices) ++ ls) (sym (line_here-live next item live))
+    ∙ sym (lines_more choices i choice inside) in
     subst (λ ls. Contains ls (allowed next item.extra)) split
     (Contains-append_left (lines_after [] front) (lines_after (path_after [] front) (drop (i + 1) choices)) (allowed next item.extra)
     (subst (λ ls. Contains ls (allowed next item.extra)) here (Contains-push (lines_in (take i choices)) (allowed next item.extra))))
 
 -- ---- a choice that is read at its place
 
-pub path_at : (choices : List Choice) (i : ℕ) (item : Choice) → slice_get choices i ≡ Some item → path_after [] (take (i + 1) choices) ≡ next_path (path_after [] (take i choices)) item
+pub path_at : (choices : List Choice) (i : ℕ) (item : Choice) → slice_get choices i ≡ Some item
+    → path_after [] (take (i + 1) choices) ≡ next_path (path_after [] (take i choices)) item
 path_at choices i item at =
     path_more choices i item (slice_get_within choices i item at)
     ∙ ap (next_path (path_after [] (take i choices))) (get_or_from_slice_get choices i item item at)
@@ -214,13 +243,18 @@ lines_at-live choices i item at live =
     ∙ ap (λ (c : Choice). lines_in (take i choices) ++ line_here (next_path path c) c) (get_or_from_slice_get choices i item item at)
     ∙ ap (λ lines. lines_in (take i choices) ++ lines) (line_here-live (next_path path item) item live)
 
-pub All-lines_at : (P : AllowedLine → Type 0) (choices : List Choice) (i : ℕ) (item : Choice) → slice_get choices i ≡ Some item → All P (lines_in (take i choices)) → (item.live ≡ true → P (allowed (next_path (path_after [] (take i choices)) item) item.extra)) → All P (lines_in (take (i + 1) choices))
+pub All-lines_at : (P : AllowedLine → Type 0) (choices : List Choice) (i : ℕ) (item : Choice)
+    → slice_get choices i ≡ Some item → All P (lines_in (take i choices))
+    → (item.live ≡ true → P (allowed (next_path (path_after [] (take i choices)) item) item.extra))
+    → All P (lines_in (take (i + 1) choices))
 All-lines_at P choices i item at before here =
     let path : List ℕ = path_after [] (take i choices) in
     All-lines_more P choices i item (slice_get_within choices i item at) before
     (subst (λ (c : Choice). c.live ≡ true → P (allowed (next_path path c) c.extra)) (sym (get_or_from_slice_get choices i item item at)) here)
 
-pub Contains-at : (choices : List Choice) (i : ℕ) (item : Choice) → slice_get choices i ≡ Some item → item.live ≡ true → Contains (lines_in choices) (allowed (next_path (path_after [] (take i choices)) item) item.extra)
+pub Contains-at : (choices : List Choice) (i : ℕ) (item : Choice) → slice_get choices i ≡ Some item
+    → item.live ≡ true
+    → Contains (lines_in choices) (allowed (next_path (path_after [] (take i choices)) item) item.extra)
 Contains-at choices i item at live =
     let path : List ℕ = path_after [] (take i choices) in
     let same = get_or_from_slice_get choices i item item at in

@@ -21,7 +21,8 @@ IsTree-nil certain = record {
   number = refl;
 }
 
-pub IsWriting-nil : (writer : Writer) → writer.choices.items ≡ [] → writer.possible ≡ [] → writer.count ≡ 0 → writer.shared ≡ 0 → IsWriting writer [] []
+pub IsWriting-nil : (writer : Writer) → writer.choices.items ≡ [] → writer.possible ≡ [] → writer.count ≡ 0
+    → writer.shared ≡ 0 → IsWriting writer [] []
 unfolding lines_in lines_after
 IsWriting-nil writer none possible count shared = record {
   tree = rw (none, possible, count) (IsTree-nil writer.certain);
@@ -31,7 +32,11 @@ IsWriting-nil writer none possible count shared = record {
 }
 
 -- a step on the way to the path's line is written
-pub IsWriting-dead : (old new : Writer) (path : List ℕ) (lines : List AllowedLine) (choice : Choice) → IsWriting old path lines → new.choices.items ≡ old.choices.items ++ choice ∷ [] → new.possible ≡ old.possible → new.certain ≡ old.certain → new.count ≡ old.count → new.shared ≡ old.shared + 1 → IsLimited choice → choice.live ≡ false → old.shared < length path → choice.depth ≡ old.shared + 1 → choice.last ≡ get_or path old.shared 0 → IsWriting new path lines
+pub IsWriting-dead : (old new : Writer) (path : List ℕ) (lines : List AllowedLine) (choice : Choice)
+    → IsWriting old path lines → new.choices.items ≡ old.choices.items ++ choice ∷ []
+    → new.possible ≡ old.possible → new.certain ≡ old.certain → new.count ≡ old.count
+    → new.shared ≡ old.shared + 1 → IsLimited choice → choice.live ≡ false → old.shared < length path
+    → choice.depth ≡ old.shared + 1 → choice.last ≡ get_or path old.shared 0 → IsWriting new path lines
 IsWriting-dead old new path lines choice is pushed possible certain count shared limited dead inside deep last =
     let choices : List Choice = old.choices.items in
     let along = path_after-push choices choice ∙ next_path-along (path_after [] choices) path old.shared old.shared choice is.same (omega arith) inside deep last in
@@ -40,7 +45,9 @@ IsWriting-dead old new path lines choice is pushed possible certain count shared
     ∙ ap (take new.shared) along
     ∙ take-take new.shared (old.shared + 1) path (omega (arith, shared)) in
     record {
-      tree = rw (pushed, possible, certain, count) (IsTree-dead choices choice old.possible old.certain old.count is.tree limited dead);
+      tree =
+          rw (pushed, possible, certain, count)
+          (IsTree-dead choices choice old.possible old.certain old.count is.tree limited dead);
       written = ap lines_in pushed ∙ lines_in-dead choices choice dead ∙ is.written;
       within = omega (arith, shared);
       same = whole;
@@ -53,15 +60,22 @@ IsWriting-live old new path lines choice extra same_extra is reached pushed poss
     let line : AllowedLine = allowed path extra in
     let there = next_path-whole (path_after [] choices) path old.shared choice is.same reached deep last in
     let written : lines_in new.choices.items ≡ lines ++ line ∷ [] =
-    ap lines_in pushed ∙ lines_in-live choices choice path live there ∙ ap (λ z. lines_in choices ++ allowed path z ∷ []) same_extra ∙ ap (λ ls. ls ++ line ∷ []) is.written in
+    ap lines_in pushed ∙ lines_in-live choices choice path live there
+    ∙ ap (λ z. lines_in choices ++ allowed path z ∷ []) same_extra ∙ ap (λ ls. ls ++ line ∷ []) is.written in
     let more = possible_more (lines_in choices) line old.possible new.possible is.tree.some possible in
-    let out : path_after [] new.choices.items ≡ path = ap (path_after []) pushed ∙ path_after-push choices choice ∙ there in
+    let out : path_after [] new.choices.items ≡ path =
+    ap (path_after []) pushed ∙ path_after-push choices choice ∙ there in
     record {
       tree = record {
-        limited = subst (All IsLimited) (sym pushed) (All-push IsLimited choices choice is.tree.limited limited);
-        some = subst (λ ls. ArePossible ls new.possible) (ap (λ ls. ls ++ line ∷ []) is.written ∙ sym written) more;
+        limited =
+            subst (All IsLimited) (sym pushed) (All-push IsLimited choices choice is.tree.limited limited);
+        some =
+            subst (λ ls. ArePossible ls new.possible)
+            (ap (λ ls. ls ++ line ∷ []) is.written ∙ sym written) more;
         all = subst (λ ls. AreCertain ls new.certain) (sym written) certain;
-        number = omega (arith, count, is.tree.number, ap length is.written, ap length written, length_push lines line);
+        number =
+            omega
+            (arith, count, is.tree.number, ap length is.written, ap length written, length_push lines line);
       };
       written = written;
       within = omega (arith, shared);
@@ -71,33 +85,47 @@ IsWriting-live old new path lines choice extra same_extra is reached pushed poss
 -- what all lines have, with one line more: the first, or a further one
 pub certain_alone : (writer : Writer) (path : List ℕ) (lines : List AllowedLine) (line : AllowedLine) (next : List ℕ) → IsWriting writer path lines → writer.count ≡ 0 → ((p : ℕ) → is_among line.set p ≡ is_among next p) → AreCertain (lines ++ line ∷ []) next
 certain_alone writer path lines line next is none same =
-    let none_yet : lines ≡ [] = nil_from_length lines (omega (arith, is.tree.number, ap length is.written, none)) in
-    subst (λ ls. AreCertain (ls ++ line ∷ []) next) (sym none_yet) (certain_first line next (λ p. sym (same p)))
+    let none_yet : lines ≡ [] =
+    nil_from_length lines (omega (arith, is.tree.number, ap length is.written, none)) in
+    subst (λ ls. AreCertain (ls ++ line ∷ []) next) (sym none_yet)
+    (certain_first line next (λ p. sym (same p)))
 
 pub certain_too : (writer : Writer) (path : List ℕ) (lines : List AllowedLine) (line : AllowedLine) (set next : List ℕ) → IsWriting writer path lines → (writer.count ≡ 0 → ⊥) → ((p : ℕ) → is_among line.set p ≡ is_among set p) → ((p : ℕ) → is_among next p ≡ (is_among writer.certain p && is_among set p)) → AreCertain (lines ++ line ∷ []) next
 certain_too writer path lines line set next is some same both =
-    let all : AreCertain lines writer.certain = subst (λ ls. AreCertain ls writer.certain) is.written is.tree.all in
+    let all : AreCertain lines writer.certain =
+    subst (λ ls. AreCertain ls writer.certain) is.written is.tree.all in
     certain_more lines line writer.certain next (omega (arith, is.tree.number, ap length is.written)) all
     (λ p. both p ∙ ap (λ b. is_among writer.certain p && b) (sym (same p)))
 
 -- ---- reading and writing side by side
 
 -- the reader has gone on to the next choice
-pub read_on : (w w' : Writer) (choice : Choice) (old new path : List ℕ) (lines : List AllowedLine) → new ≡ next_path old choice → old ≡ path → ((way : List ℕ) (ls : List AllowedLine) → IsWriting w way ls → IsWriting w' (next_path way choice) ls) → IsWriting w path lines → IsWriting w' new lines
+pub read_on : (w w' : Writer) (choice : Choice) (old new path : List ℕ) (lines : List AllowedLine)
+    → new ≡ next_path old choice → old ≡ path
+    → ((way : List ℕ) (ls : List AllowedLine) → IsWriting w way ls → IsWriting w' (next_path way choice) ls)
+    → IsWriting w path lines → IsWriting w' new lines
 read_on w w' choice old new path lines next there pass writing =
-    subst (λ way. IsWriting w' way lines) (sym (next ∙ ap (λ way. next_path way choice) there)) (pass path lines writing)
+    subst (λ way. IsWriting w' way lines) (sym (next ∙ ap (λ way. next_path way choice) there))
+    (pass path lines writing)
 
 -- and its line is written, if it passes
 kept_on : (test : AllowedLine → Bool) (choices : List Choice) (i : ℕ) (choice : Choice) (passes : Bool) (w w' : Writer) (old new : List ℕ) → i < length choices → new ≡ next_path old (get_or choices i choice) → old ≡ path_after [] (take i choices) → passes ≡ test (allowed new (get_or choices i choice).extra) → ((ls : List AllowedLine) → IsWriting w new ls → IsWriting w' new (ls ++ cond passes (line_here new (get_or choices i choice)) [])) → IsWriting w new (filter test (lines_in (take i choices))) → IsWriting w' (path_after [] (take (i + 1) choices)) (filter test (lines_in (take (i + 1) choices)))
 kept_on test choices i choice passes w w' old new inside next there is keep writing =
     let item : Choice = get_or choices i choice in
-    let on : new ≡ next_path (path_after [] (take i choices)) item = next ∙ ap (λ way. next_path way item) there in
-    let more = filter-lines_more test choices i choice passes inside (is ∙ ap (λ way. test (allowed way item.extra)) on) in
+    let on : new ≡ next_path (path_after [] (take i choices)) item =
+    next ∙ ap (λ way. next_path way item) there in
+    let more =
+    filter-lines_more test choices i choice passes inside
+    (is ∙ ap (λ way. test (allowed way item.extra)) on) in
     let written = keep (filter test (lines_in (take i choices))) writing in
     let front : List AllowedLine = filter test (lines_in (take i choices)) in
     let way : List ℕ = next_path (path_after [] (take i choices)) item in
-    let there' : IsWriting w' way (front ++ cond passes (line_here way item) []) = subst (λ p. IsWriting w' p (front ++ cond passes (line_here p item) [])) on written in
-    let here : IsWriting w' (path_after [] (take (i + 1) choices)) (front ++ cond passes (line_here way item) []) = subst (λ p. IsWriting w' p (front ++ cond passes (line_here way item) [])) (sym (path_more choices i choice inside)) there' in
+    let there' : IsWriting w' way (front ++ cond passes (line_here way item) []) =
+    subst (λ p. IsWriting w' p (front ++ cond passes (line_here p item) [])) on written in
+    let here : IsWriting w' (path_after [] (take (i + 1) choices))
+    (front ++ cond passes (line_here way item) []) =
+    subst (λ p. IsWriting w' p (front ++ cond passes (line_here way item) []))
+    (sym (path_more choices i choice inside)) there' in
     subst (λ ls. IsWriting w' (path_after [] (take (i + 1) choices)) ls) more here
 
 -- the same where the choice is read at its place

@@ -59,7 +59,8 @@ CostsAtMost problem most places = cost_of problem places ≤ℤ most
 
 -- every roster in the region costs more
 abbrev pub IsAllAbove : Problem → Region → ℤ → Type 0
-IsAllAbove problem region most = (places : List ℕ) → IsIn problem region places → most <ℤ cost_of problem places
+IsAllAbove problem region most =
+    (places : List ℕ) → IsIn problem region places → most <ℤ cost_of problem places
 
 -- if a roster of the region costs at most so much, person k's line adds no more than the cut
 abbrev pub IsValueWithin : Problem → Region → List ℤ → ℕ → ℤ → ℤ → Type 0
@@ -73,7 +74,8 @@ IsShareWithin problem region prices p most cut =
 
 -- If a roster of the region costs at most so much, what each line and each pairing adds is no further
 -- than the slack above what it adds at least.
-pub record IsSlack (problem : Problem) (region : Region) (prices values terms : List ℤ) (most slack : ℤ) : Type 0 where
+pub record IsSlack (problem : Problem) (region : Region) (prices values terms : List ℤ)
+    (most slack : ℤ) : Type 0 where
   pub lines : (k : ℕ) → k < length problem.persons
       → IsValueWithin problem region prices k most (slice_index_or values k (pos 0) +ℤ slack)
   pub pairings : (p : ℕ) → p < length problem.pairings

@@ -23,8 +23,12 @@ AreCounted scale entries = All (λ entry. IsWithin MOST_EXTRA (pos scale *ℤ ex
 
 -- none of the first so many entries costs more than the first one, or less, by more than a limit
 abbrev pub AreNearBefore : ℕ → ℕ → List Entry → Type 0
-AreNearBefore limit high entries = (i : ℕ) (d : Entry) → i < high → i < length entries → IsWithin limit (extra_in entries (get_or entries i d))
+AreNearBefore limit high entries =
+    (i : ℕ) (d : Entry) → i < high → i < length entries
+    → IsWithin limit (extra_in entries (get_or entries i d))
 
 -- none of them costs so much more, or less, that it can't be counted in such parts
 abbrev pub AreCountedBefore : ℕ → ℕ → List Entry → Type 0
-AreCountedBefore scale high entries = (i : ℕ) (d : Entry) → i < high → i < length entries → IsWithin MOST_EXTRA (pos scale *ℤ extra_in entries (get_or entries i d))
+AreCountedBefore scale high entries =
+    (i : ℕ) (d : Entry) → i < high → i < length entries
+    → IsWithin MOST_EXTRA (pos scale *ℤ extra_in entries (get_or entries i d))

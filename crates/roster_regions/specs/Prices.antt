@@ -23,4 +23,5 @@ value_of prices line = line.extra -ℤ total (price_at prices) line.set
 pub record AreSums (prices : List ℤ) (sums : Sums) (path : List ℕ) : Type 0 where
   pub whole : sums.length ≡ length path
   pub few : length path ≤ MOST_PAIRINGS
-  pub each : (j : ℕ) → j ≤ length path → slice_index_or sums.sums j (pos 0) ≡ total (price_at prices) (take j path)
+  pub each : (j : ℕ) → j ≤ length path
+      → slice_index_or sums.sums j (pos 0) ≡ total (price_at prices) (take j path)

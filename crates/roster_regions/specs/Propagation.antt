@@ -14,7 +14,8 @@ Lacks region p k = list_any (λ line. is_among line.set p) (lines_of region k) �
 
 -- not all of the person's lines have the pairing, if there are any
 abbrev pub IsUncertain : Region → ℕ → ℕ → Type 0
-IsUncertain region p k = 0 < length (lines_of region k) → list_all (λ line. is_among line.set p) (lines_of region k) ≡ false
+IsUncertain region p k =
+    0 < length (lines_of region k) → list_all (λ line. is_among line.set p) (lines_of region k) ≡ false
 
 -- of the persons before k none may have it, or only this one
 abbrev pub IsSoleBefore : Region → ℕ → ℕ → Option ℕ → Type 0
@@ -25,7 +26,8 @@ IsSoleBefore region p k (Some sole) = (sole < k) × ((j : ℕ) → j < k → j �
 abbrev pub AreHolders : Problem → Region → ℕ → Holders → Type 0
 AreHolders problem region p Nobody = IsWhollyIn problem region (Has (open_number problem) p)
 AreHolders problem region p (One k) =
-    (k < length problem.persons) × IsWhollyIn problem region (λ places. HasNot (open_number problem) p places → Has k p places)
+    (k < length problem.persons)
+    × IsWhollyIn problem region (λ places. HasNot (open_number problem) p places → Has k p places)
 AreHolders problem region p Several = Unit {0}
 
 -- no condition: all rosters meet it

@@ -56,7 +56,8 @@ pub record IsAllowedLine (problem : Problem) (scale k : ℕ) (line : AllowedLine
 -- the region has lines of each person
 pub record IsRegion (problem : Problem) (region : Region) : Type 0 where
   pub covers : length region.choices ≡ length problem.persons
-  pub each : (k : ℕ) (lines : List AllowedLine) → slice_get region.choices k ≡ Some lines → All (IsAllowedLine problem region.scale k) lines
+  pub each : (k : ℕ) (lines : List AllowedLine) → slice_get region.choices k ≡ Some lines
+      → All (IsAllowedLine problem region.scale k) lines
   pub idle : region.idle ≡ idle_cost problem
 
 -- The places are in the region: a legal roster in which each person has one of the sets, and in which
@@ -65,7 +66,8 @@ pub record IsIn (problem : Problem) (region : Region) (places : List ℕ) : Type
   pub legal : IsLegalRoster problem places
   pub chosen : (k : ℕ) (lines : List AllowedLine) → slice_get region.choices k ≡ Some lines
       → Contains (sets_of lines) (set_of k places)
-  pub left_open : (p : ℕ) → is_among region.left_open p ≡ true → slice_get places p ≡ Some (open_number problem)
+  pub left_open : (p : ℕ) → is_among region.left_open p ≡ true
+      → slice_get places p ≡ Some (open_number problem)
   pub flown : (p : ℕ) → is_among region.flown p ≡ true → slice_get places p ≢ Some (open_number problem)
 
 -- how many lines are left, of all persons

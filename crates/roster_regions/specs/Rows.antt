@@ -8,7 +8,8 @@ use Rattle.roster_regions.specs.Trees.{IsLimited}
 
 -- what a row costs more than the empty line, at so many parts a cost unit, and all that it has
 abbrev pub choice_of : ℕ → ℤ → Row → Choice
-choice_of scale empty row = record { extra = pos scale *ℤ (row.cost -ℤ empty); depth = row.depth; last = row.last; live = true }
+choice_of scale empty row =
+    record { extra = pos scale *ℤ (row.cost -ℤ empty); depth = row.depth; last = row.last; live = true }
 
 abbrev pub choices_of : ℕ → ℤ → List Row → List Choice
 choices_of scale empty rows = map (choice_of scale empty) rows

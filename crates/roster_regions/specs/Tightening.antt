@@ -14,7 +14,8 @@ pub record AreNear (bounds : Bounds) : Type 0 where
   pub slack : IsWithin MOST_SLACK bounds.slack
 
 -- one number for each person and each pairing, and a slack above them
-pub record IsUse (problem : Problem) (region : Region) (prices : List ℤ) (bounds : Bounds) (most : ℤ) : Type 0 where
+pub record IsUse (problem : Problem) (region : Region) (prices : List ℤ) (bounds : Bounds)
+    (most : ℤ) : Type 0 where
   pub persons : length bounds.values.items ≡ length problem.persons
   pub pairings : length bounds.terms.items ≡ length problem.pairings
   pub near : AreNear bounds

@@ -49,7 +49,8 @@ ArePossible lines set = (p : ℕ) → is_among set p ≡ list_any (λ line. is_a
 
 -- the pairings that all of the lines have, if there are any
 abbrev pub AreCertain : List AllowedLine → List ℕ → Type 0
-AreCertain lines set = 0 < length lines → (p : ℕ) → is_among set p ≡ list_all (λ line. is_among line.set p) lines
+AreCertain lines set =
+    0 < length lines → (p : ℕ) → is_among set p ≡ list_all (λ line. is_among line.set p) lines
 
 -- choices, with what some and what all of their lines have, and how many there are
 pub record IsTree (choices : List Choice) (possible certain : List ℕ) (count : ℕ) : Type 0 where

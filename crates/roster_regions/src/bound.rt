@@ -3,7 +3,8 @@
 ghost use Rattle.std.specs.Prelude.{◌≡◌, ◌<◌, ◌≤◌, ◌*◌, ℕ, List, ◌≤ℤ◌, All, IfOk, length, pos};
 ghost use Rattle.roster_model.specs.Costs.{total};
 ghost use Rattle.roster_cost.specs.Amounts.{IsWithin};
-ghost use Rattle.roster_regions.specs.Bounds.{bound_of, fine_cost, fine_penalty, term_of, AreLeastValues, AreTerms};
+ghost use Rattle.roster_regions.specs.Bounds.{bound_of, fine_cost, fine_penalty, term_of, AreLeastValues};
+ghost use Rattle.roster_regions.specs.Bounds.{AreTerms};
 ghost use Rattle.roster_regions.specs.Prices.{ArePrices};
 ghost use Rattle.roster_regions.specs.Regions.{IsIn, IsRegion};
 

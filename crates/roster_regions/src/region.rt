@@ -5,7 +5,8 @@ ghost use Rattle.roster_model.specs.Places.{open_number};
 ghost use Rattle.roster_model.specs.Rules.{is_among};
 ghost use Rattle.roster_cost.specs.Amounts.{IsWithin};
 ghost use Rattle.roster_regions.specs.Prices.{value_of, ArePrices};
-ghost use Rattle.roster_regions.specs.Regions.{lines_of, size_of, with_lines, Has, HasNot, IsNarrowed, IsRegion, IsSplit, IsWhollyIn};
+ghost use Rattle.roster_regions.specs.Regions.{lines_of, size_of, with_lines, Has, HasNot, IsNarrowed};
+ghost use Rattle.roster_regions.specs.Regions.{IsRegion, IsSplit, IsWhollyIn};
 ghost use Rattle.roster_regions.specs.Trees.{agrees, lines_in, AreCertain, ArePossible, HasJust, Offers};
 
 use crate::choice::{MOST_SCALE, MOST_VALUE};

@@ -1,6 +1,7 @@
 //! The rows of a person's lines in the table, read as choices.
 
-ghost use Rattle.std.specs.Prelude.{◌≡◌, ◌<◌, ◌||◌, ℕ, [], true, All, Bool, List, Some, length, map, slice_get, slice_index_or};
+ghost use Rattle.std.specs.Prelude.{◌≡◌, ◌<◌, ◌||◌, ℕ, [], true, All, Bool, List, Some, length, map};
+ghost use Rattle.std.specs.Prelude.{slice_get, slice_index_or};
 ghost use Rattle.roster_model.specs.Rules.{is_among};
 ghost use Rattle.roster_cost.specs.Amounts.{IsWithin, most_extra};
 ghost use Rattle.roster_regions.specs.Building.{allowed_in, extra_in, AreCounted};

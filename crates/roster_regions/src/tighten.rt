@@ -1,6 +1,7 @@
 //! Regions without what costs too much.
 
-ghost use Rattle.std.specs.Prelude.{◌≡◌, ◌<◌, ◌+ℤ◌, ◌-ℤ◌, ◌*ℤ◌, IfOk, IfSome, MatchBool, MatchOption, OnOk, length, pos, slice_index_or};
+ghost use Rattle.std.specs.Prelude.{◌≡◌, ◌<◌, ◌+ℤ◌, ◌-ℤ◌, ◌*ℤ◌, IfOk, IfSome, MatchBool, MatchOption, OnOk};
+ghost use Rattle.std.specs.Prelude.{length, pos, slice_index_or};
 ghost use Rattle.roster_cost.specs.Amounts.{IsWithin};
 ghost use Rattle.roster_regions.specs.Bounds.{CostsAtMost, IsAllAbove, IsShareWithin, IsValueWithin};
 ghost use Rattle.roster_regions.specs.Prices.{ArePrices};

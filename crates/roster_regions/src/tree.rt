@@ -1,6 +1,7 @@
 //! The lines that a person may still have.
 
-ghost use Rattle.std.specs.Prelude.{◌≡◌, ◌⊎◌, ℕ, true, List, [], All, IfOk, MatchBool, Some, filter, length, map, slice_get, ◌≤ℤ◌, int_le};
+ghost use Rattle.std.specs.Prelude.{◌≡◌, ◌⊎◌, ℕ, true, List, [], All, IfOk, MatchBool, Some, filter, length};
+ghost use Rattle.std.specs.Prelude.{map, slice_get, ◌≤ℤ◌, int_le};
 ghost use Rattle.roster_model.specs.Rules.{is_among};
 ghost use Rattle.roster_cost.specs.Amounts.{IsWithin, most_extra};
 ghost use Rattle.roster_lines.specs.Entries.{sets_of};

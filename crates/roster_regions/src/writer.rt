@@ -1,6 +1,7 @@
 //! Writes a tree of choices, line after line.
 
-ghost use Rattle.std.specs.Prelude.{◌≡◌, ◌↔◌, ◌+◌, ◌≤◌, ◌++◌, ◌∷◌, ◌||◌, if◌then◌else◌, ℕ, [], IsTrue, List, OnOk, length};
+ghost use Rattle.std.specs.Prelude.{◌≡◌, ◌↔◌, ◌+◌, ◌≤◌, ◌++◌, ◌∷◌, ◌||◌, if◌then◌else◌, ℕ, [], IsTrue, List};
+ghost use Rattle.std.specs.Prelude.{OnOk, length};
 ghost use Rattle.roster_model.specs.Rules.{is_among};
 ghost use Rattle.roster_cost.specs.Amounts.{IsWithin};
 ghost use Rattle.roster_regions.specs.Regions.{AllowedLine, allowed};

@@ -1,7 +1,8 @@
 //! The roster that a report gives of a book.
 
 ghost use Rattle.std.specs.Prelude.{◌≡◌, ◌<◌, ◌≤◌, ℕ, All, IfOk, OnOk, Some, length, map, slice_get};
-ghost use Rattle.roster_reports.specs.Given.{GivesPairing, Grows, HasAll, HasFirst, HasGiven, HasNames, HasPairing, IsAmongNames, IsGiven, IsGivenFirst, IsPairing};
+ghost use Rattle.roster_reports.specs.Given.{GivesPairing, Grows, HasAll, HasFirst, HasGiven, HasNames};
+ghost use Rattle.roster_reports.specs.Given.{HasPairing, IsAmongNames, IsGiven, IsGivenFirst, IsPairing};
 ghost use Rattle.roster_reports.specs.Text.{given_by_line, given_by_text};
 
 use crate::fault::{ReportFault, Wrong};

@@ -2,7 +2,8 @@
 
 ghost use Rattle.std.specs.Prelude.{◌≡◌, ◌<◌, ◌++◌, IfOk, OnOk, IsTrue, true, drop, length, map};
 ghost use Rattle.roster_reports.specs.Text as spec;
-ghost use Rattle.roster_reports.specs.Text.{given_by, is_crew, given_by_line, given_by_lines, given_by_text, name_of, names_of, word_at};
+ghost use Rattle.roster_reports.specs.Text.{given_by, is_crew, given_by_line, given_by_lines, given_by_text};
+ghost use Rattle.roster_reports.specs.Text.{name_of, names_of, word_at};
 
 use crate::fault::{ReportFault, Wrong};
 use crate::words::{is_crew, is_number, lines_of, without_mark, words_of};

@@ -12,28 +12,35 @@ use Rattle.roster_restrules.specs.Busy.{lies_on}
 -- ---- a duty and a day
 
 -- It lies on no day that ends by its report,
-pub lies_not_before : (days : Days) (duty : Duty) (i : ℕ) → get_or days.mid (DAYS_BEFORE + i + 1) 0 ≤ duty.report → lies_on days i duty ≡ false
+pub lies_not_before : (days : Days) (duty : Duty) (i : ℕ)
+    → get_or days.mid (DAYS_BEFORE + i + 1) 0 ≤ duty.report → lies_on days i duty ≡ false
 lies_not_before days duty i h = le-ltb 0 _ (omega arith)
 
 -- nor on one that begins at its release or later.
-pub lies_not_after : (days : Days) (duty : Duty) (i : ℕ) → duty.release ≤ get_or days.mid (DAYS_BEFORE + i) 0 → lies_on days i duty ≡ false
+pub lies_not_after : (days : Days) (duty : Duty) (i : ℕ) → duty.release ≤ get_or days.mid (DAYS_BEFORE + i) 0
+    → lies_on days i duty ≡ false
 lies_not_after days duty i h = le-ltb 0 _ (omega arith)
 
 -- So it lies on none before a day that has its 08:00 by its report,
-pub lies_not_early : (days : Days) → IsTable days → (duty : Duty) (i : ℕ) → DAYS_BEFORE + i + 1 < length days.eight → get_or days.eight (DAYS_BEFORE + i + 1) 0 ≤ duty.report → lies_on days i duty ≡ false
+pub lies_not_early : (days : Days) → IsTable days → (duty : Duty) (i : ℕ)
+    → DAYS_BEFORE + i + 1 < length days.eight → get_or days.eight (DAYS_BEFORE + i + 1) 0 ≤ duty.report
+    → lies_on days i duty ≡ false
 lies_not_early days table duty i inside h =
     let day = day-rises days table (DAYS_BEFORE + i + 1) inside in
     lies_not_before days duty i (omega (arith, day.0, h))
 
 -- nor on one after a day that begins at its release or later.
-pub lies_not_later : (days : Days) → IsTable days → (duty : Duty) (i j : ℕ) → i ≤ j → j < days.month_days → duty.release ≤ get_or days.mid (DAYS_BEFORE + i) 0 → lies_on days j duty ≡ false
+pub lies_not_later : (days : Days) → IsTable days → (duty : Duty) (i j : ℕ) → i ≤ j → j < days.month_days
+    → duty.release ≤ get_or days.mid (DAYS_BEFORE + i) 0 → lies_on days j duty ≡ false
 lies_not_later days table duty i j order inside h =
     let long = table.eight in
     let later = mids-in_order days table (DAYS_BEFORE + i) (DAYS_BEFORE + j) (omega arith) (omega arith) in
     lies_not_after days duty j (omega (arith, h, later))
 
 -- It lies on each other day.
-pub lies_between : (days : Days) → IsTable days → (duty : Duty) (i : ℕ) → i < days.month_days → duty.report < duty.release → get_or days.mid (DAYS_BEFORE + i) 0 < duty.release → duty.report < get_or days.mid (DAYS_BEFORE + i + 1) 0 → lies_on days i duty ≡ true
+pub lies_between : (days : Days) → IsTable days → (duty : Duty) (i : ℕ) → i < days.month_days
+    → duty.report < duty.release → get_or days.mid (DAYS_BEFORE + i) 0 < duty.release
+    → duty.report < get_or days.mid (DAYS_BEFORE + i + 1) 0 → lies_on days i duty ≡ true
 lies_between days table duty i inside lasts begins ends =
     let long = table.eight in
     let day = mid-rises days table (DAYS_BEFORE + i) (DAYS_BEFORE + i + 1) (omega arith) (omega arith) in
@@ -48,14 +55,16 @@ pub record AreDaysBelow (days : Days) (duty : Duty) (i word : ℕ) : Type 0 wher
 
 module _ (days : Days) (duty : Duty) where
   -- no bit, if it lies on none of these days
-  pub days-none : (i : ℕ) → ((d : ℕ) → d < i → d < days.month_days → lies_on days d duty ≡ false) → AreDaysBelow days duty i 0
+  pub days-none : (i : ℕ) → ((d : ℕ) → d < i → d < days.month_days → lies_on days d duty ≡ false)
+      → AreDaysBelow days duty i 0
   days-none i none = record {
     done = λ d below inside. ap (λ b. eqb b 1) (bit_at-zero d) ∙ sym (none d below inside);
     rest = λ d past. bit_at-zero d;
   }
 
   -- one more bit, if it lies on the next
-  pub days-set : (i word : ℕ) → i < 32 → AreDaysBelow days duty i word → lies_on days i duty ≡ true → AreDaysBelow days duty (i + 1) (bit_or word (1 * 2 ^ i % 2 ^ 32))
+  pub days-set : (i word : ℕ) → i < 32 → AreDaysBelow days duty i word → lies_on days i duty ≡ true
+      → AreDaysBelow days duty (i + 1) (bit_or word (1 * 2 ^ i % 2 ^ 32))
   days-set i word small below lies = record {
     done = λ d before inside. elim (cases_eq d i) [
       | inl same ↦ subst (λ k. eqb (bit_at (bit_or word (1 * 2 ^ i % 2 ^ 32)) k) 1 ≡ lies_on days k duty) (sym same) (ap (λ b. eqb b 1) (bit_at_set_same w32 word i small) ∙ sym lies)
@@ -65,7 +74,8 @@ module _ (days : Days) (duty : Duty) where
   }
 
   -- the same bits, if it doesn't
-  pub days-kept : (i word : ℕ) → AreDaysBelow days duty i word → lies_on days i duty ≡ false → AreDaysBelow days duty (i + 1) word
+  pub days-kept : (i word : ℕ) → AreDaysBelow days duty i word → lies_on days i duty ≡ false
+      → AreDaysBelow days duty (i + 1) word
   days-kept i word below lies = record {
     done = λ d before inside. elim (cases_eq d i) [
       | inl same ↦ subst (λ k. eqb (bit_at word k) 1 ≡ lies_on days k duty) (sym same) (ap (λ b. eqb b 1) (below.rest i (omega arith)) ∙ sym lies)
@@ -75,7 +85,9 @@ module _ (days : Days) (duty : Duty) where
   }
 
   -- the bits of the whole month, if it lies on no day from i on
-  pub days-whole : (i word : ℕ) → AreDaysBelow days duty i word → ((d : ℕ) → i ≤ d → d < days.month_days → lies_on days d duty ≡ false) → (d : ℕ) → d < days.month_days → eqb (bit_at word d) 1 ≡ lies_on days d duty
+  pub days-whole : (i word : ℕ) → AreDaysBelow days duty i word
+      → ((d : ℕ) → i ≤ d → d < days.month_days → lies_on days d duty ≡ false) → (d : ℕ)
+      → d < days.month_days → eqb (bit_at word d) 1 ≡ lies_on days d duty
   days-whole i word below none d inside =
       elim (cases_lt d i) [
         | inl before ↦ below.done d before inside

@@ -10,7 +10,8 @@ use Rattle.roster_model.specs.Rules.Recovery.{holds_night}
 
 -- ---- numbers that pass a test
 
-range-more : (first n next : ℕ) → first + n ≡ next → range_with_len first (suc n) ≡ range_with_len first n ++ next ∷ []
+range-more : (first n next : ℕ) → first + n ≡ next
+    → range_with_len first (suc n) ≡ range_with_len first n ++ next ∷ []
 range-more first zero next here = let same : first ≡ next = omega arith in ap (λ k. k ∷ []) same
 range-more first (suc n) next here = ap (λ ks. first ∷ ks) (range-more (first + 1) n next (omega arith))
 
@@ -41,7 +42,8 @@ count-rises test n m order =
     let there : n + (m - n) ≡ m = omega arith in
     rw there at (count-rises-by test n (m - n))
 
-count-same-by : (test : ℕ → Bool) (n m : ℕ) → ((k : ℕ) → n ≤ k → k < n + m → test k ≡ false) → count_below test (n + m) ≡ count_below test n
+count-same-by : (test : ℕ → Bool) (n m : ℕ) → ((k : ℕ) → n ≤ k → k < n + m → test k ≡ false)
+    → count_below test (n + m) ≡ count_below test n
 count-same-by test n zero none = let same : n + 0 ≡ n = omega arith in ap (count_below test) same
 count-same-by test n (suc m) none =
     let next : n + suc m ≡ n + m + 1 = omega arith in
@@ -51,10 +53,12 @@ count-same-by test n (suc m) none =
     ap (count_below test) next ∙ count-more test (n + m) ∙ omega (arith, last, before)
 
 -- if none from n on passes
-pub count-same : (test : ℕ → Bool) (n m : ℕ) → n ≤ m → ((k : ℕ) → n ≤ k → k < m → test k ≡ false) → count_below test m ≡ count_below test n
+pub count-same : (test : ℕ → Bool) (n m : ℕ) → n ≤ m → ((k : ℕ) → n ≤ k → k < m → test k ≡ false)
+    → count_below test m ≡ count_below test n
 count-same test n m order none =
     let there : n + (m - n) ≡ m = omega arith in
-    ap (count_below test) (sym there) ∙ count-same-by test n (m - n) (λ k from below. none k from (omega arith))
+    ap (count_below test) (sym there)
+    ∙ count-same-by test n (m - n) (λ k from below. none k from (omega arith))
 
 -- ---- nights
 
@@ -65,12 +69,15 @@ shares_none_after : (from to ten eight : ℕ) → to ≤ ten → common from to 
 shares_none_after from to ten eight h = omega arith
 
 -- a night that ends before it is not held,
-pub not_held_before : (days : Days) (from to i : ℕ) → get_or days.eight (i + 1) 0 ≤ from → holds_night days from to i ≡ false
+pub not_held_before : (days : Days) (from to i : ℕ) → get_or days.eight (i + 1) 0 ≤ from
+    → holds_night days from to i ≡ false
 not_held_before days from to i h =
     lt-leb NIGHT_REST _ (shares_none_before from to (get_or days.ten i 0) (get_or days.eight (i + 1) 0) h)
 
 -- nor is one that begins after it.
-pub not_held_after : (days : Days) → IsTable days → (from to i j : ℕ) → i ≤ j → j < length days.eight → to ≤ get_or days.ten i 0 → holds_night days from to j ≡ false
+pub not_held_after : (days : Days) → IsTable days → (from to i j : ℕ) → i ≤ j → j < length days.eight
+    → to ≤ get_or days.ten i 0 → holds_night days from to j ≡ false
 not_held_after days table from to i j order within h =
     let later = ten-later days table i j order within in
-    lt-leb NIGHT_REST _ (shares_none_after from to (get_or days.ten j 0) (get_or days.eight (j + 1) 0) (omega (arith, h, later)))
+    lt-leb NIGHT_REST _
+    (shares_none_after from to (get_or days.ten j 0) (get_or days.eight (j + 1) 0) (omega (arith, h, later)))

@@ -15,7 +15,8 @@ use Rattle.roster_restrules.specs.Times.{IsAt, Timed}
 use Rattle.roster_restrules.proofs.Blocks.{EndsInTime, ends_in_block, longer_block, recurrent_at}
 
 module _ (timed : Timed) (positions : List ℕ) (within : All (λ p. p < length timed.duties) positions) where
-  there : (i : ℕ) → i < length positions → (duty : Duty) × (slice_get (picked timed.duties positions) i ≡ Some duty)
+  there : (i : ℕ) → i < length positions
+      → (duty : Duty) × (slice_get (picked timed.duties positions) i ≡ Some duty)
   there i inside =
       let long = length-picked timed.duties positions within in
       elim (slice_get_cases (picked timed.duties positions) i).1 [
@@ -24,7 +25,9 @@ module _ (timed : Timed) (positions : List ℕ) (within : All (λ p. p < length 
       ]
 
   -- after a recurrent rest a block begins,
-  pub block-begins : (i : ℕ) (before at : DutyTimes) → 0 < i → i < length positions → IsAt timed positions (i - 1) before → IsAt timed positions i at → at.report ≤ LAST_INSTANT → before.rested ≤ at.report → IsBlock timed.days (picked timed.duties positions) i i
+  pub block-begins : (i : ℕ) (before at : DutyTimes) → 0 < i → i < length positions
+      → IsAt timed positions (i - 1) before → IsAt timed positions i at → at.report ≤ LAST_INSTANT
+      → before.rested ≤ at.report → IsBlock timed.days (picked timed.duties positions) i i
   block-begins i before at later inside is_before is_at short rested =
       let a = there (i - 1) (omega arith) in
       let b = there i inside in
@@ -47,7 +50,10 @@ module _ (timed : Timed) (positions : List ℕ) (within : All (λ p. p < length 
       }
 
   -- and if there is none, it goes on
-  pub block-goes_on : (first i : ℕ) (before at : DutyTimes) → 0 < i → i < length positions → IsAt timed positions (i - 1) before → IsAt timed positions i at → at.report ≤ LAST_INSTANT → at.report < before.rested → IsBlock timed.days (picked timed.duties positions) first (i - 1) → IsBlock timed.days (picked timed.duties positions) first i
+  pub block-goes_on : (first i : ℕ) (before at : DutyTimes) → 0 < i → i < length positions
+      → IsAt timed positions (i - 1) before → IsAt timed positions i at → at.report ≤ LAST_INSTANT
+      → at.report < before.rested → IsBlock timed.days (picked timed.duties positions) first (i - 1)
+      → IsBlock timed.days (picked timed.duties positions) first i
   block-goes_on first i before at later inside is_before is_at short tired block =
       let a = there (i - 1) (omega arith) in
       let b = there i inside in
@@ -55,13 +61,21 @@ module _ (timed : Timed) (positions : List ℕ) (within : All (λ p. p < length 
       let back = is_at b.0 b.1 in
       let next : i ≡ i - 1 + 1 = omega arith in
       longer_block timed.days (picked timed.duties positions) first i block (λ past rest.
-      let recurrent = recurrent_at timed.days (picked timed.duties positions) (i - 1) a.0 b.0 a.1 (subst (λ n. slice_get (picked timed.duties positions) n ≡ Some b.0) next b.1) rest in
-      let rested = (front.rested at.report short).0 (subst (λ to. IsRecurrent timed.days a.0.release to) (sym back.report) recurrent) in
+      let recurrent =
+      recurrent_at timed.days (picked timed.duties positions) (i - 1) a.0 b.0 a.1
+      (subst (λ n. slice_get (picked timed.duties positions) n ≡ Some b.0) next b.1) rest in
+      let rested =
+      (front.rested at.report short).0
+      (subst (λ to. IsRecurrent timed.days a.0.release to) (sym back.report) recurrent) in
       omega arith)
 
   -- what the times of a block's first and last duty say
-  pub in_time : (start first i : ℕ) (begun ended : DutyTimes) → i < length positions → start ≡ month_start timed.days → IsInOrder (picked timed.duties positions) → IsBlock timed.days (picked timed.duties positions) first i → IsAt timed positions first begun → IsAt timed positions i ended
-      → (start < ended.release → ended.release ≤ begun.report + BETWEEN_RECURRENT_RESTS) → EndsInTime timed.days (picked timed.duties positions) i
+  pub in_time : (start first i : ℕ) (begun ended : DutyTimes) → i < length positions
+      → start ≡ month_start timed.days → IsInOrder (picked timed.duties positions)
+      → IsBlock timed.days (picked timed.duties positions) first i → IsAt timed positions first begun
+      → IsAt timed positions i ended
+      → (start < ended.release → ended.release ≤ begun.report + BETWEEN_RECURRENT_RESTS)
+      → EndsInTime timed.days (picked timed.duties positions) i
   in_time start first i begun ended inside is_start ordered block is_begun is_ended soon =
       let order = block.order in
       let a = there first (omega arith) in
@@ -72,8 +86,11 @@ module _ (timed : Timed) (positions : List ℕ) (within : All (λ p. p < length 
       let kept : ended.release ≤ begun.report + BETWEEN_RECURRENT_RESTS = soon (omega arith) in
       omega arith)
 
-  pub not_in_time : (start first i : ℕ) (begun ended : DutyTimes) → i < length positions → start ≡ month_start timed.days → IsBlock timed.days (picked timed.duties positions) first i → IsAt timed positions first begun → IsAt timed positions i ended
-      → KeepsRecovery timed.days (picked timed.duties positions) → start < ended.release → ended.release ≤ begun.report + BETWEEN_RECURRENT_RESTS
+  pub not_in_time : (start first i : ℕ) (begun ended : DutyTimes) → i < length positions
+      → start ≡ month_start timed.days → IsBlock timed.days (picked timed.duties positions) first i
+      → IsAt timed positions first begun → IsAt timed positions i ended
+      → KeepsRecovery timed.days (picked timed.duties positions) → start < ended.release
+      → ended.release ≤ begun.report + BETWEEN_RECURRENT_RESTS
   not_in_time start first i begun ended inside is_start block is_begun is_ended keeps late =
       let order = block.order in
       let a = there first (omega arith) in

@@ -23,4 +23,5 @@ AreBusyDays days list word = (i : ℕ) → i < days.month_days → (bit_at word 
 -- The set bits are those of the days of a month of n days that are not busy, and whose next day is a
 -- day of the month that is not busy.
 abbrev pub ArePairsOff : ℕ → ℕ → ℕ → Type 0
-ArePairsOff n busy word = (i : ℕ) → (bit_at word i ≡ 1) ↔ ((i + 1 < n) × (bit_at busy i ≡ 0) × (bit_at busy (i + 1) ≡ 0))
+ArePairsOff n busy word =
+    (i : ℕ) → (bit_at word i ≡ 1) ↔ ((i + 1 < n) × (bit_at busy i ≡ 0) × (bit_at busy (i + 1) ≡ 0))

@@ -29,7 +29,8 @@ pub record AreTimesOf (days : Days) (duty : Duty) (times : DutyTimes) : Type 0 w
 -- and of each of some duties
 pub record AreTimesOfEach (days : Days) (duties : List Duty) (times : List DutyTimes) : Type 0 where
   pub covers : length times ≡ length duties
-  pub each : (i : ℕ) (duty : Duty) (at : DutyTimes) → slice_get duties i ≡ Some duty → slice_get times i ≡ Some at → AreTimesOf days duty at
+  pub each : (i : ℕ) (duty : Duty) (at : DutyTimes) → slice_get duties i ≡ Some duty
+      → slice_get times i ≡ Some at → AreTimesOf days duty at
 
 -- what is known of some duties by the clocks of a base
 pub record IsTimed (days : Days) (duties : List Duty) (start : ℕ) (times : List DutyTimes) : Type 0 where

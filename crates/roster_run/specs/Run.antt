@@ -16,7 +16,8 @@ abbrev pub IsFaultLine : ℕ → ℕ → List ℕ → Type 0
 IsFaultLine row code text = text ≡ fault_text (record { row = row; code = code })
 
 -- the problem has no fault, and the text is what the command reports of it
-pub record IsProblemReport (command : Command) (problem : Problem) (assigned : List ℕ) (text : List ℕ) : Type 0 where
+pub record IsProblemReport (command : Command) (problem : Problem) (assigned : List ℕ)
+    (text : List ℕ) : Type 0 where
   pub faultless : (fault : Fault) → ¬ IsProblemFault command problem fault
   pub reports : Reports command problem assigned text
 

@@ -11,7 +11,8 @@ ghost use Rattle.roster_watched.specs.Watch.{inner_of, has_failed, is_flushed};
 ghost use Rattle.roster_combine.specs.Parts.{IsBestKey};
 ghost use Rattle.roster_combine.specs.SolveFaults.{IsSolveFaultOf};
 ghost use Rattle.roster_report.specs.Writing.{Writes, WritesPart};
-ghost use Rattle.roster_run.specs.Run.{IsFaultLine, IsProblemAnswer, IsProblemRefusal, IsProblemReport, status_of};
+ghost use Rattle.roster_run.specs.Run.{IsFaultLine, IsProblemAnswer, IsProblemRefusal, IsProblemReport};
+ghost use Rattle.roster_run.specs.Run.{status_of};
 
 use crate::status::Status;
 use roster_book::{Book, BookFault, Code, Command, Problem, Watched, read_book};

@@ -31,7 +31,8 @@ all_open problem = replicate (length problem.pairings) (length problem.persons)
 -- a lesser number has no place among equal ones
 nowhere : (k p m n : ℕ) → k < n → places_with k p (replicate m n) ≡ []
 nowhere k p zero n less = refl
-nowhere k p (suc m) n less = cond-false (eqb n k) _ _ (ne_eqb n k (λ e. omega arith)) ∙ nowhere k (p + 1) m n less
+nowhere k p (suc m) n less =
+    cond-false (eqb n k) _ _ (ne_eqb n k (λ e. omega arith)) ∙ nowhere k (p + 1) m n less
 
 pub nobody_flies : (problem : Problem) (k : ℕ) → k < length problem.persons → set_of k (all_open problem) ≡ []
 nobody_flies problem k person = nowhere k 0 (length problem.pairings) (length problem.persons) person
@@ -40,10 +41,14 @@ nobody_flies problem k person = nowhere k 0 (length problem.pairings) (length pr
 pub none_before : (base : ℕ) → before 0 base ≡ false
 none_before base = le-ltb base 0 (omega arith)
 
-pub least_of_none : (problem : Problem) (table : List (List Entry)) (ranges : List (ℕ × ℕ)) (places : List ℕ) → places ≡ all_open problem → IsLeast problem (IsInPart problem table ranges (before 0)) (key_of problem places)
+pub least_of_none : (problem : Problem) (table : List (List Entry)) (ranges : List (ℕ × ℕ)) (places : List ℕ)
+    → places ≡ all_open problem
+    → IsLeast problem (IsInPart problem table ranges (before 0)) (key_of problem places)
 least_of_none problem table ranges places same =
-    let legal : IsLegalRoster problem places = subst (IsLegalRoster problem) (sym same) (all_open_legal problem) in
-    let home : (k : ℕ) → k < length problem.persons → set_of k places ≡ [] = λ k person. ap (set_of k) same ∙ nobody_flies problem k person in
+    let legal : IsLegalRoster problem places =
+    subst (IsLegalRoster problem) (sym same) (all_open_legal problem) in
+    let home : (k : ℕ) → k < length problem.persons → set_of k places ≡ [] =
+    λ k person. ap (set_of k) same ∙ nobody_flies problem k person in
     record {
       held = record { legal = legal; cost = refl };
       inside = record {
@@ -53,7 +58,8 @@ least_of_none problem table ranges places same =
       };
       least = λ others other_legal part.
           let equal : others ≡ places = same_places (length problem.persons) others places (other_legal.covers ∙ sym legal.covers) other_legal.numbers legal.numbers (λ k person. part.home k person (none_before (base_of_person problem k)) ∙ sym (home k person)) in
-          subst (λ xs. key_le (key_of problem places) (key_of problem xs) ≡ true) (sym equal) (key_le-refl (key_of problem places));
+          subst (λ xs. key_le (key_of problem places) (key_of problem xs) ≡ true) (sym equal)
+          (key_le-refl (key_of problem places));
     }
 
 -- ---- one base more
@@ -65,10 +71,14 @@ next_base base = record {
 }
 
 pub least_of_next : SharesAddUp → (problem : Problem) (table : List (List Entry)) (ranges : List (ℕ × ℕ)) (base : ℕ) (part : Key) (old new : List ℕ) → length ranges ≡ length problem.persons
-    → IsLeast problem (IsInPart problem table ranges (λ b. eqb b base)) part → IsLeast problem (IsInPart problem table ranges (before base)) (key_of problem old)
-    → new ≡ merge problem (λ b. eqb b base) part.places old → IsLeast problem (IsInPart problem table ranges (before (base + 1))) (key_of problem new)
+    → IsLeast problem (IsInPart problem table ranges (λ b. eqb b base)) part
+    → IsLeast problem (IsInPart problem table ranges (before base)) (key_of problem old)
+    → new ≡ merge problem (λ b. eqb b base) part.places old
+    → IsLeast problem (IsInPart problem table ranges (before (base + 1))) (key_of problem new)
 least_of_next shares problem table ranges base part old new covers one two same =
-    subst (λ places. IsLeast problem (IsInPart problem table ranges (before (base + 1))) (key_of problem places)) (sym same)
+    subst
+    (λ places. IsLeast problem (IsInPart problem table ranges (before (base + 1))) (key_of problem places))
+    (sym same)
     (merged_is_least problem table ranges covers (λ b. eqb b base) (before base) (before (base + 1)) (next_base base) shares part (key_of problem old) one two)
 
 -- ---- a base with no roster
@@ -88,7 +98,8 @@ only_base problem table ranges base others covers legal inside =
 
 -- if a base has none, the box has none
 pub settled_by_none : (problem : Problem) (table : List (List Entry)) (ranges : List (ℕ × ℕ)) (base : ℕ) (known : Key) → length ranges ≡ length problem.persons → IsHeld problem known
-    → CostsAtLeast problem (IsInPart problem table ranges (λ b. eqb b base)) (pos (2 ^ 63 - 1)) → ((places : List ℕ) → IsLegalRoster problem places → cost_of problem places <ℤ pos (2 ^ 63 - 1))
+    → CostsAtLeast problem (IsInPart problem table ranges (λ b. eqb b base)) (pos (2 ^ 63 - 1))
+    → ((places : List ℕ) → IsLegalRoster problem places → cost_of problem places <ℤ pos (2 ^ 63 - 1))
     → Settles problem (IsInRanges table ranges) (IsInRanges table ranges) (Some known) known
 settled_by_none problem table ranges base known covers held none fits = record {
   held = held;
@@ -103,17 +114,23 @@ settled_by_none problem table ranges base known covers held none fits = record {
 
 -- ---- after the last base
 
-pub every_base : (problem : Problem) (n k : ℕ) → IsSound problem → n ≡ MOST_BASES → k < length problem.persons → before n (base_of_person problem k) ≡ true
+pub every_base : (problem : Problem) (n k : ℕ) → IsSound problem → n ≡ MOST_BASES → k < length problem.persons
+    → before n (base_of_person problem k) ≡ true
 every_base problem n k sound all person =
     let who = found_at problem.persons k person in
-    let number : base_of_person problem k ≡ who.0.base = ap (λ (found : Option Person). unwrap_or (option_map (λ (x : Person). x.base) found) 0) who.1 in
+    let number : base_of_person problem k ≡ who.0.base =
+    ap (λ (found : Option Person). unwrap_or (option_map (λ (x : Person). x.base) found) 0) who.1 in
     let home = sound.homes k who.0 person in
-    let there : get_or problem.persons k who.0 ≡ who.0 = get_or_from_slice_get problem.persons k who.0 who.0 who.1 in
+    let there : get_or problem.persons k who.0 ≡ who.0 =
+    get_or_from_slice_get problem.persons k who.0 who.0 who.1 in
     let low = subst (λ (x : Person). x.base < length problem.bases) there home in
     let few = sound.bases in
     lt-ltb (base_of_person problem k) n (omega (arith, number, all))
 
-pub least_of_all : (problem : Problem) (table : List (List Entry)) (ranges : List (ℕ × ℕ)) (n : ℕ) (key : Key) → IsSound problem → length ranges ≡ length problem.persons → n ≡ MOST_BASES → IsLeast problem (IsInPart problem table ranges (before n)) key → IsLeast problem (IsInRanges table ranges) key
+pub least_of_all : (problem : Problem) (table : List (List Entry)) (ranges : List (ℕ × ℕ)) (n : ℕ) (key : Key)
+    → IsSound problem → length ranges ≡ length problem.persons → n ≡ MOST_BASES
+    → IsLeast problem (IsInPart problem table ranges (before n)) key
+    → IsLeast problem (IsInRanges table ranges) key
 least_of_all problem table ranges n key sound covers all is = record {
   held = is.held;
   inside = λ k range at. is.inside.numbered k range at (every_base problem n k sound all (omega (arith, slice_get_within ranges k range at)));

@@ -15,11 +15,15 @@ IsBeaten problem Region limit high (Some key) =
     IsHeld problem key × Region key.places × (key.cost ≡ high) × (key.cost <ℤ limit)
 
 -- what is found in a copy of a region is found in the region
-pub found_in_copy : (problem : Problem) (here copied : Region) (most : ℤ) (found : Option Key) → copied ≡ here → IsFoundWithin problem (IsIn problem copied) most found → IsFoundWithin problem (IsIn problem here) most found
-found_in_copy problem here copied most found same is = subst (λ region. IsFoundWithin problem (IsIn problem region) most found) same is
+pub found_in_copy : (problem : Problem) (here copied : Region) (most : ℤ) (found : Option Key) → copied ≡ here
+    → IsFoundWithin problem (IsIn problem copied) most found
+    → IsFoundWithin problem (IsIn problem here) most found
+found_in_copy problem here copied most found same is =
+    subst (λ region. IsFoundWithin problem (IsIn problem region) most found) same is
 
 -- if none costs so little, each costs more
-pub raised_least : (problem : Problem) (Region : List ℕ → Type 0) (most low : ℤ) → IsFoundWithin problem Region most None → low ≡ most +ℤ pos 1 → CostsAtLeast problem Region low
+pub raised_least : (problem : Problem) (Region : List ℕ → Type 0) (most low : ℤ)
+    → IsFoundWithin problem Region most None → low ≡ most +ℤ pos 1 → CostsAtLeast problem Region low
 raised_least problem Region most low none next =
     λ others legal inside. let above = none others legal inside in omega (arith, ints)
 
@@ -40,8 +44,10 @@ beaten_more problem Region limit most high key (Some old) beaten below found =
 abbrev pub distance_up : ℤ → ℤ → ℕ
 distance_up low high = (up high + down low) - (up low + down high)
 
-pub less_above : (low high more : ℤ) → low <ℤ more → high <ℤ more → distance_up low high < distance_up low more
+pub less_above : (low high more : ℤ) → low <ℤ more → high <ℤ more
+    → distance_up low high < distance_up low more
 less_above low high more some less = omega (arith, ints)
 
-pub less_below : (low more high : ℤ) → low <ℤ more → low <ℤ high → distance_up more high < distance_up low high
+pub less_below : (low more high : ℤ) → low <ℤ more → low <ℤ high
+    → distance_up more high < distance_up low high
 less_below low more high some less = omega (arith, ints)

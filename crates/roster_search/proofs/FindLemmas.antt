@@ -29,7 +29,8 @@ pub if_ok : {X E : Type 0} (r : Result X E) (P Q : X → Type 0) → IfOk r P �
 if_ok (Ok x) P Q is f = f x is
 if_ok (Err e) P Q is f = tt
 
-pub both_if_ok : {X E : Type 0} (r : Result X E) (P Q R : X → Type 0) → IfOk r P → IfOk r Q → ((x : X) → P x → Q x → R x) → IfOk r R
+pub both_if_ok : {X E : Type 0} (r : Result X E) (P Q R : X → Type 0) → IfOk r P → IfOk r Q
+    → ((x : X) → P x → Q x → R x) → IfOk r R
 both_if_ok (Ok x) P Q R p q f = f x p q
 both_if_ok (Err e) P Q R p q f = tt
 
@@ -53,7 +54,9 @@ has_cases k p places =
     ]
 
 -- a cheap roster of a part is one of the whole
-pub within_part : (problem : Problem) (Kept : List ℕ → Type 0) (old new : Region) (most : ℤ) (key : Key) → IsNarrowed problem Kept old new → IsWithinCost problem (IsIn problem new) most key → IsWithinCost problem (IsIn problem old) most key
+pub within_part : (problem : Problem) (Kept : List ℕ → Type 0) (old new : Region) (most : ℤ) (key : Key)
+    → IsNarrowed problem Kept old new → IsWithinCost problem (IsIn problem new) most key
+    → IsWithinCost problem (IsIn problem old) most key
 within_part problem Kept old new most key part found = record {
   held = found.held;
   inside = part.inside key.places found.inside;
@@ -61,7 +64,9 @@ within_part problem Kept old new most key part found = record {
 }
 
 -- if a part has all that is cheap, and nothing in it is, nothing is
-pub more_than_part : (problem : Problem) (old new : Region) (most : ℤ) → IsNarrowed problem (CostsAtMost problem most) old new → CostsMore problem (IsIn problem new) most → CostsMore problem (IsIn problem old) most
+pub more_than_part : (problem : Problem) (old new : Region) (most : ℤ)
+    → IsNarrowed problem (CostsAtMost problem most) old new → CostsMore problem (IsIn problem new) most
+    → CostsMore problem (IsIn problem old) most
 more_than_part problem old new most part more =
     λ others legal inside. elim (cost_cases most (cost_of problem others)) [
       | inl cheap ↦ more others legal (part.kept others inside cheap)
@@ -69,7 +74,9 @@ more_than_part problem old new most part more =
     ]
 
 -- the same of its rosters
-pub above_part : (problem : Problem) (old new : Region) (most : ℤ) → IsNarrowed problem (CostsAtMost problem most) old new → IsAllAbove problem new most → IsAllAbove problem old most
+pub above_part : (problem : Problem) (old new : Region) (most : ℤ)
+    → IsNarrowed problem (CostsAtMost problem most) old new → IsAllAbove problem new most
+    → IsAllAbove problem old most
 above_part problem old new most part above =
     λ places inside. elim (cost_cases most (cost_of problem places)) [
       | inl cheap ↦ above places (part.kept places inside cheap)
@@ -77,14 +84,21 @@ above_part problem old new most part above =
     ]
 
 -- what is found in a part that has all that is cheap is what is found in the whole
-pub found_in_part : (problem : Problem) (old new : Region) (most : ℤ) (found : Option Key) → IsNarrowed problem (CostsAtMost problem most) old new → IsFoundWithin problem (IsIn problem new) most found → IsFoundWithin problem (IsIn problem old) most found
+pub found_in_part : (problem : Problem) (old new : Region) (most : ℤ) (found : Option Key)
+    → IsNarrowed problem (CostsAtMost problem most) old new
+    → IsFoundWithin problem (IsIn problem new) most found
+    → IsFoundWithin problem (IsIn problem old) most found
 found_in_part problem old new most None part is = more_than_part problem old new most part is
-found_in_part problem old new most (Some key) part is = within_part problem (CostsAtMost problem most) old new most key part is
+found_in_part problem old new most (Some key) part is =
+    within_part problem (CostsAtMost problem most) old new most key part is
 
 -- ---- parts that have all that is cheap
 
 -- what settles the part settles the whole
-pub settled_in_whole : (problem : Problem) (old new : Region) (before after : Key) → IsNarrowed problem (CostsAtMost problem before.cost) old new → Settles problem (IsIn problem new) (IsIn problem new) (Some before) after → Settles problem (IsIn problem old) (IsIn problem old) (Some before) after
+pub settled_in_whole : (problem : Problem) (old new : Region) (before after : Key)
+    → IsNarrowed problem (CostsAtMost problem before.cost) old new
+    → Settles problem (IsIn problem new) (IsIn problem new) (Some before) after
+    → Settles problem (IsIn problem old) (IsIn problem old) (Some before) after
 settled_in_whole problem old new before after part settled =
     let cheap = no_dearer after before settled.kept in
     record {
@@ -98,7 +112,9 @@ settled_in_whole problem old new before after part settled =
     }
 
 -- if each roster costs more, the given one is settled
-pub settled_below : (problem : Problem) (region : Region) (key : Key) → IsHeld problem key → IsAllAbove problem region key.cost → Settles problem (IsIn problem region) (IsIn problem region) (Some key) key
+pub settled_below : (problem : Problem) (region : Region) (key : Key) → IsHeld problem key
+    → IsAllAbove problem region key.cost
+    → Settles problem (IsIn problem region) (IsIn problem region) (Some key) key
 settled_below problem region key held above = record {
   held = held;
   kept = key_le-refl key;
@@ -107,7 +123,9 @@ settled_below problem region key held above = record {
 }
 
 -- what settles the whole for a cheapest roster below the limit is the least there
-pub least_below : (problem : Problem) (Region : List ℕ → Type 0) (limit : ℤ) (cheapest least : Key) → IsCheapestBelow problem Region limit (Some cheapest) → Settles problem Region Region (Some cheapest) least → IsLeastBelow problem Region limit (Some least)
+pub least_below : (problem : Problem) (Region : List ℕ → Type 0) (limit : ℤ) (cheapest least : Key)
+    → IsCheapestBelow problem Region limit (Some cheapest)
+    → Settles problem Region Region (Some cheapest) least → IsLeastBelow problem Region limit (Some least)
 least_below problem Region limit cheapest least is settled =
     let below = is.1 in
     let cheap = no_dearer least cheapest settled.kept in (

@@ -24,16 +24,21 @@ use Rattle.roster_search.proofs.Fronts.{before_by_number, same_number_more}
 pub record AreTried (problem : Problem) (p x : ℕ) (old now : Region) (key : Key) : Type 0 where
   pub is_region : IsRegion problem now
   pub inside : (others : List ℕ) → IsIn problem now others → IsIn problem old others
-  pub kept : (others : List ℕ) → IsIn problem old others → cost_of problem others ≤ℤ key.cost → IsIn problem now others
-  pub none : (others : List ℕ) (j : ℕ) → IsIn problem now others → cost_of problem others ≤ℤ key.cost → j < x → ¬ Has j p others
+  pub kept : (others : List ℕ) → IsIn problem old others → cost_of problem others ≤ℤ key.cost
+      → IsIn problem now others
+  pub none : (others : List ℕ) (j : ℕ) → IsIn problem now others → cost_of problem others ≤ℤ key.cost → j < x
+      → ¬ Has j p others
 
 -- the number that the roster has there
-pub number_at : (problem : Problem) (p : ℕ) (region : Region) (key : Key) (places : List ℕ) → AgreeBefore problem p region key → p < length problem.pairings → places ≡ key.places → Has (get_or places p 0) p key.places
+pub number_at : (problem : Problem) (p : ℕ) (region : Region) (key : Key) (places : List ℕ)
+    → AgreeBefore problem p region key → p < length problem.pairings → places ≡ key.places
+    → Has (get_or places p 0) p key.places
 number_at problem p region key places agree inside same =
     let long : p < length key.places = omega (arith, agree.legal.covers) in
     slice_get-get_or key.places p 0 long ∙ ap (λ xs. Some (get_or xs p 0)) (sym same)
 
-pub tried_none : (problem : Problem) (p : ℕ) (region : Region) (key : Key) → AgreeBefore problem p region key → AreTried problem p 0 region region key
+pub tried_none : (problem : Problem) (p : ℕ) (region : Region) (key : Key) → AgreeBefore problem p region key
+    → AreTried problem p 0 region region key
 tried_none problem p region key agree = record {
   is_region = agree.is_region;
   inside = λ others here. here;
@@ -42,9 +47,14 @@ tried_none problem p region key agree = record {
 }
 
 -- one more, whom no cheap roster has there
-pub tried_one_more : (problem : Problem) (p x : ℕ) (old now new : Region) (key : Key) → AreTried problem p x old now key → CostsMore problem (λ places. IsIn problem now places × Has x p places) key.cost → IsNarrowed problem (λ places. ¬ Has x p places) now new → AreTried problem p (x + 1) old new key
+pub tried_one_more : (problem : Problem) (p x : ℕ) (old now new : Region) (key : Key)
+    → AreTried problem p x old now key
+    → CostsMore problem (λ places. IsIn problem now places × Has x p places) key.cost
+    → IsNarrowed problem (λ places. ¬ Has x p places) now new → AreTried problem p (x + 1) old new key
 tried_one_more problem p x old now new key tried none narrowed =
-    let not_here : (others : List ℕ) → IsIn problem now others → cost_of problem others ≤ℤ key.cost → ¬ Has x p others = λ others here cheap has.
+    let not_here : (others : List ℕ) → IsIn problem now others → cost_of problem others ≤ℤ key.cost
+    → ¬ Has x p others =
+    λ others here cheap has.
     let more = none others here.legal (here, has) in
     absurd (omega (arith, ints)) in
     record {
@@ -66,16 +76,24 @@ tried_one_more problem p x old now new key tried none narrowed =
 -- ---- the place is settled
 
 -- by a roster that has the number there, where all before it are tried
-pub settled_at : (problem : Problem) (p x : ℕ) (old now new : Region) (before after : Key) → AgreeBefore problem p old before → AreTried problem p x old now before → IsNarrowed problem (Has x p) now new → IsWhollyIn problem new (Has x p) → IsHeld problem after → take p after.places ≡ take p before.places → Has x p after.places → (before ≡ after) ⊎ IsIn problem old after.places → after.cost ≤ℤ before.cost → places_le after.places before.places ≡ true → p < length problem.pairings → IsSettledAt problem p old before new after
+pub settled_at : (problem : Problem) (p x : ℕ) (old now new : Region) (before after : Key)
+    → AgreeBefore problem p old before → AreTried problem p x old now before
+    → IsNarrowed problem (Has x p) now new → IsWhollyIn problem new (Has x p) → IsHeld problem after
+    → take p after.places ≡ take p before.places → Has x p after.places
+    → (before ≡ after) ⊎ IsIn problem old after.places → after.cost ≤ℤ before.cost
+    → places_le after.places before.places ≡ true → p < length problem.pairings
+    → IsSettledAt problem p old before new after
 settled_at problem p x old now new before after agree tried narrowed wholly held same has from cheap earlier inside =
-    let front : (others : List ℕ) → IsIn problem old others → take p others ≡ take p after.places = λ others here. agree.same others here ∙ sym same in
+    let front : (others : List ℕ) → IsIn problem old others → take p others ≡ take p after.places =
+    λ others here. agree.same others here ∙ sym same in
     record {
       agree = record {
         is_region = narrowed.region;
         cost = held.cost;
         legal = held.legal;
         same = λ others here.
-            same_number_more p x others after.places (front others (tried.inside others (narrowed.inside others here))) (wholly others here) has;
+            same_number_more p x others after.places
+            (front others (tried.inside others (narrowed.inside others here))) (wholly others here) has;
       };
       on = record {
         inside = λ others here. tried.inside others (narrowed.inside others here);
@@ -101,16 +119,26 @@ settled_at problem p x old now new before after agree tried narrowed wholly held
     }
 
 -- the roster itself
-pub settled_as_is : (problem : Problem) (p x : ℕ) (old now new : Region) (key : Key) → AgreeBefore problem p old key → AreTried problem p x old now key → IsNarrowed problem (Has x p) now new → IsWhollyIn problem new (Has x p) → Has x p key.places → p < length problem.pairings → IsSettledAt problem p old key new key
+pub settled_as_is : (problem : Problem) (p x : ℕ) (old now new : Region) (key : Key)
+    → AgreeBefore problem p old key → AreTried problem p x old now key → IsNarrowed problem (Has x p) now new
+    → IsWhollyIn problem new (Has x p) → Has x p key.places → p < length problem.pairings
+    → IsSettledAt problem p old key new key
 settled_as_is problem p x old now new key agree tried narrowed wholly has inside =
-    settled_at problem p x old now new key key agree tried narrowed wholly (record { legal = agree.legal; cost = agree.cost }) refl has (inl refl) (omega (arith, ints)) (places_le-refl key.places) inside
+    settled_at problem p x old now new key key agree tried narrowed wholly
+    (record { legal = agree.legal; cost = agree.cost }) refl has (inl refl) (omega (arith, ints))
+    (places_le-refl key.places) inside
 
 -- one that has an earlier number there
-pub settled_earlier : (problem : Problem) (p x number : ℕ) (old now new : Region) (key earlier : Key) → AgreeBefore problem p old key → AreTried problem p x old now key → IsNarrowed problem (Has x p) now new → IsWhollyIn problem new (Has x p) → Has number p key.places → x < number → IsWithinCost problem (λ places. IsIn problem now places × Has x p places) key.cost earlier → p < length problem.pairings → IsSettledAt problem p old key new earlier
+pub settled_earlier : (problem : Problem) (p x number : ℕ) (old now new : Region) (key earlier : Key)
+    → AgreeBefore problem p old key → AreTried problem p x old now key → IsNarrowed problem (Has x p) now new
+    → IsWhollyIn problem new (Has x p) → Has number p key.places → x < number
+    → IsWithinCost problem (λ places. IsIn problem now places × Has x p places) key.cost earlier
+    → p < length problem.pairings → IsSettledAt problem p old key new earlier
 settled_earlier problem p x number old now new key earlier agree tried narrowed wholly has less found inside =
     let here = tried.inside earlier.places found.inside.0 in
     let same = agree.same earlier.places here in
-    settled_at problem p x old now new key earlier agree tried narrowed wholly found.held same found.inside.1 (inr here) found.within
+    settled_at problem p x old now new key earlier agree tried narrowed wholly found.held same found.inside.1
+    (inr here) found.within
     (before_by_number p x number earlier.places key.places same found.inside.1 has less) inside
 
 -- ---- one place after another
@@ -124,7 +152,9 @@ goes_on_none problem region key = record {
   kept = λ others here cheap. inl here;
 }
 
-pub goes_on_then : (problem : Problem) (old mid new : Region) (before between after : Key) → GoesOn problem old before mid between → GoesOn problem mid between new after → GoesOn problem old before new after
+pub goes_on_then : (problem : Problem) (old mid new : Region) (before between after : Key)
+    → GoesOn problem old before mid between → GoesOn problem mid between new after
+    → GoesOn problem old before new after
 goes_on_then problem old mid new before between after first second =
     let cheap = second.cheap in
     let cheaper = first.cheap in
@@ -145,7 +175,8 @@ goes_on_then problem old mid new before between after first second =
     }
 
 -- before the first place
-pub agree_before_first : (problem : Problem) (region : Region) (key : Key) → IsRegion problem region → IsHeld problem key → AgreeBefore problem 0 region key
+pub agree_before_first : (problem : Problem) (region : Region) (key : Key) → IsRegion problem region
+    → IsHeld problem key → AgreeBefore problem 0 region key
 agree_before_first problem region key is held = record {
   is_region = is;
   cost = held.cost;
@@ -156,7 +187,11 @@ agree_before_first problem region key is held = record {
 -- ---- all is settled
 
 -- if nothing is left in the region that comes before the roster
-settled_by_rest : (problem : Problem) (whole region : Region) (before after : Key) (p : ℕ) → CostsAtLeast problem (IsIn problem whole) before.cost → AgreeBefore problem p region after → GoesOn problem whole before region after → ((others : List ℕ) → IsIn problem region others → places_le after.places others ≡ true) → Settles problem (IsIn problem whole) (IsIn problem whole) (Some before) after
+settled_by_rest : (problem : Problem) (whole region : Region) (before after : Key) (p : ℕ)
+    → CostsAtLeast problem (IsIn problem whole) before.cost → AgreeBefore problem p region after
+    → GoesOn problem whole before region after
+    → ((others : List ℕ) → IsIn problem region others → places_le after.places others ≡ true)
+    → Settles problem (IsIn problem whole) (IsIn problem whole) (Some before) after
 settled_by_rest problem whole region before after p least agree on rest =
     let cheap = on.cheap in
     record {
@@ -178,15 +213,23 @@ settled_by_rest problem whole region before after p least agree on rest =
     }
 
 -- at the end there is nothing but the roster
-pub settled_at_end : (problem : Problem) (whole region : Region) (before after : Key) (p : ℕ) → CostsAtLeast problem (IsIn problem whole) before.cost → AgreeBefore problem p region after → GoesOn problem whole before region after → p ≡ length problem.pairings → Settles problem (IsIn problem whole) (IsIn problem whole) (Some before) after
+pub settled_at_end : (problem : Problem) (whole region : Region) (before after : Key) (p : ℕ)
+    → CostsAtLeast problem (IsIn problem whole) before.cost → AgreeBefore problem p region after
+    → GoesOn problem whole before region after → p ≡ length problem.pairings
+    → Settles problem (IsIn problem whole) (IsIn problem whole) (Some before) after
 settled_at_end problem whole region before after p least agree on all =
     settled_by_rest problem whole region before after p least agree on (λ others here.
     let long : length others ≤ p = omega (arith, here.legal.covers) in
     let longer : length after.places ≤ p = omega (arith, agree.legal.covers) in
-    let equal : others ≡ after.places = sym (take_all p others long) ∙ agree.same others here ∙ take_all p after.places longer in
+    let equal : others ≡ after.places =
+    sym (take_all p others long) ∙ agree.same others here ∙ take_all p after.places longer in
     subst (λ xs. places_le after.places xs ≡ true) (sym equal) (places_le-refl after.places))
 
 -- or there is nothing
-pub settled_if_empty : (problem : Problem) (whole region : Region) (before after : Key) (p : ℕ) → CostsAtLeast problem (IsIn problem whole) before.cost → AgreeBefore problem p region after → GoesOn problem whole before region after → IsEmpty problem region → Settles problem (IsIn problem whole) (IsIn problem whole) (Some before) after
+pub settled_if_empty : (problem : Problem) (whole region : Region) (before after : Key) (p : ℕ)
+    → CostsAtLeast problem (IsIn problem whole) before.cost → AgreeBefore problem p region after
+    → GoesOn problem whole before region after → IsEmpty problem region
+    → Settles problem (IsIn problem whole) (IsIn problem whole) (Some before) after
 settled_if_empty problem whole region before after p least agree on empty =
-    settled_by_rest problem whole region before after p least agree on (λ others here. absurd (empty others here))
+    settled_by_rest problem whole region before after p least agree on
+    (λ others here. absurd (empty others here))

@@ -15,7 +15,8 @@ split_at xs p x at =
     ∙ ap (λ y. take p xs ++ y ∷ drop (suc p) xs) (get_or_from_slice_get xs p x x at)
 
 -- behind a common front the list with the lesser number comes first
-pub before_by_number : (p x y : ℕ) (xs ys : List ℕ) → take p xs ≡ take p ys → slice_get xs p ≡ Some x → slice_get ys p ≡ Some y → x < y → places_le xs ys ≡ true
+pub before_by_number : (p x y : ℕ) (xs ys : List ℕ) → take p xs ≡ take p ys → slice_get xs p ≡ Some x
+    → slice_get ys p ≡ Some y → x < y → places_le xs ys ≡ true
 before_by_number p x y xs ys front here there less =
     let left = split_at xs p x here in
     let right = split_at ys p y there ∙ ap (λ zs. zs ++ y ∷ drop (suc p) ys) (sym front) in
@@ -24,7 +25,8 @@ before_by_number p x y xs ys front here there less =
     ∙ by_less x y (drop (suc p) xs) (drop (suc p) ys) less
 
 -- with the same number the front is longer
-pub same_number_more : (p x : ℕ) (xs ys : List ℕ) → take p xs ≡ take p ys → slice_get xs p ≡ Some x → slice_get ys p ≡ Some x → take (p + 1) xs ≡ take (p + 1) ys
+pub same_number_more : (p x : ℕ) (xs ys : List ℕ) → take p xs ≡ take p ys → slice_get xs p ≡ Some x
+    → slice_get ys p ≡ Some x → take (p + 1) xs ≡ take (p + 1) ys
 same_number_more p x xs ys front here there =
     take_more_same xs ys p x (slice_get_within xs p x here) (slice_get_within ys p x there) front
     (get_or_from_slice_get xs p x x here ∙ sym (get_or_from_slice_get ys p x x there))

@@ -6,13 +6,16 @@ use Rattle.roster_model.specs.Places.{places_le}
 use Rattle.roster_model.specs.records.Pairing.{Pairing}
 use Rattle.roster_search.specs.Parts.{pick}
 
-pub length-pick : (test : ℕ → Bool) (p : ℕ) (xs ys : List ℕ) → length xs ≡ length ys → length (pick test p xs ys) ≡ length ys
+pub length-pick : (test : ℕ → Bool) (p : ℕ) (xs ys : List ℕ) → length xs ≡ length ys
+    → length (pick test p xs ys) ≡ length ys
 length-pick test p [] [] same = refl
 length-pick test p [] (y ∷ ys) same = absurd (omega (arith, same))
 length-pick test p (x ∷ xs) [] same = absurd (omega (arith, same))
-length-pick test p (x ∷ xs) (y ∷ ys) same = omega (arith, length-pick test (p + 1) xs ys (omega (arith, same)))
+length-pick test p (x ∷ xs) (y ∷ ys) same =
+    omega (arith, length-pick test (p + 1) xs ys (omega (arith, same)))
 
-pub get_or-pick : (test : ℕ → Bool) (p i : ℕ) (xs ys : List ℕ) → length xs ≡ length ys → i < length ys → get_or (pick test p xs ys) i 0 ≡ cond (test (p + i)) (get_or xs i 0) (get_or ys i 0)
+pub get_or-pick : (test : ℕ → Bool) (p i : ℕ) (xs ys : List ℕ) → length xs ≡ length ys → i < length ys
+    → get_or (pick test p xs ys) i 0 ≡ cond (test (p + i)) (get_or xs i 0) (get_or ys i 0)
 get_or-pick test p i [] [] same inside = absurd (omega (arith, inside))
 get_or-pick test p i [] (y ∷ ys) same inside = absurd (omega (arith, same))
 get_or-pick test p i (x ∷ xs) [] same inside = absurd (omega (arith, same))
@@ -34,22 +37,26 @@ pick_second : (b : Bool) (x y z : ℕ) → cond b z (cond b x y) ≡ cond b z y
 pick_second true x y z = refl
 pick_second false x y z = refl
 
-pub pick-first : (test : ℕ → Bool) (p : ℕ) (xs ys zs : List ℕ) → length xs ≡ length ys → length ys ≡ length zs → pick test p (pick test p xs ys) zs ≡ pick test p xs zs
+pub pick-first : (test : ℕ → Bool) (p : ℕ) (xs ys zs : List ℕ) → length xs ≡ length ys → length ys ≡ length zs
+    → pick test p (pick test p xs ys) zs ≡ pick test p xs zs
 pick-first test p [] [] zs same also = refl
 pick-first test p [] (y ∷ ys) zs same also = absurd (omega (arith, same))
 pick-first test p (x ∷ xs) [] zs same also = absurd (omega (arith, same))
 pick-first test p (x ∷ xs) (y ∷ ys) [] same also = absurd (omega (arith, also))
 pick-first test p (x ∷ xs) (y ∷ ys) (z ∷ zs) same also =
-    ap₂ (λ n rest. n ∷ rest) (pick_first (test p) x y z) (pick-first test (p + 1) xs ys zs (omega (arith, same)) (omega (arith, also)))
+    ap₂ (λ n rest. n ∷ rest) (pick_first (test p) x y z)
+    (pick-first test (p + 1) xs ys zs (omega (arith, same)) (omega (arith, also)))
 
-pub pick-second : (test : ℕ → Bool) (p : ℕ) (xs ys zs : List ℕ) → length xs ≡ length ys → length ys ≡ length zs → pick test p zs (pick test p xs ys) ≡ pick test p zs ys
+pub pick-second : (test : ℕ → Bool) (p : ℕ) (xs ys zs : List ℕ) → length xs ≡ length ys
+    → length ys ≡ length zs → pick test p zs (pick test p xs ys) ≡ pick test p zs ys
 pick-second test p [] [] [] same also = refl
 pick-second test p [] [] (z ∷ zs) same also = absurd (omega (arith, also))
 pick-second test p [] (y ∷ ys) zs same also = absurd (omega (arith, same))
 pick-second test p (x ∷ xs) [] zs same also = absurd (omega (arith, same))
 pick-second test p (x ∷ xs) (y ∷ ys) [] same also = absurd (omega (arith, also))
 pick-second test p (x ∷ xs) (y ∷ ys) (z ∷ zs) same also =
-    ap₂ (λ n rest. n ∷ rest) (pick_second (test p) x y z) (pick-second test (p + 1) xs ys zs (omega (arith, same)) (omega (arith, also)))
+    ap₂ (λ n rest. n ∷ rest) (pick_second (test p) x y z)
+    (pick-second test (p + 1) xs ys zs (omega (arith, same)) (omega (arith, also)))
 
 -- ---- the exchange law of lists
 
@@ -63,7 +70,8 @@ exchange_heads false x y left right same = same_heads x left ∙ same ∙ sym (s
 
 -- a list that differs from the first only where the test says yes, and one that does from the second
 -- elsewhere
-pub places_le-pick : (test : ℕ → Bool) (p : ℕ) (xs ys : List ℕ) → length xs ≡ length ys → places_le xs (pick test p ys xs) ≡ places_le (pick test p xs ys) ys
+pub places_le-pick : (test : ℕ → Bool) (p : ℕ) (xs ys : List ℕ) → length xs ≡ length ys
+    → places_le xs (pick test p ys xs) ≡ places_le (pick test p xs ys) ys
 places_le-pick test p [] [] same = refl
 places_le-pick test p [] (y ∷ ys) same = absurd (omega (arith, same))
 places_le-pick test p (x ∷ xs) [] same = absurd (omega (arith, same))
@@ -76,7 +84,8 @@ exchange_heads_others false x y left right same = ap (λ rest. ltb x y || (eqb x
 exchange_heads_others true x y left right same = same_heads x left ∙ same ∙ sym (same_heads y right)
 
 -- a list that differs from the first elsewhere, and one that does from the second where the test says yes
-pub places_le-pick_others : (test : ℕ → Bool) (p : ℕ) (xs ys : List ℕ) → length xs ≡ length ys → places_le xs (pick test p xs ys) ≡ places_le (pick test p ys xs) ys
+pub places_le-pick_others : (test : ℕ → Bool) (p : ℕ) (xs ys : List ℕ) → length xs ≡ length ys
+    → places_le xs (pick test p xs ys) ≡ places_le (pick test p ys xs) ys
 places_le-pick_others test p [] [] same = refl
 places_le-pick_others test p [] (y ∷ ys) same = absurd (omega (arith, same))
 places_le-pick_others test p (x ∷ xs) [] same = absurd (omega (arith, same))
@@ -90,7 +99,8 @@ open_heads : (b : Bool) (nobody penalty x y : ℕ)
 open_heads true nobody penalty x y = refl
 open_heads false nobody penalty x y = omega arith
 
-pub open_penalties-pick : (nobody : ℕ) (pairings : List Pairing) (test : ℕ → Bool) (p : ℕ) (xs ys : List ℕ) → length xs ≡ length ys
+pub open_penalties-pick : (nobody : ℕ) (pairings : List Pairing) (test : ℕ → Bool) (p : ℕ) (xs ys : List ℕ)
+    → length xs ≡ length ys
     → open_penalties nobody pairings (pick test p xs ys) + open_penalties nobody pairings (pick test p ys xs) ≡ open_penalties nobody pairings xs + open_penalties nobody pairings ys
 open_penalties-pick nobody [] test p xs ys same = refl
 open_penalties-pick nobody (pairing ∷ pairings) test p [] [] same = refl

@@ -17,7 +17,8 @@ pub record AgreeBefore (problem : Problem) (p : ℕ) (region : Region) (key : Ke
 -- The new region is part of the old one. It has each roster of that which costs no more than the new key,
 -- but for those that aren't before the key in the list. The new key is the old one or that of a roster of
 -- the old region, costs no more than the old one, and isn't behind it in the list.
-pub record GoesOn (problem : Problem) (old : Region) (before : Key) (new : Region) (after : Key) : Type 0 where
+pub record GoesOn (problem : Problem) (old : Region) (before : Key) (new : Region)
+    (after : Key) : Type 0 where
   pub inside : (others : List ℕ) → IsIn problem new others → IsIn problem old others
   pub from : (before ≡ after) ⊎ IsIn problem old after.places
   pub cheap : after.cost ≤ℤ before.cost
@@ -26,6 +27,7 @@ pub record GoesOn (problem : Problem) (old : Region) (before : Key) (new : Regio
       → IsIn problem new others ⊎ (places_le after.places others ≡ true)
 
 -- the same, and the region now agrees at place p too
-pub record IsSettledAt (problem : Problem) (p : ℕ) (old : Region) (before : Key) (new : Region) (after : Key) : Type 0 where
+pub record IsSettledAt (problem : Problem) (p : ℕ) (old : Region) (before : Key) (new : Region)
+    (after : Key) : Type 0 where
   pub agree : AgreeBefore problem (p + 1) new after
   pub on : GoesOn problem old before new after

@@ -13,7 +13,8 @@ use Rattle.roster_search.specs.declared.visiting.Visited.TheVariants.{Ended, Par
 pub record IsParted (problem : Problem) (region : Region) (most : ℤ) (having others : Region) : Type 0 where
   pub is_having : IsRegion problem having
   pub is_others : IsRegion problem others
-  pub inside : (places : List ℕ) → IsIn problem having places ⊎ IsIn problem others places → IsIn problem region places
+  pub inside : (places : List ℕ) → IsIn problem having places ⊎ IsIn problem others places
+      → IsIn problem region places
   pub all : (places : List ℕ) → IsIn problem region places → CostsAtMost problem most places
       → IsIn problem having places ⊎ IsIn problem others places
   pub fewer_having : size_of having < size_of region
@@ -31,10 +32,12 @@ IsInSome problem (region ∷ rest) places = IsIn problem region places ⊎ IsInS
 
 -- What is left to search of some rosters: each of them that costs at most so much is in one of the regions,
 -- and no others are there.
-pub record AreOpenOf (problem : Problem) (Rosters : List ℕ → Type 0) (most : ℤ) (left : List Region) : Type 0 where
+pub record AreOpenOf (problem : Problem) (Rosters : List ℕ → Type 0) (most : ℤ)
+    (left : List Region) : Type 0 where
   pub are : All (IsRegion problem) left
   pub inside : (places : List ℕ) → IsInSome problem left places → Rosters places
-  pub all : (places : List ℕ) → Rosters places → CostsAtMost problem most places → IsInSome problem left places
+  pub all : (places : List ℕ) → Rosters places → CostsAtMost problem most places
+      → IsInSome problem left places
 
 -- one of the rosters that costs at most so much, or what is left to search of them
 abbrev pub IsExplored : Problem → (List ℕ → Type 0) → ℤ → Explored → Type 0

@@ -37,7 +37,8 @@ IsNumbered table k range set =
     (i : ℕ) × (range.0 ≤ i) × (i < range.1) × (slice_get (sets_of (lines_at table k)) i ≡ Some set)
 
 -- a legal roster in which the persons of some bases have lines in their ranges, and the others no pairings
-pub record IsInPart (problem : Problem) (table : List (List Entry)) (ranges : List (ℕ × ℕ)) (part : ℕ → Bool) (places : List ℕ) : Type 0 where
+pub record IsInPart (problem : Problem) (table : List (List Entry)) (ranges : List (ℕ × ℕ)) (part : ℕ → Bool)
+    (places : List ℕ) : Type 0 where
   pub legal : IsLegalRoster problem places
   pub numbered : (k : ℕ) (range : ℕ × ℕ) → slice_get ranges k ≡ Some range
       → part (base_of_person problem k) ≡ true → IsNumbered table k range (set_of k places)
@@ -51,10 +52,13 @@ pub record AreOwnRanges (problem : Problem) (base : ℕ) (ranges own : List (ℕ
       → slice_get own k ≡ Some (if base_of_person problem k == base then range else (0, 1))
 
 -- a region with just those rosters of one base
-pub record IsRegionOfPart (problem : Problem) (table : List (List Entry)) (ranges : List (ℕ × ℕ)) (base : ℕ) (region : Region) : Type 0 where
+pub record IsRegionOfPart (problem : Problem) (table : List (List Entry)) (ranges : List (ℕ × ℕ)) (base : ℕ)
+    (region : Region) : Type 0 where
   pub is_region : IsRegion problem region
-  pub inside : (places : List ℕ) → IsIn problem region places → IsInPart problem table ranges (λ b. b == base) places
-  pub all : (places : List ℕ) → IsInPart problem table ranges (λ b. b == base) places → IsIn problem region places
+  pub inside : (places : List ℕ) → IsIn problem region places
+      → IsInPart problem table ranges (λ b. b == base) places
+  pub all : (places : List ℕ) → IsInPart problem table ranges (λ b. b == base) places
+      → IsIn problem region places
 
 -- a base, and the least roster in which only its persons fly, if there is one
 abbrev pub IsBasePart : Problem → List (List Entry) → List (ℕ × ℕ) → ℕ × Option Key → Type 0

@@ -33,7 +33,8 @@ hand_fault state worker piece = if is_held (held state worker) piece then None e
 -- of a call that splits it
 abbrev pub split_fault : State → ℕ → Span → Bool → Option PoolFault
 split_fault state worker piece can_split =
-    if is_held (held state worker) piece then (if can_split then None else Some CannotSplit) else Some NotYours
+    if is_held (held state worker) piece then
+    (if can_split then None else Some CannotSplit) else Some NotYours
 
 abbrev pub halve_fault : State → ℕ → Span → Option PoolFault
 halve_fault state worker piece = split_fault state worker piece (can_halve piece)

@@ -21,7 +21,8 @@ root widths = record { path = []; lo = 0; hi = slice_index widths 0 }
 
 -- the root is pending, and nobody has a span
 abbrev pub opening : List ℕ → ℕ → State
-opening widths workers = record { widths = widths; pending = root widths ∷ []; hands = replicate workers None; finished = [] }
+opening widths workers =
+    record { widths = widths; pending = root widths ∷ []; hands = replicate workers None; finished = [] }
 
 -- the span that a worker has, if any
 abbrev pub held : State → ℕ → Option Span
@@ -49,14 +50,16 @@ can_descend widths span = (span.hi == span.lo + 1) && nat_lt (length span.path +
 
 -- the path with that line, and the whole range of the person after
 abbrev pub descended : List ℕ → Span → Span
-descended widths span = record { path = span.path ++ span.lo ∷ []; lo = 0; hi = slice_index widths (length span.path + 1) }
+descended widths span =
+    record { path = span.path ++ span.lo ∷ []; lo = 0; hi = slice_index widths (length span.path + 1) }
 
 -- ---- events
 
 -- a pending span goes into a hand, if the hand is there and empty, and so is the span
 abbrev pub take_in : State → ℕ → ℕ → Option (Option Span) → Option Span → Option State
 take_in state worker place (Some None) (Some span) =
-    Some (record state { pending = remove state.pending place; hands = slice_set state.hands worker (Some span) })
+    Some
+    (record state { pending = remove state.pending place; hands = slice_set state.hands worker (Some span) })
 take_in state worker place (Some None) None = None
 take_in state worker place (Some (Some span)) _ = None
 take_in state worker place None _ = None
@@ -91,7 +94,8 @@ finish_in state worker (Some span) =
 
 -- the state after an event, if it is allowed
 abbrev pub step : State → Event → Option State
-step state (Take worker place) = take_in state worker place (slice_get state.hands worker) (slice_get state.pending place)
+step state (Take worker place) =
+    take_in state worker place (slice_get state.hands worker) (slice_get state.pending place)
 step state (Halve worker) = halve_in state worker (held state worker)
 step state (Descend worker) = descend_in state worker (held state worker)
 step state (Back worker) = back_in state worker (held state worker)

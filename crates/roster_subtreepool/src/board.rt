@@ -1,8 +1,11 @@
 //! Where each span of a pool is.
 
-ghost use Rattle.std.specs.Prelude.{◌≡◌, ◌<◌, ◌↔◌, ◌∷◌, ◌++◌, [], ℕ, All, IfErr, IfOk, IsTrue, None, OnErr, Some, length, replicate, slice_get};
-ghost use Rattle.roster_subtreepool.specs.Refusals.{descend_fault, halve_fault, hand_fault, is_free, is_held, is_same, take_fault};
-ghost use Rattle.roster_subtreepool.specs.States.{IsAtRest, can_descend, descended, held, lower, opening, step};
+ghost use Rattle.std.specs.Prelude.{◌≡◌, ◌<◌, ◌↔◌, ◌∷◌, ◌++◌, [], ℕ, All, IfErr, IfOk, IsTrue, None, OnErr};
+ghost use Rattle.std.specs.Prelude.{Some, length, replicate, slice_get};
+ghost use Rattle.roster_subtreepool.specs.Refusals.{descend_fault, halve_fault, hand_fault, is_free, is_held};
+ghost use Rattle.roster_subtreepool.specs.Refusals.{is_same, take_fault};
+ghost use Rattle.roster_subtreepool.specs.States.{IsAtRest, can_descend, descended, held, lower, opening};
+ghost use Rattle.roster_subtreepool.specs.States.{step};
 
 use crate::event::Event;
 use roster_spans::{Path, Piece, Span};

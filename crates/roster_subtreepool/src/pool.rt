@@ -1,6 +1,7 @@
 //! A pool that several workers share.
 
-ghost use Rattle.std.specs.Prelude.{◌≡◌, ◌<◌, ◌+◌, ◌⊎◌, ◌∷◌, ◌++◌, [], false, length, IsTrue, IfErr, IfNone, IfOk, IfSome, None, OnErr, OnOk, Some, slice_get, true};
+ghost use Rattle.std.specs.Prelude.{◌≡◌, ◌<◌, ◌+◌, ◌⊎◌, ◌∷◌, ◌++◌, [], false, length, IsTrue, IfErr, IfNone};
+ghost use Rattle.std.specs.Prelude.{IfOk, IfSome, None, OnErr, OnOk, Some, slice_get, true};
 ghost use Rattle.std.specs.Arc.{arc_value};
 ghost use Rattle.roster_subtreepool.specs.Refusals.{descend_fault, halve_fault, is_free, take_fault, told};
 ghost use Rattle.roster_subtreepool.specs.States.{Adds, IsAtRest, State, can_halve, held, lower};

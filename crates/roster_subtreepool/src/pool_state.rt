@@ -1,9 +1,12 @@
 //! A pool, and the events that led to it.
 
-ghost use Rattle.std.specs.Prelude.{◌≡◌, ◌<◌, ◌≤◌, ◌+◌, ◌↔◌, [], IfErr, IfOk, IsOk, IsTrue, None, OnErr, OnOk, Some, length, replicate, slice_get, sum, vec_capacity, vec_len};
+ghost use Rattle.std.specs.Prelude.{◌≡◌, ◌<◌, ◌≤◌, ◌+◌, ◌↔◌, [], IfErr, IfOk, IsOk, IsTrue, None, OnErr};
+ghost use Rattle.std.specs.Prelude.{OnOk, Some, length, replicate, slice_get, sum, vec_capacity, vec_len};
 ghost use Rattle.std.specs.Arc.{arc_value};
-ghost use Rattle.roster_subtreepool.specs.Refusals.{descend_fault, halve_fault, hand_fault, is_free, take_fault, told};
-ghost use Rattle.roster_subtreepool.specs.States.{Adds, IsAtRest, IsReplay, can_halve, descended, finishes, held, lower, opening};
+ghost use Rattle.roster_subtreepool.specs.Refusals.{descend_fault, halve_fault, hand_fault, is_free};
+ghost use Rattle.roster_subtreepool.specs.Refusals.{take_fault, told};
+ghost use Rattle.roster_subtreepool.specs.States.{Adds, IsAtRest, IsReplay, can_halve, descended, finishes};
+ghost use Rattle.roster_subtreepool.specs.States.{held, lower, opening};
 
 use crate::board::Board;
 use crate::closed::Closed;

@@ -30,11 +30,13 @@ use Rattle.roster_book.proofs.Tests.{both_of}
 -- ---- the weight
 
 -- it is given once
-weight_taken : (given : Option ℕ) (weight : ℕ) → given ≡ None → weight_count (option_or given (Some weight)) ≡ weight_count given + 1
+weight_taken : (given : Option ℕ) (weight : ℕ) → given ≡ None
+    → weight_count (option_or given (Some weight)) ≡ weight_count given + 1
 weight_taken None weight none = refl
 weight_taken (Some w) weight none = cc
 
-weight_kept : (given : Option ℕ) (weight : ℕ) → given ≡ None → weight ≤ MOST_WEIGHT → unwrap_or (option_or given (Some weight)) 0 ≤ MOST_WEIGHT
+weight_kept : (given : Option ℕ) (weight : ℕ) → given ≡ None → weight ≤ MOST_WEIGHT
+    → unwrap_or (option_or given (Some weight)) 0 ≤ MOST_WEIGHT
 weight_kept None weight none few = few
 weight_kept (Some w) weight none few = cc
 
@@ -46,7 +48,9 @@ sound-weight count before fields contents k =
     let made : ℕ = weight_of before fields in
     let met = is_met (weight.conditions before fields) k.met in
     let none : t.weight ≡ None = rw k.tables_are (none_given (weight_in before) (met GivenTwice)) in
-    let few = weight_kept t.weight made none (amount-below MOST_WEIGHT (number_of (weight.amount_in fields)) (met OutOfLimits)) in
+    let few =
+    weight_kept t.weight made none
+    (amount-below MOST_WEIGHT (number_of (weight.amount_in fields)) (met OutOfLimits)) in
     let n = weight_taken t.weight made none in
     sound-more k.sound (assumption (few, s)) refl k.sound.assigned (omega arith)
 
@@ -58,10 +62,13 @@ record IsPriced (before : List Record) (person pairing : Option ℕ) : Type 0 wh
   pairing_known : is_some pairing ≡ true
   room : length (costs_in before) < MOST_COSTS
 
-priced : (before : List Record) (person pairing : Option ℕ) → IsMet NotGiven (cost.conditions_between before person pairing) → IsMet NoRoom (cost.conditions_between before person pairing) → IsPriced before person pairing
+priced : (before : List Record) (person pairing : Option ℕ)
+    → IsMet NotGiven (cost.conditions_between before person pairing)
+    → IsMet NoRoom (cost.conditions_between before person pairing) → IsPriced before person pairing
 priced before None pairing given room = cc given
 priced before (Some k) None given room = cc given
-priced before (Some k) (Some p) given room = record { person_known = refl; pairing_known = refl; room = below _ MOST_COSTS room }
+priced before (Some k) (Some p) given room =
+    record { person_known = refl; pairing_known = refl; room = below _ MOST_COSTS room }
 
 pub sound-cost : KeepsSound CostRecord
 unfolding code_of_kind cost_of
@@ -70,13 +77,19 @@ sound-cost count before fields contents k =
     let s = k.sound.sound in
     let made = cost_of before fields in
     let met = is_met (cost.conditions before fields) k.met in
-    let h = priced before (person_place before (cost.crew_in fields)) (pairing_place before (cost.pairing_in fields)) (met NotGiven) (met NoRoom) in
+    let h =
+    priced before (person_place before (cost.crew_in fields))
+    (pairing_place before (cost.pairing_in fields)) (met NotGiven) (met NoRoom) in
     let n = has_room MOST_COSTS t.costs made (rw k.tables_are h.room) in
-    let person : made.person < length t.persons = rw k.tables_are (place-below _ _ (persons_in before) h.person_known) in
-    let pairing : made.pairing < length t.pairings = rw k.tables_are (place-below _ _ (pairings_in before) h.pairing_known) in
+    let person : made.person < length t.persons =
+    rw k.tables_are (place-below _ _ (persons_in before) h.person_known) in
+    let pairing : made.pairing < length t.pairings =
+    rw k.tables_are (place-below _ _ (pairings_in before) h.pairing_known) in
     let persons = All-push (λ c. c.person < length t.persons) t.costs made s.cost_persons person in
     let pairings = All-push (λ c. c.pairing < length t.pairings) t.costs made s.cost_pairings pairing in
-    let units = All-push (λ c. unsigned_abs c.units ≤ MOST_UNITS) t.costs made s.units (units-below (number_of (cost.units_in fields)) (met OutOfLimits)) in
+    let units =
+    All-push (λ c. unsigned_abs c.units ≤ MOST_UNITS) t.costs made s.units
+    (units-below (number_of (cost.units_in fields)) (met OutOfLimits)) in
     sound-more k.sound (assumption (n.few, persons, pairings, units, s)) refl k.sound.assigned (omega arith)
 
 -- ---- assignments
@@ -91,20 +104,25 @@ record IsAssignable (assigns : List Assign) (pairing : Option ℕ) : Type 0 wher
   place_is : pairing ≡ Some place
   free : list_any (is_assign_of place) assigns ≡ false
 
-assignable : (assigns : List Assign) (pairing : Option ℕ) → not (is_assigned assigns pairing) ≡ true → is_some pairing ≡ true → IsAssignable assigns pairing
+assignable : (assigns : List Assign) (pairing : Option ℕ) → not (is_assigned assigns pairing) ≡ true
+    → is_some pairing ≡ true → IsAssignable assigns pairing
 assignable assigns None twice some = cc some
 assignable assigns (Some p) twice some = record { place = p; place_is = refl; free = not_true _ twice }
 
 -- whom it names is there, if it names anybody
-assignee-below : {X : Type 0} (nobody : Bool) (id_of : X → List ℕ) (name : List ℕ) (xs : List X) → IfSome (cond nobody None (place_named id_of name xs)) (λ k. k < length xs)
+assignee-below : {X : Type 0} (nobody : Bool) (id_of : X → List ℕ) (name : List ℕ) (xs : List X)
+    → IfSome (cond nobody None (place_named id_of name xs)) (λ k. k < length xs)
 assignee-below true id_of name xs = tt
 assignee-below false id_of name xs = place-within id_of name xs
 
-paired_with : (assigns : List Assign) (p : ℕ) → list_any (eqb p) (paired assigns) ≡ list_any (is_assign_of p) assigns
+paired_with : (assigns : List Assign) (p : ℕ)
+    → list_any (eqb p) (paired assigns) ≡ list_any (is_assign_of p) assigns
 paired_with [] p = refl
 paired_with (assign ∷ assigns) p = rw (nat_eq_equiv.symm p assign.pairing, paired_with assigns p) refl
 
-paired_once : (assigns : List Assign) (assign : Assign) → IsDistinct eqb (paired assigns) → list_any (is_assign_of assign.pairing) assigns ≡ false → IsDistinct eqb (paired (assigns ++ assign ∷ []))
+paired_once : (assigns : List Assign) (assign : Assign) → IsDistinct eqb (paired assigns)
+    → list_any (is_assign_of assign.pairing) assigns ≡ false
+    → IsDistinct eqb (paired (assigns ++ assign ∷ []))
 paired_once assigns assign once none =
     rw (map-append (λ (a : Assign). a.pairing) assigns (assign ∷ []))
     (IsDistinct-push nat_eq_equiv (paired assigns) assign.pairing once (paired_with assigns assign.pairing ∙ none))
@@ -119,8 +137,11 @@ sound-assign count before fields contents k =
     let n = one_more assigns made in
     let met = is_met (assign.conditions before fields) k.met in
     let known = (both_of _ _ (met NotGiven)).0 in
-    let h = assignable (assigns_in before) (pairing_place before (assign.pairing_in fields)) (met GivenTwice) known in
-    let pairing : made.pairing < length t.pairings = rw k.tables_are (place-below _ _ (pairings_in before) known) in
+    let h =
+    assignable (assigns_in before) (pairing_place before (assign.pairing_in fields))
+    (met GivenTwice) known in
+    let pairing : made.pairing < length t.pairings =
+    rw k.tables_are (place-below _ _ (pairings_in before) known) in
     let person : IfSome made.person (λ j. j < length t.persons) = rw k.tables_are (assignee-below (assign.is_nobody (assign.crew_in fields)) _ (assign.crew_in fields) (persons_in before)) in
     let free : list_any (is_assign_of made.pairing) assigns ≡ false = rw (k.assigns_are, h.place_is) h.free in
     record {
@@ -128,7 +149,8 @@ sound-assign count before fields contents k =
       room = k.sound.room;
       assigned = record {
         named = All-push (λ a. a.pairing < length t.pairings) assigns made are.named pairing;
-        assignees = All-push (λ a. IfSome a.person (λ j. j < length t.persons)) assigns made are.assignees person;
+        assignees =
+            All-push (λ a. IfSome a.person (λ j. j < length t.persons)) assigns made are.assignees person;
         once = paired_once assigns made are.once free;
       };
       sectors_are = k.sound.sectors_are;
@@ -142,7 +164,9 @@ pub sound-step : KeepsSound StepRecord
 unfolding code_of_kind
 sound-step count before fields contents k =
     let met = is_met (step.conditions before fields) k.met in
-    let n = has_room MOST_STEPS contents.steps (step_of before fields) (rw k.steps_are (below _ MOST_STEPS (met NoRoom))) in
+    let n =
+    has_room MOST_STEPS contents.steps (step_of before fields)
+    (rw k.steps_are (below _ MOST_STEPS (met NoRoom))) in
     record {
       sound = k.sound.sound;
       room = k.sound.room;

@@ -36,16 +36,25 @@ sound-person count before fields contents k =
     let made = person_of before fields in
     let met = is_met (crew.conditions before fields) k.met in
     let n = has_room MOST_PERSONS t.persons made (rw k.tables_are (below _ MOST_PERSONS (met NoRoom))) in
-    let home : made.base < length t.bases = rw k.tables_are (place-below _ _ (bases_in before) (met NotGiven)) in
+    let home : made.base < length t.bases =
+    rw k.tables_are (place-below _ _ (bases_in before) (met NotGiven)) in
     let homes = All-push (λ person. person.base < length t.bases) t.persons made s.homes home in
     let few_minutes : List ℕ → Bool = λ digits. is_amount MOST_MINUTES (number_of digits) in
-    let carried = and_parts (few_minutes (crew.target_in fields) && few_minutes (crew.year_in fields)) (few_minutes (crew.eleven_in fields)) (met OutOfLimits) in
-    let limited = (and_parts (few_minutes (crew.target_in fields)) (few_minutes (crew.year_in fields)) carried.0).0 in
-    let targets = All-push (λ person. person.target ≤ MOST_MINUTES) t.persons made s.targets (amount-below MOST_MINUTES (number_of (crew.target_in fields)) limited) in
-    let holders = holders_of_more (length t.pairings) (length (t.persons ++ made ∷ [])) t.duties (omega arith) (omega arith) s.holders in
+    let carried =
+    and_parts (few_minutes (crew.target_in fields) && few_minutes (crew.year_in fields))
+    (few_minutes (crew.eleven_in fields)) (met OutOfLimits) in
+    let limited =
+    (and_parts (few_minutes (crew.target_in fields)) (few_minutes (crew.year_in fields)) carried.0).0 in
+    let targets =
+    All-push (λ person. person.target ≤ MOST_MINUTES) t.persons made s.targets
+    (amount-below MOST_MINUTES (number_of (crew.target_in fields)) limited) in
+    let holders =
+    holders_of_more (length t.pairings) (length (t.persons ++ made ∷ [])) t.duties (omega arith)
+    (omega arith) s.holders in
     let absences = places_of_more (λ leave. leave.person) t.leaves t.persons made s.absences in
     let priced = places_of_more (λ cost. cost.person) t.costs t.persons made s.cost_persons in
-    sound-more k.sound (assumption (n.few, homes, targets, holders, absences, priced, s)) refl (assigned_of_more _ _ contents.assigns (omega arith) (omega arith) k.sound.assigned) (omega arith)
+    sound-more k.sound (assumption (n.few, homes, targets, holders, absences, priced, s)) refl
+    (assigned_of_more _ _ contents.assigns (omega arith) (omega arith) k.sound.assigned) (omega arith)
 
 pub sound-pairing : KeepsSound PairingRecord
 unfolding code_of_kind pairing_of
@@ -55,9 +64,15 @@ sound-pairing count before fields contents k =
     let made = pairing_of before fields in
     let met = is_met (pairing.conditions before fields) k.met in
     let n = has_room MOST_PAIRINGS t.pairings made (rw k.tables_are (below _ MOST_PAIRINGS (met NoRoom))) in
-    let start : made.base < length t.bases = rw k.tables_are (place-below _ _ (bases_in before) (met NotGiven)) in
-    let penalties = All-push (λ q. q.penalty ≤ MOST_PENALTY) t.pairings made s.penalties (amount-below MOST_PENALTY (number_of (pairing.penalty_in fields)) (met OutOfLimits)) in
+    let start : made.base < length t.bases =
+    rw k.tables_are (place-below _ _ (bases_in before) (met NotGiven)) in
+    let penalties =
+    All-push (λ q. q.penalty ≤ MOST_PENALTY) t.pairings made s.penalties
+    (amount-below MOST_PENALTY (number_of (pairing.penalty_in fields)) (met OutOfLimits)) in
     let starts = All-push (λ q. q.base < length t.bases) t.pairings made s.starts start in
-    let holders = holders_of_more (length (t.pairings ++ made ∷ [])) (length t.persons) t.duties (omega arith) (omega arith) s.holders in
+    let holders =
+    holders_of_more (length (t.pairings ++ made ∷ [])) (length t.persons) t.duties (omega arith)
+    (omega arith) s.holders in
     let priced = places_of_more (λ cost. cost.pairing) t.costs t.pairings made s.cost_pairings in
-    sound-more k.sound (assumption (n.few, penalties, starts, holders, priced, s)) refl (assigned_of_more _ _ contents.assigns (omega arith) (omega arith) k.sound.assigned) (omega arith)
+    sound-more k.sound (assumption (n.few, penalties, starts, holders, priced, s)) refl
+    (assigned_of_more _ _ contents.assigns (omega arith) (omega arith) k.sound.assigned) (omega arith)

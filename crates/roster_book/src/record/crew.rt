@@ -4,7 +4,8 @@ ghost use Rattle.std.specs.Prelude.{◌≡◌, ◌&&◌, List, Some, true, false
 ghost use Rattle.csv.specs.Records.{fields_of};
 ghost use Rattle.roster_model.specs.Record.{Record, Command, CrewRecord, amount_of};
 ghost use Rattle.roster_model.specs.Faults.{code_of_kind};
-ghost use Rattle.roster_model.specs.records.Crew.{id_in, target_in, year_in, eleven_in, is_formed, is_limited, person_of};
+ghost use Rattle.roster_model.specs.records.Crew.{id_in, target_in, year_in, eleven_in, is_formed};
+ghost use Rattle.roster_model.specs.records.Crew.{is_limited, person_of};
 ghost use Rattle.roster_book.specs.Draft.{IsDraftOf, Judges, contents_of};
 
 use crate::code::Code;

@@ -1,14 +1,16 @@
 //! `duty,ID,P,PAIRING,STATION,REPORT,RELEASE`: a duty of a pairing; with C and a person in place of P
 //! and the pairing, a duty that is fixed for the person.
 
-ghost use Rattle.std.specs.Prelude.{◌≡◌, ◌<◌, [], List, Some, true, false, IfOk, IfSome, IsOk, MatchOption, length, option_map};
+ghost use Rattle.std.specs.Prelude.{◌≡◌, ◌<◌, [], List, Some, true, false, IfOk, IfSome, IsOk, MatchOption};
+ghost use Rattle.std.specs.Prelude.{length, option_map};
 ghost use Rattle.csv.specs.Records.{fields_of};
 ghost use Rattle.roster_model.specs.Record.{Record, Command, DutyRecord, minute_of};
 ghost use Rattle.roster_model.specs.Code.{first_unmet};
 ghost use Rattle.roster_model.specs.Problem.{tables_in};
 ghost use Rattle.roster_model.specs.Busy.{is_busy};
 ghost use Rattle.roster_model.specs.Faults.{code_of_kind};
-ghost use Rattle.roster_model.specs.records.Duty.{id_in, station_in, report_in, release_in, is_formed, duty_of};
+ghost use Rattle.roster_model.specs.records.Duty.{id_in, station_in, report_in, release_in, is_formed};
+ghost use Rattle.roster_model.specs.records.Duty.{duty_of};
 ghost use Rattle.roster_model.specs.records.Duty as model;
 ghost use Rattle.roster_problem.specs.Sound.{IsHolder};
 ghost use Rattle.roster_problem.specs.View.{holder_of};

@@ -1,11 +1,13 @@
 //! `sector,DUTY,O,OFF,ON`: a flight within a duty.
 
-ghost use Rattle.std.specs.Prelude.{◌≡◌, ◌<◌, ℕ, List, Some, None, true, false, if◌then◌else◌, MatchOption, MatchResult, IfOk};
+ghost use Rattle.std.specs.Prelude.{◌≡◌, ◌<◌, ℕ, List, Some, None, true, false, if◌then◌else◌, MatchOption};
+ghost use Rattle.std.specs.Prelude.{MatchResult, IfOk};
 ghost use Rattle.csv.specs.Records.{fields_of};
 ghost use Rattle.roster_model.specs.declared.limits.TheConstants.{MOST_SECTORS};
 ghost use Rattle.roster_model.specs.Record.{Record, Command, SectorRecord, minute_of};
 ghost use Rattle.roster_model.specs.Faults.{code_of_kind, kind_in};
-ghost use Rattle.roster_model.specs.records.Sector.{is_formed, is_operated, is_positioning, letter_in, off_in, on_in, sector_of};
+ghost use Rattle.roster_model.specs.records.Sector.{is_formed, is_operated, is_positioning, letter_in};
+ghost use Rattle.roster_model.specs.records.Sector.{off_in, on_in, sector_of};
 ghost use Rattle.roster_book.specs.Draft.{IsDraftOf, Takes, contents_of};
 ghost use Rattle.roster_book.specs.Flown.{fits_at, sector_count};
 ghost use Rattle.roster_book.specs.View as view;

@@ -1,6 +1,7 @@
 //! `step,WORD,W` and `step,WORD,W,NUMBER`: what a worker does in a search that is replayed.
 
-ghost use Rattle.std.specs.Prelude.{◌≡◌, ◌&&◌, ◌||◌, not, ℕ, List, Some, None, unsigned_abs, if◌then◌else◌, option_map};
+ghost use Rattle.std.specs.Prelude.{◌≡◌, ◌&&◌, ◌||◌, not, ℕ, List, Some, None, unsigned_abs, if◌then◌else◌};
+ghost use Rattle.std.specs.Prelude.{option_map};
 ghost use Rattle.csv.specs.Records.{fields_of};
 ghost use Rattle.roster_model.specs.declared.limits.TheConstants as limits;
 ghost use Rattle.roster_model.specs.Form as form;

@@ -11,7 +11,8 @@ use Rattle.roster_model.specs.Rules.Limits.{KeepsLimit}
 use Rattle.roster_model.specs.Sums.{duty_between, flight_between, month_flight, on_day}
 
 -- some of the duties have no more minutes on a day
-on_day-filter : (measure : Duty → ℕ → ℕ → ℕ) (days : Days) (test : Duty → Bool) (list : List Duty) (i : ℕ) → on_day measure days (filter test list) i ≤ on_day measure days list i
+on_day-filter : (measure : Duty → ℕ → ℕ → ℕ) (days : Days) (test : Duty → Bool) (list : List Duty) (i : ℕ)
+    → on_day measure days (filter test list) i ≤ on_day measure days list i
 on_day-filter measure days test list i =
     let minutes = λ (duty : Duty). measure duty (get_or days.mid i 0) (get_or days.mid (i + 1) 0) in
     let both = sum_by-filter_both test (λ duty. not (test duty)) (λ duty. refl) minutes list in
@@ -19,11 +20,14 @@ on_day-filter measure days test list i =
 
 KeepsLimit-filter : (measure : Duty → ℕ → ℕ → ℕ) (days : Days) (test : Duty → Bool) (list : List Duty) (n most : ℕ) → KeepsLimit (on_day measure days list) days n most → KeepsLimit (on_day measure days (filter test list)) days n most
 KeepsLimit-filter measure days test list n most keeps =
-    KeepsLimit-lighter (on_day measure days (filter test list)) (on_day measure days list) (on_day-filter measure days test list) days n most keeps
+    KeepsLimit-lighter (on_day measure days (filter test list)) (on_day measure days list)
+    (on_day-filter measure days test list) days n most keeps
 
-month_flight-filter : (days : Days) (test : Duty → Bool) (list : List Duty) → month_flight days (filter test list) ≤ month_flight days list
+month_flight-filter : (days : Days) (test : Duty → Bool) (list : List Duty)
+    → month_flight days (filter test list) ≤ month_flight days list
 month_flight-filter days test list =
-    in_month-lighter (on_day flight_between days (filter test list)) (on_day flight_between days list) (on_day-filter flight_between days test list) days
+    in_month-lighter (on_day flight_between days (filter test list)) (on_day flight_between days list)
+    (on_day-filter flight_between days test list) days
 
 pub HoldsLimit-filter : (days : Days) (test : Duty → Bool) (list : List Duty) (year eleven : ℕ) (limit : Limit) → HoldsLimit days list year eleven limit → HoldsLimit days (filter test list) year eleven limit
 HoldsLimit-filter days test list year eleven Duty7 holds =

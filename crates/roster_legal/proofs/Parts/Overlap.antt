@@ -7,4 +7,5 @@ use Rattle.roster_model.specs.records.Duty.{Duty}
 use Rattle.roster_model.specs.Rules.Overlap.{NoOverlap}
 
 pub NoOverlap-filter : (test : Duty → Bool) (list : List Duty) → NoOverlap list → NoOverlap (filter test list)
-NoOverlap-filter test list apart = AllPairs-filter (λ a b. common a.report a.release b.report b.release ≡ 0) test list apart
+NoOverlap-filter test list apart =
+    AllPairs-filter (λ a b. common a.report a.release b.report b.release ≡ 0) test list apart

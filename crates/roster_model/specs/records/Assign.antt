@@ -51,7 +51,8 @@ assigned_by persons pairings assigns = map (assigned_number persons assigns) (ra
 
 -- the roster that the records give
 abbrev pub assigned_in : List Record → List ℕ
-assigned_in records = assigned_by (length (persons_in records)) (length (pairings_in records)) (assigns_in records)
+assigned_in records =
+    assigned_by (length (persons_in records)) (length (pairings_in records)) (assigns_in records)
 
 -- ---- what it has to meet
 

@@ -55,7 +55,8 @@ person_place records name = place_named (λ person. person.id) name (persons_in 
 
 -- the home base of the person at place k, of some bases and persons
 abbrev pub home_at : List Base → List Person → ℕ → Base
-home_at bases persons k = base_at bases (unwrap_or (option_map (λ person. person.base) (slice_get persons k)) 0)
+home_at bases persons k =
+    base_at bases (unwrap_or (option_map (λ person. person.base) (slice_get persons k)) 0)
 
 -- ---- what it has to meet
 
@@ -66,7 +67,8 @@ is_formed fields =
 
 abbrev pub is_limited : Record → Bool
 is_limited fields =
-    is_amount MOST_MINUTES (number_of (target_in fields)) && is_amount MOST_MINUTES (number_of (year_in fields))
+    is_amount MOST_MINUTES (number_of (target_in fields)) && is_amount MOST_MINUTES
+    (number_of (year_in fields))
     && is_amount MOST_MINUTES (number_of (eleven_in fields))
 
 abbrev pub conditions : List Record → Record → List (Code × Bool)

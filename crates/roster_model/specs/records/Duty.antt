@@ -113,7 +113,8 @@ is_formed fields =
 -- the base by whose clocks a duty of the pairing at place p is judged
 abbrev pub base_of_pairing : List Record → ℕ → Base
 base_of_pairing before p =
-    base_at (bases_in before) (unwrap_or (option_map (λ pairing. pairing.base) (slice_get (pairings_in before) p)) 0)
+    base_at (bases_in before)
+    (unwrap_or (option_map (λ pairing. pairing.base) (slice_get (pairings_in before) p)) 0)
 
 -- it is released after it reports, no earlier than the last duty was released
 abbrev pub is_in_sequence : Option Duty → ℕ → ℕ → Bool
@@ -149,7 +150,8 @@ conditions_of_person is_busy before k report release =
     ∷ []
 
 -- the same as the duty of a holder that was given before, or of none
-abbrev pub conditions_held : (ℕ → ℕ → ℕ → Bool) → List Record → Option Holder → List ℕ → ℕ → ℕ → List (Code × Bool)
+abbrev pub conditions_held : (ℕ → ℕ → ℕ → Bool) → List Record → Option Holder → List ℕ → ℕ → ℕ
+    → List (Code × Bool)
 conditions_held is_busy before None station report release = (NotGiven, false) ∷ []
 conditions_held is_busy before (Some (OfPairing p)) station report release =
     conditions_of_pairing before p station report release

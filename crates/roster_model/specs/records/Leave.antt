@@ -45,7 +45,8 @@ leaves_in records = entries_of LeaveRecord leave_of records
 
 abbrev pub is_formed : Record → Bool
 is_formed fields =
-    is_identifier (crew_in fields) && is_some (instant_of (from_in fields)) && is_some (instant_of (to_in fields))
+    is_identifier (crew_in fields) && is_some (instant_of (from_in fields)) && is_some
+    (instant_of (to_in fields))
 
 -- what it has to meet besides, as a leave of a person who was given before, or of none; `is_busy`
 -- tells whether a person is busy in a minute between two instants, by the records before

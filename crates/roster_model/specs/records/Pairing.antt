@@ -45,7 +45,8 @@ pairing_place records name = place_named (λ pairing. pairing.id) name (pairings
 -- ---- what it has to meet
 
 abbrev pub is_formed : Record → Bool
-is_formed fields = is_identifier (id_in fields) && is_identifier (base_in fields) && is_number (penalty_in fields)
+is_formed fields =
+    is_identifier (id_in fields) && is_identifier (base_in fields) && is_number (penalty_in fields)
 
 abbrev pub conditions : List Record → Record → List (Code × Bool)
 conditions before fields =

@@ -15,7 +15,9 @@ period_in records = month_in (unwrap_or (slice_get records 0) [])
 
 -- what a record of a period has to meet by itself
 abbrev pub own_conditions : Record → List (Code × Bool)
-own_conditions fields = (FieldCount, length fields == 2) ∷ (FieldForm, is_some (period_of (field fields 1))) ∷ []
+own_conditions fields =
+    (FieldCount, length fields == 2) ∷ (FieldForm, is_some (period_of (field fields 1))) ∷ []
 
 abbrev pub conditions : List Record → Record → List (Code × Bool)
-conditions before fields = own_conditions fields ++ (GivenTwice, not (list_any (is_of PeriodRecord) before)) ∷ []
+conditions before fields =
+    own_conditions fields ++ (GivenTwice, not (list_any (is_of PeriodRecord) before)) ∷ []

@@ -15,7 +15,8 @@ pub record IsShared (k : ℕ) (duty : Duty) (leave : Leave) (told : ℕ) : Type 
 
 -- The duty, which is at place i of a list, shares minutes with the leave that is told, and with no leave of
 -- person k before it.
-pub record IsFirstLeaveOf (leaves : List Leave) (k : ℕ) (duty : Duty) (i : ℕ) (told : DutyInLeave) : Type 0 where
+pub record IsFirstLeaveOf (leaves : List Leave) (k : ℕ) (duty : Duty) (i : ℕ)
+    (told : DutyInLeave) : Type 0 where
   pub place : told.duty ≡ i
   pub leave : Leave
   pub at_leave : slice_get leaves told.leave ≡ Some leave
@@ -25,7 +26,8 @@ pub record IsFirstLeaveOf (leaves : List Leave) (k : ℕ) (duty : Duty) (i : ℕ
       → common duty.report duty.release other.from other.to ≡ 0
 
 -- It is a duty of the list, and those before it share no minute with a leave of person k.
-pub record IsFirstDutyInLeave (problem : Problem) (k : ℕ) (list : List Duty) (told : DutyInLeave) : Type 0 where
+pub record IsFirstDutyInLeave (problem : Problem) (k : ℕ) (list : List Duty)
+    (told : DutyInLeave) : Type 0 where
   pub duty : Duty
   pub at_duty : slice_get list told.duty ≡ Some duty
   pub in_leave : IsFirstLeaveOf problem.leaves k duty told.duty told

@@ -9,15 +9,18 @@ pub returns-then-is_name-clause-value : goal.returns-then-is_name-clause-value
 returns-then-is_name-clause-value g c =
     let entries = c.args.entries.now in
     let x = c.index-entries-place.result in
-    let within : c.loop-place.place < length entries = rw (keys_count g.T.Named.id_of c.args.keys.now entries c.requires) at c.loop-place-test.true in
+    let within : c.loop-place.place < length entries =
+    rw (keys_count g.T.Named.id_of c.args.keys.now entries c.requires) at c.loop-place-test.true in
     let named = sym (rw c.name.ensures at c.is_name.ensures) ∙ c.if-is_name.true in
-    let here = ap (λ y. bytes_eq (g.T.Named.id_of y) c.args.name.now) (sym c.index-entries-place.is) ∙ named in
+    let here =
+    ap (λ y. bytes_eq (g.T.Named.id_of y) c.args.name.now) (sym c.index-entries-place.is) ∙ named in
     sym (first_named g.T.Named.id_of c.args.name.now entries c.loop-place.place x within (λ k l. c.loop-place.invariant k x l) here)
 
 pub loop-place-preserved : goal.loop-place-preserved
 loop-place-preserved g c =
     let entries = c.args.entries.now in
-    let within : c.loop-place.place < length entries = rw (keys_count g.T.Named.id_of c.args.keys.now entries c.requires) at c.loop-place-test.true in
+    let within : c.loop-place.place < length entries =
+    rw (keys_count g.T.Named.id_of c.args.keys.now entries c.requires) at c.loop-place-test.true in
     let named : g.row.T.Denot → Bool = λ x. bytes_eq (g.T.Named.id_of x) c.args.name.now in
     elim c.else-keys-place.branch [
       | else-keys-place-via-then-keys-place+else-is_name w ↦

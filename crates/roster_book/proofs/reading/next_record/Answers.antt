@@ -12,11 +12,14 @@ use Rattle.roster_book.proofs.reading.next_record.Goals as goal
 
 -- what csv says of a read at a reader that takes each record as it is
 abbrev Reads : {R : Type 0} → (R → Option (List ℕ)) → Reader R → Reader R → List (List ℕ) → Bool → Type 0
-Reads remaining old new fields found = reader_trim old ≡ trim.None → Ready old → ReadRecord remaining old new found fields
+Reads remaining old new fields found =
+    reader_trim old ≡ trim.None → Ready old → ReadRecord remaining old new found fields
 
-found-record : {R : Type 0} (remaining : R → Option (List ℕ)) (old new : Reader R) (fields : List (List ℕ)) (r : Result Bool Error)
+found-record : {R : Type 0} (remaining : R → Option (List ℕ)) (old new : Reader R) (fields : List (List ℕ))
+    (r : Result Bool Error)
     → IsOpen old → IfOk r (Reads remaining old new fields) → OnOk r (has_failed new ≡ has_failed old)
-    → OnOk r (is_flexible new ≡ is_flexible old) → (reader_trim old ≡ trim.None → OnOk r (took_first new ≡ true))
+    → OnOk r (is_flexible new ≡ is_flexible old)
+    → (reader_trim old ≡ trim.None → OnOk r (took_first new ≡ true))
     → IfOk r (λ found. found ≡ true → IsOpen new × AreSeen (records_left remaining old) (fields ∷ []) (records_left remaining new))
 found-record remaining old new fields (Ok true) is_open reads goes flexible first = λ found.
     let read = reads is_open.trim is_open.ready in (
@@ -27,13 +30,15 @@ found-record remaining old new fields (Ok true) is_open reads goes flexible firs
         flexible = flexible ∙ is_open.flexible;
         working = goes ∙ is_open.working;
       },
-      found-left (reader_state old) (reader_state new) (source_of remaining old) (source_of remaining new) fields
+      found-left (reader_state old) (reader_state new) (source_of remaining old)
+          (source_of remaining new) fields
           (rw read.1 (rw is_open.config at read.0)),
     )
 found-record remaining old new fields (Ok false) is_open reads goes flexible first = λ found. cc found
 found-record remaining old new fields (Err e) is_open reads goes flexible first = tt
 
-no-record : {R : Type 0} (remaining : R → Option (List ℕ)) (old new : Reader R) (fields : List (List ℕ)) (r : Result Bool Error)
+no-record : {R : Type 0} (remaining : R → Option (List ℕ)) (old new : Reader R) (fields : List (List ℕ))
+    (r : Result Bool Error)
     → IsOpen old → IfOk r (Reads remaining old new fields)
     → IfOk r (λ found. found ≡ false → IfSome (records_left remaining old) (λ left. left ≡ []))
 no-record remaining old new fields (Ok true) is_open reads = λ found. cc found

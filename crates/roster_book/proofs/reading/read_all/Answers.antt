@@ -16,7 +16,9 @@ use Rattle.roster_book.proofs.reading.read_all.Goals as goal
 pub returns-then-not-branch-clause-told : goal.returns-then-not-branch-clause-told
 returns-then-not-branch-clause-told g c =
     let command = command_of c.args.command in
-    seen-all _ _ [] (λ all. TellsFirst command all c.at.result) (seen-none (records_left g.R.Read.remaining c.args.reader.now)) (c.in_ok-next_record.ensures.end c.if-not-branch.true)
+    seen-all _ _ [] (λ all. TellsFirst command all c.at.result)
+    (seen-none (records_left g.R.Read.remaining c.args.reader.now))
+    (c.in_ok-next_record.ensures.end c.if-not-branch.true)
     (rw c.at.ensures (first_fault-of-none command))
 
 pub returns-in-Err-clause-told : goal.returns-in-Err-clause-told
@@ -24,14 +26,17 @@ returns-in-Err-clause-told g c =
     let command = command_of c.args.command in
     let fields = fields_of c.next_record.new.fields in
     let next = c.in_ok-next_record.ensures.record c.if-not-branch.false in
-    seen-next _ _ _ [] fields (λ all. TellsFirst command all c.at-in-Err.result) (seen-none (records_left g.R.Read.remaining c.args.reader.now)) next.1
+    seen-next _ _ _ [] fields (λ all. TellsFirst command all c.at-in-Err.result)
+    (seen-none (records_left g.R.Read.remaining c.args.reader.now)) next.1
     (λ last. refused-first command 1 [] fields last (refusals.Fault c.in-Err.code) c.at-in-Err.result (omega arith) tt c.in-Err.ensures c.at-in-Err.ensures)
 
 -- ---- the end of the records
 
 pub finish-requires : goal.finish-requires
 finish-requires g c = record {
-  records = HasRecords-draft (command_of c.args.command) c.loop-row.row c.loop-row.invariant.0 (contents_of c.loop-row.draft) c.loop-row.invariant.1.draft;
+  records =
+      HasRecords-draft (command_of c.args.command) c.loop-row.row c.loop-row.invariant.0
+      (contents_of c.loop-row.draft) c.loop-row.invariant.1.draft;
 }
 
 pub returns-then-not-branch-2-clause-told : goal.returns-then-not-branch-2-clause-told
@@ -47,7 +52,9 @@ returns-then-not-branch-2-clause-told g c =
 
 pub take-requires : goal.take-requires
 take-requires g c = record {
-  records = HasRecords-draft (command_of c.args.command) c.loop-row.row c.loop-row.invariant.0 (contents_of c.loop-row.draft) c.loop-row.invariant.1.draft;
+  records =
+      HasRecords-draft (command_of c.args.command) c.loop-row.row c.loop-row.invariant.0
+      (contents_of c.loop-row.draft) c.loop-row.invariant.1.draft;
 }
 
 pub returns-in-Err-take-clause-told : goal.returns-in-Err-take-clause-told
@@ -62,7 +69,8 @@ returns-in-Err-take-clause-told g c =
 
 pub returns-in_err-next_record-2-clause-told : goal.returns-in_err-next_record-2-clause-told
 returns-in_err-next_record-2-clause-told g c =
-    memory-told (command_of c.args.command) (records_left g.R.Read.remaining c.args.reader.now) _ c.from_residual-in_err-next_record-2.ensures.1
+    memory-told (command_of c.args.command)
+    (records_left g.R.Read.remaining c.args.reader.now) _ c.from_residual-in_err-next_record-2.ensures.1
 
 -- ---- the loop
 

@@ -9,6 +9,7 @@ use Rattle.roster_book.proofs.reading.read_all.Given as goal
 abbrev pub invariant-loop-row : goal.invariant-loop-row
 invariant-loop-row g l = (seen : List Record) × record {
   is_open : IsOpen l.reader;
-  follows : AreSeen (records_left g.R.Read.remaining l.fn.reader) seen (records_left g.R.Read.remaining l.reader);
+  follows : AreSeen (records_left g.R.Read.remaining l.fn.reader) seen
+      (records_left g.R.Read.remaining l.reader);
   draft : IsDraftOf (command_of l.fn.command) l.row seen (contents_of l.draft);
 }

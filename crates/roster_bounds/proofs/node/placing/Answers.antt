@@ -9,7 +9,8 @@ use Rattle.roster_bounds.proofs.Placing.{placing_next}
 use Rattle.roster_bounds.proofs.node.placing.Goals as goal
 
 -- whether the next line has the pairing decides
-next : (table : List (List Entry)) (lines set : List ℕ) (k p : ℕ) (has : Bool) → k < length lines → slice_get (sets_of (lines_at table k)) (get_or lines k 0) ≡ Some set → has ≡ is_among set p
+next : (table : List (List Entry)) (lines set : List ℕ) (k p : ℕ) (has : Bool) → k < length lines
+    → slice_get (sets_of (lines_at table k)) (get_or lines k 0) ≡ Some set → has ≡ is_among set p
     → placing_person table k (drop k lines) p ≡ cond has k (placing_person table (k + 1) (drop (k + 1) lines) p)
 next table lines set k p has inside found told =
     let here = line_set-at table k (get_or lines k 0) set found in

@@ -15,7 +15,8 @@ reduced_by-requires-clause-sum c =
     let problem = c.args.problem.now in
     let i = c.loop-i.i in
     let sums = c.in_ok-sums.sums.items in
-    let inside : i < length (lines_at c.args.table.now c.args.k) = omega (arith, c.loop-i-test.true, c.width-i-end.ensures) in
+    let inside : i < length (lines_at c.args.table.now c.args.k) =
+    omega (arith, c.loop-i-test.true, c.width-i-end.ensures) in
     let line = line_is problem c.args.table.now c.args.k i c.requires.priced.lines c.requires.person inside in
     let read : c.index.result.now ≡ get_or sums i (pos 0) = c.index.ensures ∙ get_or_default sums i c.index.result.now (pos 0) (omega (arith, inside, c.in_ok-sums.ensures.covers)) in
     let told = read ∙ c.in_ok-sums.ensures.each i inside in
@@ -34,8 +35,11 @@ loop-i-preserved c =
         | inl before ↦ let low = c.loop-i.invariant.below j set before at in omega (arith, ints, first, low)
         | inr on ↦
             let here : j ≡ c.loop-i.i = omega arith in
-            let same = ap (line_set c.args.table.now c.args.k) (sym here) ∙ line_set-at c.args.table.now c.args.k j set at in
-            subst (λ (z : ℤ). c.lesser-least.result ≤ℤ z) (c.reduced_by.ensures.value ∙ ap (reduced_cost c.args.problem.now price c.args.k) same) second
+            let same =
+            ap (line_set c.args.table.now c.args.k) (sym here)
+            ∙ line_set-at c.args.table.now c.args.k j set at in
+            subst (λ (z : ℤ). c.lesser-least.result ≤ℤ z)
+            (c.reduced_by.ensures.value ∙ ap (reduced_cost c.args.problem.now price c.args.k) same) second
       ]);
       bound = subst (AreReduced 1) (sym back) (elim c.lesser-least.ensures.one [
         | inl is ↦ subst (AreReduced 1) (sym is) c.loop-i.invariant.bound

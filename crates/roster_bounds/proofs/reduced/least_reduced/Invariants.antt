@@ -10,6 +10,7 @@ use Rattle.roster_bounds.proofs.reduced.least_reduced.Given as goal
 -- no line so far has a lower reduced cost
 abbrev pub invariant-loop-i : goal.invariant-loop-i
 invariant-loop-i l = record {
-  below : (j : ℕ) (set : List ℕ) → j < l.i → slice_get (sets_of (lines_at l.table l.k)) j ≡ Some set → l.least ≤ℤ reduced_cost l.problem (price_at l.prices) l.k set;
+  below : (j : ℕ) (set : List ℕ) → j < l.i → slice_get (sets_of (lines_at l.table l.k)) j ≡ Some set
+      → l.least ≤ℤ reduced_cost l.problem (price_at l.prices) l.k set;
   bound : AreReduced 1 l.least;
 }

@@ -17,7 +17,8 @@ sum-requires c =
     let k = c.args.k in
     let line = line_is c.args.problem.now table k c.args.i c.requires.priced.lines c.requires.person c.requires.line in
     let here = line_set-at table k c.args.i c.set.result c.set.ensures in
-    subst (λ n. All (λ p. p < n) c.set.result) (sym c.requires.priced.covers) (subst (All (λ p. p < length c.args.problem.now.pairings)) here line.places)
+    subst (λ n. All (λ p. p < n) c.set.result) (sym c.requires.priced.covers)
+    (subst (All (λ p. p < length c.args.problem.now.pairings)) here line.places)
 
 pub returns-then-i-eq0 : goal.returns-then-i-eq0
 returns-then-i-eq0 c =
@@ -28,7 +29,8 @@ returns-then-i-eq0 c =
 more : (c : goal.After-at) → line_set c.args.table.now c.args.k c.args.i ≡ longer (lines_at c.args.table.now c.args.k) c.parent_and_last-parent.result.0 c.parent_and_last-parent.result.1
 more c =
     let lines = c.lines.ensures in
-    ap (λ entries. set_at entries c.args.i) (sym lines) ∙ c.parent_and_last-parent.ensures.set ∙ ap (λ entries. longer entries c.parent_and_last-parent.result.0 c.parent_and_last-parent.result.1) lines
+    ap (λ entries. set_at entries c.args.i) (sym lines) ∙ c.parent_and_last-parent.ensures.set
+    ∙ ap (λ entries. longer entries c.parent_and_last-parent.result.0 c.parent_and_last-parent.result.1) lines
 
 pub at-requires : goal.at-requires
 at-requires c =
@@ -37,17 +39,22 @@ at-requires c =
     let last = c.parent_and_last-parent.result.1 in
     let line = line_is c.args.problem.now c.args.table.now c.args.k c.args.i c.requires.priced.lines c.requires.person c.requires.line in
     let here = ap (λ entries. set_at entries c.args.i) (sym lines) ∙ c.parent_and_last-parent.ensures.set in
-    let place = last_within (set_at c.lines.result.now parent) (line_set c.args.table.now c.args.k c.args.i) last (length c.args.problem.now.pairings) here line.places in
+    let place =
+    last_within (set_at c.lines.result.now parent) (line_set c.args.table.now c.args.k c.args.i) last
+    (length c.args.problem.now.pairings) here line.places in
     omega (arith, place, c.requires.priced.covers)
 
 before : (c : goal.After-at) → get_or c.args.sums.now c.parent_and_last-parent.result.0 (pos 0) ≡ total (price_at c.args.prices.now) (line_set c.args.table.now c.args.k c.parent_and_last-parent.result.0)
 before c = c.requires.sums.each c.parent_and_last-parent.result.0 c.parent_and_last-parent.ensures.earlier
 
-before_within : (c : goal.After-at) → IsWithin most_prices (get_or c.args.sums.now c.parent_and_last-parent.result.0 (pos 0))
+before_within : (c : goal.After-at)
+    → IsWithin most_prices (get_or c.args.sums.now c.parent_and_last-parent.result.0 (pos 0))
 before_within c =
     let parent = c.parent_and_last-parent.result.0 in
     let earlier = c.parent_and_last-parent.ensures.earlier in
-    let line = line_is c.args.problem.now c.args.table.now c.args.k parent c.requires.priced.lines c.requires.person (omega (arith, earlier, c.requires.line)) in
+    let line =
+    line_is c.args.problem.now c.args.table.now c.args.k parent c.requires.priced.lines c.requires.person
+    (omega (arith, earlier, c.requires.line)) in
     subst (IsWithin most_prices) (sym (before c)) (prices_of_line c.args.problem.now c.args.prices.now c.args.k _ c.pairings.ensures.sound c.len.ensures.within line)
 
 pub overflow_add-result : goal.overflow_add-result

@@ -12,7 +12,8 @@ sum-requires c =
     let k = c.args.k in
     let line = line_is c.args.problem.now table k c.args.i c.requires.priced.lines c.requires.person c.requires.line in
     let here = line_set-at table k c.args.i c.set.result c.set.ensures in
-    subst (λ n. All (λ p. p < n) c.set.result) (sym c.requires.priced.covers) (subst (All (λ p. p < length c.args.problem.now.pairings)) here line.places)
+    subst (λ n. All (λ p. p < n) c.set.result) (sym c.requires.priced.covers)
+    (subst (All (λ p. p < length c.args.problem.now.pairings)) here line.places)
 
 pub reduced_by-requires-clause-sum : goal.reduced_by-requires-clause-sum
 reduced_by-requires-clause-sum c =
@@ -21,5 +22,7 @@ reduced_by-requires-clause-sum c =
 pub returns : goal.returns
 returns c = record {
   value = same_word128 c.reduced_by.result c.reduced_by.type_inv ∙ c.reduced_by.ensures.value;
-  bound = subst (AreReduced 1) (sym (same_word128 c.reduced_by.result c.reduced_by.type_inv)) c.reduced_by.ensures.bound;
+  bound =
+      subst (AreReduced 1)
+      (sym (same_word128 c.reduced_by.result c.reduced_by.type_inv)) c.reduced_by.ensures.bound;
 }

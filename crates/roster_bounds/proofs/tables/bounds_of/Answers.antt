@@ -8,7 +8,9 @@ use Rattle.roster_bounds.proofs.PricedLines.{same_reduced}
 use Rattle.roster_bounds.proofs.tables.bounds_of.Goals as goal
 
 -- the bounds of the persons so far, and that of one more
-one_more : (problem : Problem) (prices : List ℤ) (k : ℕ) (old : List ℤ) (bound : ℤ) → AreReducedBounds problem prices k old → IsReducedBound problem prices k bound → AreReduced 1 bound → AreReducedBounds problem prices (k + 1) (old ++ bound ∷ [])
+one_more : (problem : Problem) (prices : List ℤ) (k : ℕ) (old : List ℤ) (bound : ℤ)
+    → AreReducedBounds problem prices k old → IsReducedBound problem prices k bound → AreReduced 1 bound
+    → AreReducedBounds problem prices (k + 1) (old ++ bound ∷ [])
 one_more problem prices k old bound are below fits =
     let new : List ℤ = old ++ bound ∷ [] in
     let last : get_or new k (pos 0) ≡ bound = get_or_push old bound (pos 0) k are.covers in

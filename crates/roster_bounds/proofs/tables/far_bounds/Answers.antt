@@ -7,7 +7,9 @@ use Rattle.roster_bounds.proofs.PricedLines.{same_reduced}
 use Rattle.roster_bounds.proofs.tables.far_bounds.Goals as goal
 
 -- one bound for every person
-one_for_all : (problem : Problem) (prices : List ℤ) (count : ℕ) (bound : ℤ) → ((k : ℕ) → IsReducedBound problem prices k bound) → AreReduced 1 bound → AreReducedBounds problem prices count (replicate count bound)
+one_for_all : (problem : Problem) (prices : List ℤ) (count : ℕ) (bound : ℤ)
+    → ((k : ℕ) → IsReducedBound problem prices k bound) → AreReduced 1 bound
+    → AreReducedBounds problem prices count (replicate count bound)
 one_for_all problem prices count bound below fits = record {
   covers = length-replicate count bound;
   each = λ k less. subst (IsReducedBound problem prices k) (sym (get_or-replicate count k bound (pos 0) less)) (below k);

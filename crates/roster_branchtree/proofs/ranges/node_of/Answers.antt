@@ -16,8 +16,12 @@ pub returns-then-i-width : goal.returns-then-i-width
 returns-then-i-width c places legal has =
     let k = c.loop-k.k in
     let path = c.args.path.now in
-    let within = number_within c.args.tables.now.table path places k (get_or path k 0) has (slice_get-get_or path k 0 c.loop-k-test.true) in
-    let width = c.width.ensures ∙ ap (λ (table : List (List Entry)). length (lines_at table k)) c.table-table.ensures.value in
+    let within =
+    number_within c.args.tables.now.table path places k (get_or path k 0) has
+    (slice_get-get_or path k 0 c.loop-k-test.true) in
+    let width =
+    c.width.ensures
+    ∙ ap (λ (table : List (List Entry)). length (lines_at table k)) c.table-table.ensures.value in
     omega (arith, within, width, c.if-i-width.true)
 
 pub returns-in-None : goal.returns-in-None
@@ -27,19 +31,25 @@ returns-in-None c places legal has =
     let node = c.loop-k.node in
     let table = c.args.tables.now.table in
     let i : ℕ = get_or path k 0 in
-    let meets : Type 0 = Meets node.tables.table node.lines (line_set node.tables.table (length node.lines) i) in
+    let meets : Type 0 =
+    Meets node.tables.table node.lines (line_set node.tables.table (length node.lines) i) in
     let given : meets = subst (λ (o : Option ChosenLines). MatchOption o meets (λ next. (next ≡ one_line_more node i) × (meets → ⊥))) c.in-None.is c.in_ok-next.ensures in
     let front : length (take k path) ≡ k = length-take-le k path (omega (arith, c.loop-k-test.true)) in
     let tables = subst (λ (t : PricedTable). Meets t.table node.lines (line_set t.table (length node.lines) i)) c.loop-k.invariant.tables given in
-    let lines = subst (λ (xs : List ℕ). Meets table xs (line_set table (length xs) i)) c.loop-k.invariant.lines tables in
-    meets_none table path places k has c.loop-k-test.true (subst (λ n. Meets table (take k path) (line_set table n i)) front lines)
+    let lines =
+    subst
+    (λ (xs : List ℕ). Meets table xs (line_set table (length xs) i)) c.loop-k.invariant.lines tables in
+    meets_none table path places k has c.loop-k-test.true
+    (subst (λ n. Meets table (take k path) (line_set table n i)) front lines)
 
 -- the node with the next line
-more : (c : goal.After-drop-node-inside-in-Some) → c.in-Some.next ≡ one_line_more c.loop-k.node (get_or c.args.path.now c.loop-k.k 0)
+more : (c : goal.After-drop-node-inside-in-Some)
+    → c.in-Some.next ≡ one_line_more c.loop-k.node (get_or c.args.path.now c.loop-k.k 0)
 more c =
     let node = c.loop-k.node in
     let i : ℕ = get_or c.args.path.now c.loop-k.k 0 in
-    let meets : Type 0 = Meets node.tables.table node.lines (line_set node.tables.table (length node.lines) i) in
+    let meets : Type 0 =
+    Meets node.tables.table node.lines (line_set node.tables.table (length node.lines) i) in
     let given : (c.in-Some.next ≡ one_line_more node i) × (meets → ⊥) = subst (λ (o : Option ChosenLines). MatchOption o meets (λ next. (next ≡ one_line_more node i) × (meets → ⊥))) c.in-Some.is c.in_ok-next.ensures in
     given.0
 
@@ -48,15 +58,20 @@ loop-k-preserved c =
     let k = c.loop-k.k in
     let path = c.args.path.now in
     let table = c.args.tables.now.table in
-    let width = c.width.ensures ∙ ap (λ (t : List (List Entry)). length (lines_at t k)) c.table-table.ensures.value in
+    let width =
+    c.width.ensures ∙ ap (λ (t : List (List Entry)). length (lines_at t k)) c.table-table.ensures.value in
     record {
       tables = ap (λ (n : ChosenLines). n.tables) (more c) ∙ c.loop-k.invariant.tables;
-      lines = ap (λ (n : ChosenLines). n.lines) (more c) ∙ ap (λ (xs : List ℕ). xs ++ get_or path k 0 ∷ []) c.loop-k.invariant.lines ∙ sym (take_more path k 0 c.loop-k-test.true);
+      lines =
+          ap (λ (n : ChosenLines). n.lines) (more c)
+          ∙ ap (λ (xs : List ℕ). xs ++ get_or path k 0 ∷ []) c.loop-k.invariant.lines
+          ∙ sym (take_more path k 0 c.loop-k-test.true);
       numbers = λ j h less at. elim (cases_lt j k) [
         | inl before ↦ c.loop-k.invariant.numbers j h before at
         | inr on ↦
             let here : k ≡ j = omega arith in
-            let number : get_or path k 0 ≡ h = ap (λ n. get_or path n 0) here ∙ get_or_from_slice_get path j h 0 at in
+            let number : get_or path k 0 ≡ h =
+            ap (λ n. get_or path n 0) here ∙ get_or_from_slice_get path j h 0 at in
             subst (λ n. h < length (lines_at table n)) here (omega (arith, number, width, c.if-i-width.false))
       ];
     }

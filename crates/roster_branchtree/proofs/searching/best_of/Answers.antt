@@ -22,6 +22,9 @@ returns g c =
     let second : KeepsWatch mid now = c.in_ok-found.ensures.goes_on in
     let held = c.deref-2.ensures ∙ c.in_ok-held.ensures in
     let inside = subst (λ (key : Key). Settles problem region region (Some key) (unwrap_or c.in_ok-found.found key)) held c.in_ok-found.ensures.settled in
-    let settled = Settles-wider problem region region (λ places. every ≡ 0 → region places) (Some mid.best) (unwrap_or c.in_ok-found.found mid.best) inside (λ places legal own _. own) in
+    let settled =
+    Settles-wider problem region region (λ places. every ≡ 0 → region places) (Some mid.best)
+    (unwrap_or c.in_ok-found.found mid.best) inside (λ places legal own _. own) in
     let one = subst (λ (key : Key). MatchOption c.in_ok-found.found (arc_value c.in_ok-best.best ≡ key) (λ roster. IsEarlierOf roster key (arc_value c.in_ok-best.best))) c.in_ok-seen.ensures c.in_ok-best.ensures in
-    found_settles problem region every known mid now c.in_ok-found.found (arc_value c.in_ok-best.best) c.requires.known first second settled one
+    found_settles problem region every known mid now c.in_ok-found.found
+    (arc_value c.in_ok-best.best) c.requires.known first second settled one

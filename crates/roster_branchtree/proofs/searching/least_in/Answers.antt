@@ -13,4 +13,6 @@ returns-clause-settled g c =
     let span = c.args.span.now in
     let found = unwrap_or c.in_ok-found.found best in
     let settled = subst (λ (ranges : List (ℕ × ℕ)). Settles c.args.problem.now (IsInRanges table ranges) (IsInRanges table ranges) (Some best) found) c.deref.ensures.value c.in_ok-found.ensures.settled in
-    settles_in_span c.args.problem.now table span c.in_ok-ranges.ranges.items (IsInSpan table span) best found c.requires.table c.requires.person c.in_ok-ranges.ensures (λ places inside. inside) settled
+    settles_in_span c.args.problem.now table span c.in_ok-ranges.ranges.items
+    (IsInSpan table span) best found c.requires.table c.requires.person c.in_ok-ranges.ensures
+    (λ places inside. inside) settled

@@ -6,7 +6,8 @@ abbrev pub invariant-loop-taken : goal.invariant-loop-taken
 invariant-loop-taken g l = record {
   within : l.taken ≤ length l.text;
   going : l.errors.failed ≡ false;
-  so_far : Appends (g.E.Write.contents l.fn.errors.inner) (g.E.Write.contents l.errors.inner) (take l.taken l.text);
+  so_far : Appends (g.E.Write.contents l.fn.errors.inner) (g.E.Write.contents l.errors.inner)
+      (take l.taken l.text);
 }
 
 abbrev pub decreases-loop-taken : goal.decreases-loop-taken

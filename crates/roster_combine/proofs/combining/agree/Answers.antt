@@ -19,7 +19,9 @@ returns c =
     let workers = c.are_workers.ensures.0 c.if-not-are_workers.false in (
       λ yes. record {
         covers = sym c.widths.ensures ∙ same;
-        workers = subst (λ (n : ℕ). Within n c.args.closed.now.finished) (sym (length-map c.args.lists.now items)) (subst (λ fs. Within (length c.args.lists.now) fs) finished workers);
+        workers =
+            subst (λ (n : ℕ). Within n c.args.closed.now.finished) (sym (length-map c.args.lists.now items))
+            (subst (λ fs. Within (length c.args.lists.now) fs) finished workers);
         spans = λ worker within. c.are_lists_of.ensures.0 yes worker (omega (arith, within, length-map c.args.lists.now items)) ∙ ap (spans_by worker) finished;
       },
       λ all. c.are_lists_of.ensures.1 (λ worker within. all.spans worker (omega (arith, within, length-map c.args.lists.now items)) ∙ ap (spans_by worker) (sym finished)),

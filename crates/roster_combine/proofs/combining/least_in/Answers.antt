@@ -10,7 +10,8 @@ pub loop-k-preserved : goal.loop-k-preserved
 loop-k-preserved c =
     let parts = c.args.list.now in
     let earlier = c.in_ok-best.ensures in
-    least-more parts c.loop-k.k c.index-list-k.result (arc_value c.args.known) (arc_value c.loop-k.best) (arc_value c.in_ok-best.best) c.loop-k.invariant
+    least-more parts c.loop-k.k c.index-list-k.result (arc_value c.args.known) (arc_value c.loop-k.best)
+    (arc_value c.in_ok-best.best) c.loop-k.invariant
     (slice_get_read parts (length parts) c.loop-k.k c.index-list-k.result refl c.loop-k-test.true c.index-list-k.is)
     earlier.second earlier.first
     (λ problem mid first. elim earlier.one [

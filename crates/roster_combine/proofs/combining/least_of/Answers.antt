@@ -14,6 +14,8 @@ loop-k-preserved c =
     let mid = arc_value c.loop-k.best in
     let new = arc_value c.in_ok-best.best in
     let same : c.deref.result.now ≡ get_or (map items lists) k [] =
-    c.deref.ensures.value ∙ ap items c.index-lists-k.is ∙ sym (get_or-map items lists k c.index-lists-k.result [] c.loop-k-test.true) in
-    least_of_all-more (map items lists) k (arc_value c.args.known) mid new (omega (arith, c.loop-k-test.true, length-map lists items)) c.loop-k.invariant
+    c.deref.ensures.value ∙ ap items c.index-lists-k.is
+    ∙ sym (get_or-map items lists k c.index-lists-k.result [] c.loop-k-test.true) in
+    least_of_all-more (map items lists) k (arc_value c.args.known) mid new
+    (omega (arith, c.loop-k-test.true, length-map lists items)) c.loop-k.invariant
     (subst (λ (parts : List Part). IsLeastOf parts (length parts) mid new) same c.in_ok-best.ensures)

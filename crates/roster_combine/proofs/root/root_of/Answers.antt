@@ -6,6 +6,7 @@ use Rattle.roster_combine.proofs.root.root_of.Goals as goal
 pub returns : goal.returns
 returns c problem is places legal =
     let table = c.args.table.now in
-    subst (λ (path : List ℕ). IsInSpan table (record { path = path; lo = 0; hi = c.width.result }) places) (sym (c.new-2.ensures ∙ c.new.ensures.items))
+    subst (λ (path : List ℕ). IsInSpan table (record { path = path; lo = 0; hi = c.width.result }) places)
+    (sym (c.new-2.ensures ∙ c.new.ensures.items))
     (subst (λ (hi : ℕ). IsInSpan table (record { path = []; lo = 0; hi = hi }) places) (sym c.width.ensures)
     (in_root problem table places c.requires is legal))

@@ -14,8 +14,11 @@ use Rattle.roster_combine.proofs.root.search_root.Goals as goal
 pub returns-then-is_empty : goal.returns-then-is_empty
 returns-then-is_empty c =
     let problem = c.args.problem.now in
-    let nobody : length problem.persons ≡ 0 = sym (ap length c.persons.ensures.value) ∙ eqb-true _ _ (sym c.is_empty.ensures ∙ c.if-is_empty.true) in
-    subst (λ (key : Key). IsBestKey problem key) (sym c.in_ok-known.ensures.left) (record { best = nobody_best problem nobody; cost = refl })
+    let nobody : length problem.persons ≡ 0 =
+    sym (ap length c.persons.ensures.value)
+    ∙ eqb-true _ _ (sym c.is_empty.ensures ∙ c.if-is_empty.true) in
+    subst (λ (key : Key). IsBestKey problem key) (sym c.in_ok-known.ensures.left)
+    (record { best = nobody_best problem nobody; cost = refl })
 
 pub returns : goal.returns
 returns c =

@@ -9,7 +9,8 @@ use Rattle.roster_combine.proofs.threads.handed_in.Given as goal
 abbrev pub invariant-loop-part : goal.invariant-loop-part
 invariant-loop-part g l = record {
   shares : vec_len l.shares + vec_len l.parts ≡ vec_len l.fn.parts;
-  settled : (problem : Problem) (table : List (List Entry)) → All (λ part. IfOk part (λ handed. AreSettled problem table handed.1.items)) l.fn.parts.items
+  settled : (problem : Problem) (table : List (List Entry))
+      → All (λ part. IfOk part (λ handed. AreSettled problem table handed.1.items)) l.fn.parts.items
       → All (λ part. IfOk part (λ handed. AreSettled problem table handed.1.items)) l.parts.items × All (AreSettled problem table) (map (λ list. list.items) l.lists.items);
 }
 

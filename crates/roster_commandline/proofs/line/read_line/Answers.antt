@@ -43,17 +43,22 @@ returns-in-Some-solve-clause-workers g c =
     let words = map g.S.AsStr.text c.args.words.now in
     let same = (subst (λ app. HasMatchesOf app words c.in-Ok.matches) c.in_ok-command.ensures.app c.in-Ok.ensures.ok.2 is_whole).1 in
     let name : command_name words ≡ Some (codes "solve") = search rules in
-    let has = has_workers c.in-Ok.matches words (faultless g (goal.at.returns-in-Some-solve-clause-workers g c).In-Ok) same name in
+    let has =
+    has_workers c.in-Ok.matches words
+    (faultless g (goal.at.returns-in-Some-solve-clause-workers g c).In-Ok) same name in
     c.workers.ensures.value has.0 has.1 ∙ asked_is c.in-Ok.matches words has.0 same has.1
 
 pub returns-in-Some-solve-clause-faultless : goal.returns-in-Some-solve-clause-faultless
-returns-in-Some-solve-clause-faultless g c = faultless g (goal.at.returns-in-Some-solve-clause-faultless g c).In-Ok
+returns-in-Some-solve-clause-faultless g c =
+    faultless g (goal.at.returns-in-Some-solve-clause-faultless g c).In-Ok
 
 pub returns-in-Some-check-clause-faultless : goal.returns-in-Some-check-clause-faultless
-returns-in-Some-check-clause-faultless g c = faultless g (goal.at.returns-in-Some-check-clause-faultless g c).In-Ok
+returns-in-Some-check-clause-faultless g c =
+    faultless g (goal.at.returns-in-Some-check-clause-faultless g c).In-Ok
 
 pub returns-in-Some-replay-clause-faultless : goal.returns-in-Some-replay-clause-faultless
-returns-in-Some-replay-clause-faultless g c = faultless g (goal.at.returns-in-Some-replay-clause-faultless g c).In-Ok
+returns-in-Some-replay-clause-faultless g c =
+    faultless g (goal.at.returns-in-Some-replay-clause-faultless g c).In-Ok
 
 -- the clauses speak of words that there are: the program's name and a command's are taken and name that command,
 taken : (command : Command) → (takes roster_app (codes "roster" ∷ spelling command ∷ []) ≡ true) × (command_name (codes "roster" ∷ spelling command ∷ []) ≡ Some (spelling command))
@@ -75,7 +80,8 @@ told_help = refl
 abbrev with_workers : List ℕ → List (List ℕ)
 with_workers number = codes "roster" ∷ codes "solve" ∷ codes "--workers" ∷ number ∷ []
 
-asked : (takes roster_app (with_workers (codes "64")) ≡ true) × (workers_asked commands.Solve (with_workers (codes "64")) ≡ 64)
+asked : (takes roster_app (with_workers (codes "64")) ≡ true)
+    × (workers_asked commands.Solve (with_workers (codes "64")) ≡ 64)
 unfolding clap_on_literals
 asked = (refl, refl)
 
@@ -83,11 +89,13 @@ unasked : workers_asked commands.Solve (codes "roster" ∷ codes "solve" ∷ [])
 unfolding clap_on_literals
 unasked = refl
 
-told_past : (fault_of roster_app (with_workers (codes "65")) ≡ ValueValidation ∷ []) × (fault_of roster_app (with_workers (codes "0")) ≡ ValueValidation ∷ [])
+told_past : (fault_of roster_app (with_workers (codes "65")) ≡ ValueValidation ∷ [])
+    × (fault_of roster_app (with_workers (codes "0")) ≡ ValueValidation ∷ [])
 unfolding clap_on_literals
 told_past = (refl, refl)
 
 pub returns-in-Err-clause-kind : goal.returns-in-Err-clause-kind
-returns-in-Err-clause-kind g c = λ _. c.refusal.ensures.kept (fault_of roster_app (map g.S.AsStr.text c.args.words.now))
+returns-in-Err-clause-kind g c =
+    λ _. c.refusal.ensures.kept (fault_of roster_app (map g.S.AsStr.text c.args.words.now))
     (subst (λ app. HasKind (fault_of app (map g.S.AsStr.text c.args.words.now)) c.in-Err.error) c.in_ok-command.ensures.app
     (c.in-Err.ensures.kinds (ap is_simple_and_free c.in_ok-command.ensures.app ∙ is_free)))

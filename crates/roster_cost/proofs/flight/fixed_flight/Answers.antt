@@ -19,8 +19,11 @@ bounded : (c : goal.After-flight_at) (set : List ℕ) → flight_of c.args.probl
 bounded c set =
     let problem = c.args.problem.now in
     let table = subst IsTable c.days_of.ensures c.month_days.ensures.table in
-    let flown = All-filter (λ duty. is_listed c.args.k set duty.holder) (λ duty. AreSectors duty.report duty.release duty.sectors) problem.duties c.duties.ensures.flown in
-    c.flight_of_duties.ensures.bound (home_of problem c.args.k).days (duty_list problem c.args.k set) table flown
+    let flown =
+    All-filter (λ duty. is_listed c.args.k set duty.holder)
+    (λ duty. AreSectors duty.report duty.release duty.sectors) problem.duties c.duties.ensures.flown in
+    c.flight_of_duties.ensures.bound (home_of problem c.args.k).days
+    (duty_list problem c.args.k set) table flown
 
 pub returns-clause-bound : goal.returns-clause-bound
 returns-clause-bound c set = bounded c set

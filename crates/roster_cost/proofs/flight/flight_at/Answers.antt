@@ -13,10 +13,16 @@ loop-position-preserved c =
     let position = c.from.result in
     let duty = c.index-duties-from.result in
     let here : position ≡ get_or positions i 0 = c.from.ensures in
-    let within : position < length duties = subst (λ n. n < length duties) (sym here) (c.requires.within i 0 c.loop-position-test.true) in
-    let there : duty ≡ get_or duties position duty = c.index-duties-from.is ∙ ap (λ (ds : List Duty). get_or ds position duty) c.duties-duties.ensures.value in
-    let next = picked-next minutes duties positions i position duty c.loop-position-test.true here within there in
-    let flown = minutes_back c.duty_flight.result (minutes duty) c.duty_flight.ensures.value (omega (arith, c.duty_flight.ensures.bound)) in
+    let within : position < length duties =
+    subst (λ n. n < length duties) (sym here) (c.requires.within i 0 c.loop-position-test.true) in
+    let there : duty ≡ get_or duties position duty =
+    c.index-duties-from.is
+    ∙ ap (λ (ds : List Duty). get_or ds position duty) c.duties-duties.ensures.value in
+    let next =
+    picked-next minutes duties positions i position duty c.loop-position-test.true here within there in
+    let flown =
+    minutes_back c.duty_flight.result (minutes duty) c.duty_flight.ensures.value
+    (omega (arith, c.duty_flight.ensures.bound)) in
     record {
       so_far = omega (arith, c.loop-position.invariant.so_far, next, flown);
       bound = omega (arith, c.loop-position.invariant.bound, flown, c.duty_flight.ensures.bound);

@@ -21,7 +21,9 @@ overflow_add-minutes c =
     let minutes = minutes_of_pairing problem k in
     let parts = c.flight_of_set.ensures problem (home_of problem k).days k set c.in-Some.ensures.ascending in
     let whole = set-parts problem k set c.fixed_flight-minutes.result parts c.fixed_flight-minutes.ensures.value c.in-Some.ensures.whole in
-    let next = ap (sum_by minutes) c.in-Some.ensures.rest ∙ sum_by-cons minutes c.in-Some.p (places_from (c.in-Some.p + 1) set) in
+    let next =
+    ap (sum_by minutes) c.in-Some.ensures.rest
+    ∙ sum_by-cons minutes c.in-Some.p (places_from (c.in-Some.p + 1) set) in
     omega (arith, c.loop-p.invariant, next, whole, c.fixed_flight-minutes.ensures.most set, c.pairing_flight-minutes.ensures)
 
 -- all pairings are counted
@@ -30,7 +32,8 @@ counted c =
     let problem = c.args.problem.now in
     let k = c.args.k in
     let set = c.args.set.now in
-    let parts = c.flight_of_set.ensures problem (home_of problem k).days k set c.in_default.ensures.ascending in
+    let parts =
+    c.flight_of_set.ensures problem (home_of problem k).days k set c.in_default.ensures.ascending in
     let whole = set-parts problem k set c.fixed_flight-minutes.result parts c.fixed_flight-minutes.ensures.value c.in_default.ensures.whole in
     let none = ap (sum_by (minutes_of_pairing problem k)) c.in_default.ensures.rest in
     omega (arith, c.loop-p.invariant, whole, none)

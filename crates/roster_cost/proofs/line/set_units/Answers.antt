@@ -12,7 +12,8 @@ pub loop-p-preserved : goal.loop-p-preserved
 loop-p-preserved c =
     let units = units_of c.args.problem.now c.args.k in
     let p = c.in-Some.p in
-    let next = ap (total units) c.in-Some.ensures.rest ∙ total-cons units p (places_from (p + 1) c.args.set.now) in
+    let next =
+    ap (total units) c.in-Some.ensures.rest ∙ total-cons units p (places_from (p + 1) c.args.set.now) in
     let few = within_from_abs c.units-units.result MOST_UNITS c.units-units.ensures.bound in
     let so_far = c.loop-p.invariant.so_far in
     let low = c.loop-p.invariant.bound.0 in
@@ -20,7 +21,9 @@ loop-p-preserved c =
     let after = c.in-Some.ensures.place.0 in
     let within = c.in-Some.ensures.place.1 in
     record {
-      so_far = omega (arith, ints, so_far, next, c.units-units.ensures.value, few.0, few.1, low, high, after, within);
+      so_far =
+          omega
+          (arith, ints, so_far, next, c.units-units.ensures.value, few.0, few.1, low, high, after, within);
       bound = (omega (arith, ints, few.0, few.1, low, high, after, within), omega (arith, ints, few.0, few.1, low, high, after, within));
       within = omega (arith, within);
     }

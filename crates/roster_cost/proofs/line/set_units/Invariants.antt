@@ -9,7 +9,8 @@ use Rattle.roster_cost.proofs.line.set_units.Given as goal
 -- the units so far, and those of the pairings that are left
 abbrev pub invariant-loop-p : goal.invariant-loop-p
 invariant-loop-p l = record {
-  so_far : l.units +ℤ total (units_of l.problem l.k) (places_from l.from l.set) ≡ total (units_of l.problem l.k) (places_from 0 l.set);
+  so_far : l.units +ℤ total (units_of l.problem l.k) (places_from l.from l.set)
+      ≡ total (units_of l.problem l.k) (places_from 0 l.set);
   bound : IsWithin (l.from * MOST_UNITS) l.units;
   within : l.from ≤ MOST_PAIRINGS;
 }

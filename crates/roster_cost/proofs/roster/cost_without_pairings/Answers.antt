@@ -33,7 +33,9 @@ loop-k-preserved c =
     let k = c.loop-k.k in
     let cost = c.missed-cost.ensures.value ∙ ap (λ minutes. weight_of problem * distance minutes (target_of problem k)) c.fixed_flight.ensures.value in
     record {
-      value = omega (arith, c.loop-k.invariant.value, cost, sum_by-range_next (λ j. missed_target problem j []) k);
+      value =
+          omega
+          (arith, c.loop-k.invariant.value, cost, sum_by-range_next (λ j. missed_target problem j []) k);
       bound = bounded c;
     }
 
@@ -56,7 +58,8 @@ returns-clause-value c =
     let problem = c.args.problem.now in
     let missed : ℕ → ℕ = λ k. missed_target problem k [] in
     let all : c.loop-k.k ≡ length problem.persons = omega (arith, ap length c.persons-k-end.ensures.value) in
-    told c ∙ ap pos (c.loop-k.invariant.value ∙ ap (λ n. sum_by missed (range_with_len 0 n)) all) ∙ sym (without-pairings problem)
+    told c ∙ ap pos (c.loop-k.invariant.value ∙ ap (λ n. sum_by missed (range_with_len 0 n)) all)
+    ∙ sym (without-pairings problem)
 
 pub returns-clause-low : goal.returns-clause-low
 returns-clause-low c = omega (arith, ints, told c)

@@ -11,7 +11,8 @@ use Rattle.roster_model.proofs.SumLemmas.{sum_by-range_next}
 use Rattle.roster_cost.proofs.roster.missed_targets.Goals as goal
 
 pub set_flight-requires-clause-places : goal.set_flight-requires-clause-places
-set_flight-requires-clause-places c = rw (c.of_places-set.ensures, ← c.requires) (places_of_number c.loop-k.k c.args.places.now)
+set_flight-requires-clause-places c =
+    rw (c.of_places-set.ensures, ← c.requires) (places_of_number c.loop-k.k c.args.places.now)
 
 -- the minutes on the lists of persons up to one
 bounded : (c : goal.After-missed-cost)
@@ -35,7 +36,9 @@ loop-k-preserved c =
     let problem = c.args.problem.now in
     let k = c.loop-k.k in
     let flight = c.set_flight.ensures.value ∙ ap (flight_of problem k) c.of_places-set.ensures in
-    let cost = c.missed-cost.ensures.value ∙ ap (λ minutes. weight_of problem * distance minutes (target_of problem k)) flight in
+    let cost =
+    c.missed-cost.ensures.value
+    ∙ ap (λ minutes. weight_of problem * distance minutes (target_of problem k)) flight in
     record {
       value = omega (arith, c.loop-k.invariant.value, cost, sum_by-range_next (λ j. missed_target problem j (set_of j c.args.places.now)) k);
       bound = bounded c;
@@ -46,7 +49,8 @@ returns-clause-value c =
     let problem = c.args.problem.now in
     let missed : ℕ → ℕ = λ k. missed_target problem k (set_of k c.args.places.now) in
     let all : c.loop-k.k ≡ length problem.persons = omega (arith, ap length c.persons-k-end.ensures.value) in
-    ap pos (c.loop-k.invariant.value ∙ ap (λ n. sum_by missed (range_with_len 0 n)) all) ∙ sym (total-pos missed (range_with_len 0 (length problem.persons)))
+    ap pos (c.loop-k.invariant.value ∙ ap (λ n. sum_by missed (range_with_len 0 n)) all)
+    ∙ sym (total-pos missed (range_with_len 0 (length problem.persons)))
 
 pub returns-clause-bound : goal.returns-clause-bound
 returns-clause-bound c =

@@ -10,7 +10,9 @@ use Rattle.roster_cumulative.proofs.judged.push_runs.Goals as goal
 pub overflow_add-run : goal.overflow_add-run
 overflow_add-run c =
     let minutes = λ (i : ℕ). get_or c.args.table.now i 0 in
-    let bound = sum_by-range-le minutes (MOST_DUTIES * LAST_INSTANT) (c.loop-last.last - c.args.n) c.args.n c.requires.light in
+    let bound =
+    sum_by-range-le minutes (MOST_DUTIES * LAST_INSTANT)
+    (c.loop-last.last - c.args.n) c.args.n c.requires.light in
     omega (arith, bound, c.loop-last.invariant.run, c.requires.light c.loop-last.last)
 
 pub overflow_sub-run-in-loop-last : goal.overflow_sub-run-in-loop-last
@@ -25,7 +27,8 @@ loop-last-preserved c =
     let n = c.args.n in
     let old = c.args.sums.now.items in
     let step = next_run minutes n last (omega arith) in
-    let run : c.loop-last.run + minutes last - minutes (last - n) ≡ in_run minutes n last = omega (arith, step, c.loop-last.invariant.run) in
+    let run : c.loop-last.run + minutes last - minutes (last - n) ≡ in_run minutes n last =
+    omega (arith, step, c.loop-last.invariant.run) in
     let capped = λ (last : ℕ). let sum : CappedSum = record { total = in_run minutes n last; most = c.args.most } in sum in
     let longer : last + 1 - DAYS_BEFORE ≡ (last - DAYS_BEFORE) + 1 = omega arith in
     let more = map-range_with_len_more capped DAYS_BEFORE (last - DAYS_BEFORE) last (omega arith) in
@@ -43,4 +46,5 @@ returns c =
     let minutes = λ (i : ℕ). get_or c.args.table.now i 0 in
     let capped = λ (last : ℕ). let sum : CappedSum = record { total = in_run minutes c.args.n last; most = c.args.most } in sum in
     let whole : c.loop-last.last ≡ length c.args.days.now.eight = omega arith in
-    c.loop-last.invariant.items ∙ ap (λ k. c.args.sums.now.items ++ map capped (range_with_len DAYS_BEFORE (k - DAYS_BEFORE))) whole
+    c.loop-last.invariant.items
+    ∙ ap (λ k. c.args.sums.now.items ++ map capped (range_with_len DAYS_BEFORE (k - DAYS_BEFORE))) whole

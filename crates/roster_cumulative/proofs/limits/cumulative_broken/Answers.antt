@@ -13,7 +13,9 @@ loop-limit-preserved c =
     let l = c.loop-limit.limits in
     record {
       same = c.holds.ensures.same ∙ c.loop-limit.invariant.same;
-      kept = subst (λ l. HoldBelow rank_of_limit (IsKept l) (c.loop-limit.limit-index + 1)) (sym c.holds.ensures.same)
+      kept =
+          subst (λ l. HoldBelow rank_of_limit (IsKept l) (c.loop-limit.limit-index + 1))
+          (sym c.holds.ensures.same)
           (below-next rank_of_limit limits_by_rank limits-ranked (IsKept l) limit_of ALL c.loop-limit.limit-index Duty7 refl c.loop-limit-test.true c.loop-limit.invariant.kept (c.holds.ensures.value.0 c.if-not-holds.false));
     }
 
@@ -24,7 +26,10 @@ returns-then-not-holds c =
     record {
       limit = Some (limit_of (get_or ALL i Duty7));
       rule = ap Some c.rule.ensures;
-      first = subst (λ (l : Limited). IsFirstFailing rank_of_limit (IsKept l) (Some (limit_of (get_or ALL i Duty7)))) (c.loop-limit.invariant.same ∙ c.new-limits.ensures)
+      first =
+          subst
+          (λ (l : Limited). IsFirstFailing rank_of_limit (IsKept l) (Some (limit_of (get_or ALL i Duty7))))
+          (c.loop-limit.invariant.same ∙ c.new-limits.ensures)
           (fails-first rank_of_limit limits_by_rank limits-ranked (IsKept l) limit_of ALL i Duty7 refl c.loop-limit-test.true c.loop-limit.invariant.kept
           (λ holds. both_ways _ c.if-not-holds.true (c.holds.ensures.value.1 holds)));
     }
@@ -35,6 +40,8 @@ returns c =
     record {
       limit = None;
       rule = refl;
-      first = subst (λ (l : Limited). IsFirstFailing rank_of_limit (IsKept l) None) (c.loop-limit.invariant.same ∙ c.new-limits.ensures)
+      first =
+          subst (λ (l : Limited). IsFirstFailing rank_of_limit (IsKept l) None)
+          (c.loop-limit.invariant.same ∙ c.new-limits.ensures)
           (below-all rank_of_limit limits_by_rank limits-ranked (IsKept l) (λ limit before. c.loop-limit.invariant.kept limit (omega arith)));
     }

@@ -7,7 +7,9 @@ use Rattle.roster_cumulative.proofs.runs.greatest_run.Goals as goal
 pub overflow_add-run : goal.overflow_add-run
 overflow_add-run c =
     let minutes = λ (i : ℕ). get_or c.args.table.now i 0 in
-    let bound = sum_by-range-le minutes (MOST_DUTIES * LAST_INSTANT) (c.loop-last.last - c.args.n) c.args.n c.requires.light in
+    let bound =
+    sum_by-range-le minutes (MOST_DUTIES * LAST_INSTANT)
+    (c.loop-last.last - c.args.n) c.args.n c.requires.light in
     omega (arith, bound, c.loop-last.invariant.run, c.requires.light c.loop-last.last)
 
 pub overflow_sub-run-in-loop-last : goal.overflow_sub-run-in-loop-last
@@ -22,7 +24,8 @@ loop-last-preserved c =
     let n = c.args.n in
     let step = next_run minutes n last (omega arith) in
     let bound = sum_by-range-le minutes (MOST_DUTIES * LAST_INSTANT) (last + 1 - n) n c.requires.light in
-    let run : c.loop-last.run + minutes last - minutes (last - n) ≡ in_run minutes n last = omega (arith, step, c.loop-last.invariant.run) in
+    let run : c.loop-last.run + minutes last - minutes (last - n) ≡ in_run minutes n last =
+    omega (arith, step, c.loop-last.invariant.run) in
     record {
       run = run;
       greatest = c.max-greatest.ensures ∙ ap (λ m. max c.loop-last.greatest m) run ∙ greatest-more (in_run minutes n) DAYS_BEFORE last c.loop-last.greatest c.loop-last.auto.last c.loop-last.invariant.greatest;

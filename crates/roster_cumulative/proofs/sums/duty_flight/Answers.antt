@@ -13,7 +13,8 @@ flight_between-requires c =
     let long = c.month_end.ensures.table.eight in
     omega (arith, c.month_start.ensures, c.month_end.ensures.value, mids-in_order days c.month_end.ensures.table DAYS_BEFORE (DAYS_BEFORE + days.month_days) (omega arith) (omega arith))
 
-is_flight : (c : goal.After-flight_between) → duty_flight c.args.days.now c.args.duty.now ≡ c.flight_between.result
+is_flight : (c : goal.After-flight_between)
+    → duty_flight c.args.days.now c.args.duty.now ≡ c.flight_between.result
 is_flight c =
     let days = c.args.days.now in
     duty_flight-between days c.args.duty.now c.month_end.ensures.table
@@ -26,7 +27,8 @@ is_short : (c : goal.After-flight_between) → c.flight_between.result ≤ MOST_
 is_short c = omega (arith, c.month_start.ensures, c.month_end.ensures.value, c.month_end.ensures.table.short, c.flight_between.ensures.bound)
 
 pub returns-clause-value : goal.returns-clause-value
-returns-clause-value c = to_z_pos w64 c.flight_between.result (omega (arith, is_short c)) ∙ ap pos (sym (is_flight c))
+returns-clause-value c =
+    to_z_pos w64 c.flight_between.result (omega (arith, is_short c)) ∙ ap pos (sym (is_flight c))
 
 pub returns-clause-bound : goal.returns-clause-bound
 returns-clause-bound c = omega (arith, is_flight c, is_short c)

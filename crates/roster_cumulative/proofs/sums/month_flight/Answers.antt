@@ -28,7 +28,8 @@ loop-k-preserved c =
 -- all duties
 all_of : (c : goal.After-loop-k) → sum_by (duty_flight c.args.days.now) (take c.loop-k.k c.args.list.now) ≡ month_flight c.args.days.now c.args.list.now
 all_of c =
-    ap (sum_by (duty_flight c.args.days.now)) (take_all c.loop-k.k c.args.list.now (omega arith)) ∙ sym (month_flight-sum c.args.days.now c.args.list.now)
+    ap (sum_by (duty_flight c.args.days.now)) (take_all c.loop-k.k c.args.list.now (omega arith))
+    ∙ sym (month_flight-sum c.args.days.now c.args.list.now)
 
 pub returns-clause-value : goal.returns-clause-value
 returns-clause-value c = omega (arith, ints, c.loop-k.invariant.value, all_of c)

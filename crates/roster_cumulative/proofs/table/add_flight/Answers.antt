@@ -20,7 +20,9 @@ add_sector-requires-clause-light c = λ k.
     let to = get_or c.args.days.now.mid (k + 1) 0 in
     let whole = subst (λ (duty : Duty). flight_between duty from to ≤ LAST_INSTANT) c.duty.view_is
     (flown-le i.report i.release from to LAST_INSTANT i.sectors.items c.duty.invariant.1 c.get.ensures.bound) in
-    let part = sum_by-take-le (λ (s : Sector). flown_between s from to) c.args.duty.now.sectors c.loop-sector.sector-index in
+    let part =
+    sum_by-take-le
+    (λ (s : Sector). flown_between s from to) c.args.duty.now.sectors c.loop-sector.sector-index in
     omega (arith, c.loop-sector.invariant k, c.requires.light k, whole, part)
 
 pub loop-sector-preserved : goal.loop-sector-preserved
@@ -33,8 +35,12 @@ loop-sector-preserved c = λ k.
     let i = c.loop-sector.sector-index in
     let before = get_or c.args.table.now k 0 in
     let items = c.deref-sector-items.ensures.value ∙ ap (λ (duty : Duty). duty.sectors) c.duty.view_is in
-    let inside : i < length sectors = subst (λ (list : List Sector). i < length list) items c.loop-sector-test.true in
-    let here : flown sector ≡ flown (get_or sectors i sector) = ap flown (c.sector-item.is ∙ ap (λ (list : List Sector). get_or list i sector) items) in
+    let inside : i < length sectors =
+    subst (λ (list : List Sector). i < length list) items c.loop-sector-test.true in
+    let here : flown sector ≡ flown (get_or sectors i sector) =
+    ap flown (c.sector-item.is ∙ ap (λ (list : List Sector). get_or list i sector) items) in
     let more = sum_by_more flown sectors i sector inside in
-    let sum : before + sum_by flown (take i sectors) + flown sector ≡ before + sum_by flown (take (i + 1) sectors) = omega (arith, here, more) in
+    let sum : before + sum_by flown (take i sectors) + flown sector
+    ≡ before + sum_by flown (take (i + 1) sectors) =
+    omega (arith, here, more) in
     c.add_sector.ensures k ∙ (ap (λ m. m + flown sector) (c.loop-sector.invariant k) ∙ sum)

@@ -7,4 +7,5 @@ use Rattle.roster_cumulative.proofs.table.add_flight.Given as goal
 -- the sectors so far
 abbrev pub invariant-loop-sector : goal.invariant-loop-sector
 invariant-loop-sector l =
-    (i : ℕ) → slice_index l.table i ≡ slice_index l.fn.table i + sum_by (λ sector. flown_between sector (slice_index l.days.mid i) (slice_index l.days.mid (i + 1))) (take l.sector-index l.duty.sectors)
+    (i : ℕ) → slice_index l.table i ≡ slice_index l.fn.table i + sum_by (λ sector. flown_between sector
+    (slice_index l.days.mid i) (slice_index l.days.mid (i + 1))) (take l.sector-index l.duty.sectors)

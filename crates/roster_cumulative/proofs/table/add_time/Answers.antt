@@ -48,6 +48,7 @@ returns-clause-added c j =
     elim (cases_lt j c.loop-i.i) [
       | inl before ↦ c.loop-i.invariant.added j before
       | inr after ↦
-          let past = past_window c.args.days.now c.days-i-end.ensures.table c.args.from c.args.to j (omega arith) in
+          let past =
+          past_window c.args.days.now c.days-i-end.ensures.table c.args.from c.args.to j (omega arith) in
           omega (arith, past, c.loop-i.invariant.rest j after)
     ]

@@ -21,9 +21,11 @@ loop-k-preserved c =
     let k = c.loop-k.k in
     record {
       value = λ i.
-          let minutes = λ (duty : Duty). minutes_of c.args.measure duty (get_or mid i 0) (get_or mid (i + 1) 0) in
+          let minutes =
+          λ (duty : Duty). minutes_of c.args.measure duty (get_or mid i 0) (get_or mid (i + 1) 0) in
           let more = sum_by_more minutes list k c.duty.result.now (slice_get_within list k _ c.duty.ensures)
           ∙ ap (λ duty. sum_by minutes (take k list) + minutes duty) (get_or_from_slice_get list k _ _ c.duty.ensures) in
-          c.add_duty.ensures.added i ∙ ap (λ m. m + minutes c.duty.result.now) (c.loop-k.invariant.value i) ∙ sym more;
+          c.add_duty.ensures.added i ∙ ap (λ m. m + minutes c.duty.result.now) (c.loop-k.invariant.value i)
+          ∙ sym more;
       bound = λ i. omega (arith, c.add_duty.ensures.added i, c.add_duty.ensures.bound (get_or mid i 0) (get_or mid (i + 1) 0), c.loop-k.invariant.bound i);
     }

@@ -24,5 +24,7 @@ loop-k-preserved c = record {
 
 pub returns-clause-most : goal.returns-clause-most
 returns-clause-most c = λ from to.
-    let all = ap (sum_by (λ duty. minutes_of c.args.measure duty from to)) (take_all c.loop-k.k c.args.list.now (omega arith)) in
+    let all =
+    ap (sum_by (λ duty. minutes_of c.args.measure duty from to))
+    (take_all c.loop-k.k c.args.list.now (omega arith)) in
     omega (arith, all, c.loop-k.invariant.most from to)

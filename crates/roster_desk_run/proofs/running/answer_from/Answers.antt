@@ -16,4 +16,6 @@ returns-clause-part g c = λ failed.
     let problem = c.args.problem.now in
     let start = c.args.start.now in
     let planned = c.in-Ok.planned in
-    text-weaker (IsTextOf problem planned) (IsPlanReport problem start) _ (report_of_plan problem start planned c.in-Ok.ensures.plan c.in-Ok.ensures.best) (c.in-Err-Device.ensures.prefix (ap Err c.in-Err-Device.field-0-is))
+    text-weaker (IsTextOf problem planned) (IsPlanReport problem start) _
+    (report_of_plan problem start planned c.in-Ok.ensures.plan c.in-Ok.ensures.best)
+    (c.in-Err-Device.ensures.prefix (ap Err c.in-Err-Device.field-0-is))

@@ -19,7 +19,8 @@ pub returns-then-planned-clause-prefix : goal.returns-then-planned-clause-prefix
 returns-then-planned-clause-prefix g c = λ failed.
     let problem = c.args.problem.now in
     let planned = c.args.planned.now in
-    text-weaker (IsReportOf problem planned.roster.places) (IsTextOf problem planned) _ (text_of_best problem planned c.if-planned.true) (c.write_report.ensures.prefix failed)
+    text-weaker (IsReportOf problem planned.roster.places) (IsTextOf problem planned) _
+    (text_of_best problem planned c.if-planned.true) (c.write_report.ensures.prefix failed)
 
 pub returns-clause-written : goal.returns-clause-written
 returns-clause-written g c =
@@ -38,5 +39,6 @@ returns-clause-prefix g c = λ failed.
     let old = g.W.Write.contents (inner_of c.args.writer.now) in
     let new = g.W.Write.contents (inner_of c.write_plan.new.writer) in
     let fits : FitsSigned w64 planned.bound = search rules in
-    text-weaker (IsPlanOf problem planned.bound planned.roster.places) (IsTextOf problem planned) (AppendsPrefix old new) (text_of_other problem planned c.if-planned.false)
+    text-weaker (IsPlanOf problem planned.bound planned.roster.places) (IsTextOf problem planned)
+    (AppendsPrefix old new) (text_of_other problem planned c.if-planned.false)
     (subst (λ told. WritesPart (IsPlanOf problem told planned.roster.places) old new) (to_z-of_z w64 planned.bound fits) (c.write_plan.ensures.prefix failed))

@@ -7,11 +7,13 @@ use Rattle.roster_instants.proofs.minute.read_minute.Goals as goal
 use Rattle.roster_instants.proofs.minute.read_minute.Goals.{then-not-is_in_range-via-then-not-is_in_range, then-not-is_in_range-via-else-not-is_in_range+then-hour-gt23, then-not-is_in_range-via-else-not-is_in_range+else-hour-gt23+then-minute-gt59}
 
 pub returns-then-not-has_shape : goal.returns-then-not-has_shape
-returns-then-not-has_shape c = instant-unshaped c.args.text.now (sym c.has_shape.ensures.value ∙ c.if-not-has_shape.true)
+returns-then-not-has_shape c =
+    instant-unshaped c.args.text.now (sym c.has_shape.ensures.value ∙ c.if-not-has_shape.true)
 
 pub number_at-minute-requires-clause-digits : goal.number_at-minute-requires-clause-digits
 number_at-minute-requires-clause-digits c =
-    digits_at (codes "0000-00-00T00:00Z") c.args.text.now 14 16 refl (sym c.has_shape.ensures.value ∙ c.if-not-has_shape.false)
+    digits_at (codes "0000-00-00T00:00Z") c.args.text.now 14 16 refl
+    (sym c.has_shape.ensures.value ∙ c.if-not-has_shape.false)
 
 pub returns-then-not-is_in_range : goal.returns-then-not-is_in_range
 returns-then-not-is_in_range c =
@@ -34,7 +36,9 @@ pub returns : goal.returns
 returns c =
     let date = c.in_ok-day.ensures in
     let year = rw (c.number_at-year.ensures.value) at c.is_in_range.ensures in
-    let sum : c.on_day.result ≡ c.in_ok-day.day * 1440 + (c.number_at-hour.result * 60 + c.number_at-minute.result) = rw (c.on_day.ensures, c.from.ensures) in
+    let sum : c.on_day.result
+    ≡ c.in_ok-day.day * 1440 + (c.number_at-hour.result * 60 + c.number_at-minute.result) =
+    rw (c.on_day.ensures, c.from.ensures) in
     ap (λ n. Some n) sum
     ∙ instant-read c.args.text.now c.in_ok-day.day c.number_at-hour.result c.number_at-minute.result
     (sym c.has_shape.ensures.value ∙ c.if-not-has_shape.false)

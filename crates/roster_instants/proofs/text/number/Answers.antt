@@ -6,7 +6,8 @@ use Rattle.roster_instants.proofs.text.number.Goals as goal
 
 pub unwrap-requires : goal.unwrap-requires
 unwrap-requires c =
-    IsOk-unless c.from_utf8.result _ _ c.from_utf8.ensures.cases (λ e no. no.0 (IsUtf8-digits c.args.digits.now c.requires.digits))
+    IsOk-unless c.from_utf8.result _ _ c.from_utf8.ensures.cases
+    (λ e no. no.0 (IsUtf8-digits c.args.digits.now c.requires.digits))
 
 pub unwrap-requires-2 : goal.unwrap-requires-2
 unwrap-requires-2 c =

@@ -16,14 +16,17 @@ listed_with k set duty = is_listed k set duty.holder
 pub new-requires-clause-within : goal.new-requires-clause-within
 new-requires-clause-within c =
     let members = members-sorted (listed_with c.args.k c.args.set.now) c.in_ok-positions.positions.items c.sort_unstable.new.self.items c.args.problem.now.duties c.duties-duties.result.now c.sort_unstable.ensures.permutation c.in_ok-positions.ensures.members c.duties-duties.ensures.value in
-    positions_within (listed_with c.args.k c.args.set.now) c.sort_unstable.new.self.items c.duties-duties.result.now members
+    positions_within
+    (listed_with c.args.k c.args.set.now) c.sort_unstable.new.self.items c.duties-duties.result.now members
 
 pub new-requires-clause-bound : goal.new-requires-clause-bound
 new-requires-clause-bound c =
     let sorted = c.sort_unstable.new.self.items in
     let members = members-sorted (listed_with c.args.k c.args.set.now) c.in_ok-positions.positions.items sorted c.args.problem.now.duties c.duties-duties.result.now c.sort_unstable.ensures.permutation c.in_ok-positions.ensures.members c.duties-duties.ensures.value in
     let rises = rising_from_sort c.in_ok-positions.positions.items sorted c.in_ok-positions.ensures.distinct c.sort_unstable.ensures.permutation c.sort_unstable.ensures.sorted in
-    let few = length_within sorted (length c.duties-duties.result.now) rises (positions_within (listed_with c.args.k c.args.set.now) sorted c.duties-duties.result.now members) in
+    let few =
+    length_within sorted (length c.duties-duties.result.now) rises
+    (positions_within (listed_with c.args.k c.args.set.now) sorted c.duties-duties.result.now members) in
     let all = c.duties-duties.ensures.sound.duties in
     let same = ap length c.duties-duties.ensures.value in
     omega arith

@@ -10,7 +10,8 @@ loop-p-init c =
     let fixed = c.fixed.result.now in
     let items = c.in_ok-extend_from_slice.ensures.items ∙ ap (λ xs. xs ++ fixed) c.requires.empty in
     record {
-      distinct = subst (IsDistinct eqb) (sym items) (distinct_rising fixed c.fixed.ensures.positions.ascending);
+      distinct =
+          subst (IsDistinct eqb) (sym items) (distinct_rising fixed c.fixed.ensures.positions.ascending);
       members = λ i. ap (λ xs. is_among xs i) items ∙ gathered-fixed c.args.k c.args.set.now fixed c.args.problem.now.duties c.fixed.ensures.positions.members i;
     }
 

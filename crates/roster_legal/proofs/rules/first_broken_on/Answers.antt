@@ -12,7 +12,9 @@ pub loop-rule-preserved : goal.loop-rule-preserved
 loop-rule-preserved c =
     let says = Holds c.args.problem.now c.args.k c.args.set.now in
     record {
-      limits = subst (LookAt c.args.problem.now c.args.k c.args.set.now) (sym c.holds.ensures.same) c.loop-rule.invariant.limits;
+      limits =
+          subst (LookAt c.args.problem.now c.args.k c.args.set.now)
+          (sym c.holds.ensures.same) c.loop-rule.invariant.limits;
       kept = below-next rank_of by_rank rules-ranked says rule_of ALL c.loop-rule.rule-index Base refl c.loop-rule-test.true c.loop-rule.invariant.kept (c.holds.ensures.value.0 c.if-not-holds.false);
     }
 

@@ -6,14 +6,17 @@ use Rattle.roster_legal.proofs.Gathered.{IsDistinct-append, distinct_rising, is_
 use Rattle.roster_legal.proofs.stepping.joined.Goals as goal
 
 -- what is sorted
-all : (c : goal.After-sort_unstable) → c.extend_from_slice-2.new.self.items ≡ c.args.old.now ++ c.args.more.now
+all : (c : goal.After-sort_unstable)
+    → c.extend_from_slice-2.new.self.items ≡ c.args.old.now ++ c.args.more.now
 all c =
     c.in_ok-extend_from_slice-2.ensures.items
     ∙ ap (λ xs. xs ++ c.args.more.now) (c.in_ok-extend_from_slice.ensures.items ∙ ap (λ xs. xs ++ c.args.old.now) c.requires.empty)
 
 pub returns-clause-rising : goal.returns-clause-rising
 returns-clause-rising c =
-    let distinct = IsDistinct-append c.args.old.now c.args.more.now (distinct_rising c.args.old.now c.requires.old) (distinct_rising c.args.more.now c.requires.more) c.requires.apart in
+    let distinct =
+    IsDistinct-append c.args.old.now c.args.more.now (distinct_rising c.args.old.now c.requires.old)
+    (distinct_rising c.args.more.now c.requires.more) c.requires.apart in
     rising_from_sort c.extend_from_slice-2.new.self.items c.sort_unstable.new.self.items (subst (IsDistinct eqb) (sym (all c)) distinct) c.sort_unstable.ensures.permutation c.sort_unstable.ensures.sorted
 
 pub returns-clause-members : goal.returns-clause-members

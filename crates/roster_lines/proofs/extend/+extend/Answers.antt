@@ -27,7 +27,8 @@ up g t c =
     up_to_candidate c.args.problem.now c.args.k (wants g t c) c.args.stem.now (sets_of c.loop-p.lines) c.loop-p.from c.in-Some.p c.requires.stem c.requires.only c.loop-p.invariant.lines c.in-Some.ensures.place.0 c.in-Some.ensures.least
 
 -- of which the stem's is still the one with its number,
-number : (g : given.Over) (t : ℕ) (c : In-Some g t) → slice_get (sets_of c.loop-p.lines) c.args.stem.now.number ≡ Some c.args.stem.now.set
+number : (g : given.Over) (t : ℕ) (c : In-Some g t)
+    → slice_get (sets_of c.loop-p.lines) c.args.stem.now.number ≡ Some c.args.stem.now.set
 number g t c = c.loop-p.invariant.kept c.args.stem.now.number c.args.stem.now.set c.requires.number
 
 -- and what was found behind it: the stem's set with the candidate, a line
@@ -38,25 +39,34 @@ pub returns-then-width-most-clause-fault : goal.returns-then-width-most-clause-f
 returns-then-width-most-clause-fault g t c =
     let at = goal.at.returns-then-width-most-clause-fault g t c in
     let line = found g t at.In-Some-2 in
-    HasMoreLines-push c.args.problem.now c.args.k (wants g t at.In-Some) (sets_of c.loop-p.lines) _ c.args.most (up g t at.In-Some) line.1 (omega (arith, c.width.ensures.value, c.if-width-most.true, length-sets_of c.loop-p.lines))
+    HasMoreLines-push c.args.problem.now c.args.k (wants g t at.In-Some)
+    (sets_of c.loop-p.lines) _ c.args.most (up g t at.In-Some) line.1
+    (omega (arith, c.width.ensures.value, c.if-width-most.true, length-sets_of c.loop-p.lines))
 
 pub push-requires-clause-parent : goal.push-requires-clause-parent
 push-requires-clause-parent g t c =
-    let inside = slice_get_within (sets_of c.loop-p.lines) c.args.stem.now.number c.args.stem.now.set (number g t (goal.at.push-requires-clause-parent g t c).In-Some) in
+    let inside =
+    slice_get_within (sets_of c.loop-p.lines) c.args.stem.now.number c.args.stem.now.set
+    (number g t (goal.at.push-requires-clause-parent g t c).In-Some) in
     omega (arith, inside, length-sets_of c.loop-p.lines)
 
 pub push-requires-clause-later : goal.push-requires-clause-later
 push-requires-clause-later g t c =
-    let set = get_or_from_slice_get (sets_of c.loop-p.lines) c.args.stem.now.number c.args.stem.now.set [] (number g t (goal.at.push-requires-clause-later g t c).In-Some) in
-    subst (All (λ q. q < c.in-Some.p)) (sym set) (c.requires.stem.behind c.in-Some.p c.in-Some.ensures.place.2)
+    let set =
+    get_or_from_slice_get (sets_of c.loop-p.lines) c.args.stem.now.number c.args.stem.now.set []
+    (number g t (goal.at.push-requires-clause-later g t c).In-Some) in
+    subst (All (λ q. q < c.in-Some.p)) (sym set)
+    (c.requires.stem.behind c.in-Some.p c.in-Some.ensures.place.2)
 
 pub push-requires-clause-ordered : goal.push-requires-clause-ordered
 push-requires-clause-ordered g t c =
     let at = (goal.at.push-requires-clause-ordered g t c).In-Some in
-    subst (λ mark. All (λ s. places_le mark s ≡ false) (sets_of c.loop-p.lines)) (sym (longer_set c.loop-p.lines _ c.in-Some.p _ (number g t at))) (up g t at).before
+    subst (λ mark. All (λ s. places_le mark s ≡ false) (sets_of c.loop-p.lines))
+    (sym (longer_set c.loop-p.lines _ c.in-Some.p _ (number g t at))) (up g t at).before
 
 pub below-below-requires-clause-line : goal.below-below-requires-clause-line
-below-below-requires-clause-line g t c = (found g t (goal.at.below-below-requires-clause-line g t c).In-Some-2).1
+below-below-requires-clause-line g t c =
+    (found g t (goal.at.below-below-requires-clause-line g t c).In-Some-2).1
 
 pub extend-requires : goal.extend-requires
 extend-requires g t c κs within =
@@ -75,15 +85,26 @@ extend-requires g t c κs within =
     let deeper = ap length made ∙ length_push stem.set p in
     let fits : SFits w64 c.cost.result = search rules in
     let cost = to_z-of_z w64 c.cost.result fits ∙ c.cost.ensures ∙ ap (line_cost problem k) made in
-    let pushed = sets_pushed lines c.push.new.self stem.number p _ stem.set below.set c.in_ok-push.ensures (number g t at) made in
-    let last : below.number ≡ length (sets_of lines) = c.below-below.ensures.number ∙ c.width-in-Some-2.ensures.value ∙ sym (length-sets_of lines) in
-    let here = ap (slice_get (sets_of c.push.new.self)) last ∙ ap (λ s. slice_get s (length (sets_of lines))) pushed ∙ get_push_new (sets_of lines) below.set in
+    let pushed =
+    sets_pushed lines c.push.new.self stem.number p _ stem.set below.set c.in_ok-push.ensures
+    (number g t at) made in
+    let last : below.number ≡ length (sets_of lines) =
+    c.below-below.ensures.number ∙ c.width-in-Some-2.ensures.value ∙ sym (length-sets_of lines) in
+    let here =
+    ap (slice_get (sets_of c.push.new.self)) last ∙ ap (λ s. slice_get s (length (sets_of lines))) pushed
+    ∙ get_push_new (sets_of lines) below.set in
     let before = subst (IsUpTo problem k wants (below.set ++ 0 ∷ [])) (sym pushed) (IsUpTo-push problem k wants (sets_of lines) below.set (subst (λ mark. IsUpTo problem k wants mark (sets_of lines)) (sym made) (up g t at)) c.below-below.ensures.stem.line) in
-    let costs = costs_pushed problem k lines c.push.new.self stem.number p _ stem.set c.in_ok-push.ensures (number g t at) cost c.loop-p.invariant.costs in
-    let known = (found g t (goal.at.extend-requires g t c).In-Some-2).0 ∙ ap (judged_as problem k stem.among) (sym made) ∙ ap (λ among. judged_as problem k among below.set) (sym same) in
+    let costs =
+    costs_pushed problem k lines c.push.new.self stem.number p _ stem.set c.in_ok-push.ensures
+    (number g t at) cost c.loop-p.invariant.costs in
+    let known =
+    (found g t (goal.at.extend-requires g t c).In-Some-2).0
+    ∙ ap (judged_as problem k stem.among) (sym made)
+    ∙ ap (λ among. judged_as problem k among below.set) (sym same) in
     let only = subst (HoldOnly problem k wants) (sym same) c.requires.only in
     let long = ap length c.in_ok-push.ensures ∙ length_push lines _ in
-    let room : length c.push.new.self ≤ c.args.most = omega (arith, long, c.width.ensures.value, c.if-width-most.false, c.loop-p.invariant.few) in
+    let room : length c.push.new.self ≤ c.args.most =
+    omega (arith, long, c.width.ensures.value, c.if-width-most.false, c.loop-p.invariant.few) in
     (omega (arith, place.1), (within, (known, (c.requires.person, (c.requires.limit, (c.requires.parts, (c.requires.flown, (c.requires.pairs, (c.below-below.ensures.stem, (only, (here, (before, (costs, room)))))))))))))
 
 pub loop-p-preserved : goal.loop-p-preserved
@@ -105,7 +126,9 @@ loop-p-preserved g t c =
             within = omega arith;
             lines = subst (IsUpTo problem k wants (stem.set ++ (p + 1) ∷ [])) same (IsUpTo-return problem k wants (sets_of w.extend.new.lines) stem.set p (subst (λ s. IsUpTo problem k wants (s ++ length problem.pairings ∷ []) (sets_of w.extend.new.lines)) made w.in_ok-extend.ensures.lines));
             costs = subst (AreCosted problem k) (sym w.lines-is) w.in_ok-extend.ensures.costs;
-            few = subst (λ (lines : List Entry). length lines ≤ c.args.most) (sym w.lines-is) w.in_ok-extend.ensures.few;
+            few =
+                subst (λ (lines : List Entry). length lines ≤ c.args.most)
+                (sym w.lines-is) w.in_ok-extend.ensures.few;
             kept = λ i s old.
                 ap (λ sets. slice_get sets i) (sym same)
                 ∙ w.in_ok-extend.ensures.kept i s (ap (λ sets. slice_get sets i) pushed ∙ get_push_old (sets_of lines) w.below-below.result.set s i (c.loop-p.invariant.kept i s old));
@@ -116,7 +139,9 @@ loop-p-preserved g t c =
             within = omega arith;
             lines = subst (IsUpTo problem k wants (stem.set ++ (p + 1) ∷ [])) same (past_candidate problem k wants stem (sets_of lines) p (up g t at) (no_line_there problem k wants stem p c.in_ok-longer.field-0 w.in_default-2.is c.in_ok-longer.ensures));
             costs = subst (AreCosted problem k) (sym w.lines-is) c.loop-p.invariant.costs;
-            few = subst (λ (lines : List Entry). length lines ≤ c.args.most) (sym w.lines-is) c.loop-p.invariant.few;
+            few =
+                subst (λ (lines : List Entry). length lines ≤ c.args.most)
+                (sym w.lines-is) c.loop-p.invariant.few;
             kept = λ i s old. ap (λ sets. slice_get sets i) (sym same) ∙ c.loop-p.invariant.kept i s old;
           }
     ]

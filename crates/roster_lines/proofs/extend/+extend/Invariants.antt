@@ -13,10 +13,12 @@ decreases-extend g l = MOST_PAIRINGS - length l.stem.now.set
 abbrev pub invariant-loop-p : goal.invariant-loop-p
 invariant-loop-p g l = record {
   within : l.from ≤ length l.problem.pairings;
-  lines : IsUpTo l.problem l.k (g.W.Wanted.wants l.wanted l.problem l.k) (l.stem.set ++ l.from ∷ []) (sets_of l.lines);
+  lines : IsUpTo l.problem l.k (g.W.Wanted.wants l.wanted l.problem l.k) (l.stem.set ++ l.from ∷ [])
+      (sets_of l.lines);
   costs : AreCosted l.problem l.k l.lines;
   few : length l.lines ≤ l.most;
-  kept : (i : ℕ) (set : List ℕ) → slice_get (sets_of l.initial.lines) i ≡ Some set → slice_get (sets_of l.lines) i ≡ Some set;
+  kept : (i : ℕ) (set : List ℕ) → slice_get (sets_of l.initial.lines) i ≡ Some set
+      → slice_get (sets_of l.lines) i ≡ Some set;
 }
 
 abbrev pub decreases-loop-p : goal.decreases-loop-p

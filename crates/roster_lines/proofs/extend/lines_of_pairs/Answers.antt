@@ -20,7 +20,9 @@ extend-requires-clause-parts g c = c.parts_are_legal.ensures c.args.k
 pub extend-requires-clause-only : goal.extend-requires-clause-only
 extend-requires-clause-only g c set p line wanted here =
     let problem = c.args.problem.now in
-    let alone = alone_of_line problem c.args.k (c.parts_are_legal.ensures c.args.k) c.args.pairs.now.alone set p c.requires.pairs.alone line here in
+    let alone =
+    alone_of_line problem c.args.k
+    (c.parts_are_legal.ensures c.args.k) c.args.pairs.now.alone set p c.requires.pairs.alone line here in
     subst (λ among. is_among among p ≡ true) (sym c.root-root.ensures.among)
     (c.among.ensures.held problem c.args.k set p wanted here alone)
 
@@ -40,7 +42,9 @@ extend-requires-clause-costs g c =
     let problem = c.args.problem.now in
     let k : ℕ = c.args.k in
     let fits : SFits w64 c.cost.result = search rules in
-    let cost = to_z-of_z w64 c.cost.result fits ∙ c.cost.ensures ∙ ap (line_cost problem k) c.root-root.ensures.set in
+    let cost =
+    to_z-of_z w64 c.cost.result fits ∙ c.cost.ensures
+    ∙ ap (line_cost problem k) c.root-root.ensures.set in
     let costed : Entry → Type 0 = λ entry. entry.cost ≡ line_cost problem k entry.set in
     subst (AreCosted problem k) (sym c.in_ok-lines.ensures) (All-cons costed _ [] cost (All-nil costed))
 
@@ -49,7 +53,8 @@ returns-clause-lines g c =
     let problem = c.args.problem.now in
     let wants : List ℕ → Type 0 = g.W.Wanted.wants c.args.wanted.now problem c.args.k in
     let first = ap (λ lines. slice_get (sets_of lines) 0) c.in_ok-lines.ensures in
-    AreWantedLines-up_to problem c.args.k wants (sets_of c.extend.new.lines) (c.in_ok-extend.ensures.kept 0 [] first)
+    AreWantedLines-up_to problem c.args.k wants (sets_of c.extend.new.lines)
+    (c.in_ok-extend.ensures.kept 0 [] first)
     (subst (λ set. IsUpTo problem c.args.k wants (set ++ length problem.pairings ∷ []) (sets_of c.extend.new.lines)) c.root-root.ensures.set c.in_ok-extend.ensures.lines)
 
 pub extend-requires-clause-few : goal.extend-requires-clause-few

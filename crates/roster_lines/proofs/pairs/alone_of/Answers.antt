@@ -10,14 +10,16 @@ pub loop-p-preserved : goal.loop-p-preserved
 loop-p-preserved c =
     let Legal : ℕ → Type 0 = λ q. IsLegal c.args.problem.now c.args.k (q ∷ []) in
     let p : ℕ = c.loop-p.p in
-    let single : c.in_ok-single.single ≡ p ∷ [] = c.in_ok-single.ensures.value ∙ ap (with_place p) c.empty.ensures in
+    let single : c.in_ok-single.single ≡ p ∷ [] =
+    c.in_ok-single.ensures.value ∙ ap (with_place p) c.empty.ensures in
     let judge = c.loop-p.invariant.judge in
     let said = c.in_ok-is_legal.ensures.value in
     record {
       judge = c.in_ok-is_legal.ensures.same ∙ judge;
       alone = elim c.if-branch.branch [
         | then-branch+in_ok-alone w ↦
-            HasBelow-with Legal c.loop-p.alone c.if-branch.alone p p c.loop-p.invariant.alone (omega arith) (λ q l before. absurd (omega arith))
+            HasBelow-with Legal c.loop-p.alone c.if-branch.alone p p c.loop-p.invariant.alone (omega arith)
+            (λ q l before. absurd (omega arith))
             (legal_as _ c.args.problem.now c.args.k _ (p ∷ []) judge single (said.0 w.if-branch.true))
             (λ q. ap (λ s. is_among s q) w.alone-is ∙ w.in_ok-alone.ensures.members q)
         | else-branch w ↦

@@ -7,5 +7,6 @@ use Rattle.roster_lines.proofs.pairs.flights_of.Given as goal
 abbrev pub invariant-loop-p : goal.invariant-loop-p
 invariant-loop-p l = record {
   long : length l.flights.items ≡ l.p;
-  each : (q minutes : ℕ) → slice_get l.flights.items q ≡ Some minutes → minutes ≡ minutes_of_pairing l.problem l.k q;
+  each : (q minutes : ℕ) → slice_get l.flights.items q ≡ Some minutes
+      → minutes ≡ minutes_of_pairing l.problem l.k q;
 }

@@ -17,18 +17,24 @@ returns-then-not-has-clause-row c =
     (IsRow-none c.args.problem.now c.args.k c.requires.parts c.args.alone.now c.requires.alone c.args.p (sym c.has.ensures.value ∙ c.if-not-has.true))
 
 pub with-requires : goal.with-requires
-with-requires c = All-is_among (λ q. q < MOST_PAIRINGS) c.args.alone.now c.args.p c.has.ensures.places (sym c.has.ensures.value ∙ c.if-not-has.false)
+with-requires c =
+    All-is_among (λ q. q < MOST_PAIRINGS) c.args.alone.now c.args.p c.has.ensures.places
+    (sym c.has.ensures.value ∙ c.if-not-has.false)
 
 pub overflow_add-from : goal.overflow_add-from
 overflow_add-from c =
-    let few : c.args.p < MOST_PAIRINGS = All-is_among (λ q. q < MOST_PAIRINGS) c.args.alone.now c.args.p c.has.ensures.places (sym c.has.ensures.value ∙ c.if-not-has.false) in
+    let few : c.args.p < MOST_PAIRINGS =
+    All-is_among (λ q. q < MOST_PAIRINGS) c.args.alone.now c.args.p c.has.ensures.places
+    (sym c.has.ensures.value ∙ c.if-not-has.false) in
     omega arith
 
 pub loop-q-init : goal.loop-q-init
 loop-q-init c = record {
   judge = c.requires.judge;
   onward = omega arith;
-  row = subst (HasBelow (AreTogether c.args.problem.now c.args.k c.args.p) (c.args.p + 1)) (sym c.empty-row.ensures) (λ q. (λ h. absurd (false≢true h), λ h. absurd (omega (arith, h.0, h.1.0))));
+  row =
+      subst (HasBelow (AreTogether c.args.problem.now c.args.k c.args.p) (c.args.p + 1))
+      (sym c.empty-row.ensures) (λ q. (λ h. absurd (false≢true h), λ h. absurd (omega (arith, h.0, h.1.0))));
 }
 
 pub loop-q-preserved : goal.loop-q-preserved
@@ -40,7 +46,8 @@ loop-q-preserved c =
     let place = c.in-Some.ensures.place in
     let onward = c.loop-q.invariant.onward in
     let later : p < q = omega (arith, place.0) in
-    let single : c.in_ok-single.single ≡ p ∷ [] = c.in_ok-single.ensures.value ∙ ap (with_place p) c.empty.ensures in
+    let single : c.in_ok-single.single ≡ p ∷ [] =
+    c.in_ok-single.ensures.value ∙ ap (with_place p) c.empty.ensures in
     let pair : c.in_ok-pair.pair ≡ p ∷ q ∷ [] = c.in_ok-pair.ensures.last (subst (All (λ r. r < q)) (sym single) (All-cons (λ r. r < q) p [] later (All-nil (λ r. r < q)))) ∙ ap (λ s. s ++ q ∷ []) single in
     let skipped = none_skipped c.args.problem.now c.args.k c.requires.parts c.args.alone.now c.requires.alone p from q c.in-Some.ensures.least in
     let inside = ((c.requires.alone q).0 place.2).0 in
@@ -57,7 +64,8 @@ loop-q-preserved c =
         | else-branch w ↦
             subst (HasBelow Together (q + 1)) (sym w.row-is)
             (HasBelow-without Together c.loop-q.row from q c.loop-q.invariant.row place.0 skipped (λ is.
-            illegal_as _ c.args.problem.now c.args.k _ (p ∷ q ∷ []) judge pair (λ legal. both_ways _ w.if-branch.false (said.1 legal)) is.2))
+            illegal_as _ c.args.problem.now c.args.k _ (p ∷ q ∷ []) judge pair
+            (λ legal. both_ways _ w.if-branch.false (said.1 legal)) is.2))
       ];
     }
 

@@ -15,7 +15,8 @@ loop-one-preserved c =
     let k = length c.loop-one.yielded in
     let turn = YieldsList-turn (YieldsList-from_vec {s = c.into_iter-one-iterator.result} judged (search rules) (search rules)) c.loop-one.yielded c.loop-one.one-iterator c.loop-one.yielded_by c.next.result c.next.new.self c.in-Some.one c.in-Some.is c.next.ensures.steps in
     let here : IsJudged c.args.problem.now k c.in-Some.one =
-    subst (IsJudged c.args.problem.now k) (sym turn.1) (c.requires.each k c.in-Some.one (omega (arith, turn.0, c.requires.long))) in
+    subst (IsJudged c.args.problem.now k) (sym turn.1)
+    (c.requires.each k c.in-Some.one (omega (arith, turn.0, c.requires.long))) in
     let found : ArePairs c.args.problem.now k c.in_ok-one.field-0 =
     subst (λ found. IfOk found (ArePairs c.args.problem.now k)) c.in_ok-one.was here in
     let next = each-next (ArePairs c.args.problem.now) k c.loop-one.all.items c.push.new.self.items c.in_ok-one.field-0 c.in_ok-push.ensures.items so_far.long so_far.each found in

@@ -9,5 +9,6 @@ use Rattle.roster_lines.proofs.shared.empty_slots.Given as goal
 abbrev pub invariant-loop : goal.invariant-loop
 invariant-loop l = record {
   long : length l.slots.items ≡ l.counter;
-  each : (k : ℕ) (made : Result (List Entry) LinesFault) → slice_get l.slots.items k ≡ Some made → IsMadeOf l.problem k made;
+  each : (k : ℕ) (made : Result (List Entry) LinesFault) → slice_get l.slots.items k ≡ Some made
+      → IsMadeOf l.problem k made;
 }

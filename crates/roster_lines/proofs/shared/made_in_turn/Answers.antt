@@ -10,7 +10,10 @@ pub loop-preserved : goal.loop-preserved
 loop-preserved c =
     let problem = c.args.problem.now in
     let k = c.fetch_add-k.result in
-    let of : ℕ × Result (List Entry) LinesFault → Type 0 = λ made. (made.0 < length problem.persons) × IsMadeOf problem made.0 made.1 in
+    let of : ℕ × Result (List Entry) LinesFault → Type 0 =
+    λ made. (made.0 < length problem.persons) × IsMadeOf problem made.0 made.1 in
     let made = IsMadeOf-from_clauses problem k c.lines_of.result c.lines_of.ensures.lines c.lines_of.ensures.costs c.lines_of.ensures.few c.lines_of.ensures.fault in
-    let inside : k < length problem.persons = omega (arith, c.if-k-persons.false, ap length c.persons-persons.ensures.value) in
-    All-same of _ _ c.in_ok-push.ensures.items (All-push of c.loop.all.items _ c.loop.invariant (inside, made))
+    let inside : k < length problem.persons =
+    omega (arith, c.if-k-persons.false, ap length c.persons-persons.ensures.value) in
+    All-same of _ _ c.in_ok-push.ensures.items
+    (All-push of c.loop.all.items _ c.loop.invariant (inside, made))

@@ -12,7 +12,8 @@ use Rattle.roster_lines.proofs.wanted_tables.wanted_table.Goals as goal
 pub returns-in-Err-clause-fault : goal.returns-in-Err-clause-fault
 returns-in-Err-clause-fault g c =
     let problem = c.args.problem.now in
-    c.fault_at.ensures problem c.args.most (omega (arith, ap length c.persons-k-end.ensures.value, c.loop-k-test.true)) c.in-Err.ensures.fault
+    c.fault_at.ensures problem c.args.most
+    (omega (arith, ap length c.persons-k-end.ensures.value, c.loop-k-test.true)) c.in-Err.ensures.fault
 
 pub loop-k-preserved : goal.loop-k-preserved
 loop-k-preserved g c =
@@ -30,8 +31,11 @@ loop-k-preserved g c =
       costs = made.costs;
       few = omega (arith, made.few, c.requires.limit.1);
     } in
-    let inside : k < length wanted = omega (arith, c.requires.covers, ap length c.persons-k-end.ensures.value, c.loop-k-test.true) in
-    let there = ap (slice_get wanted) so_far.long ∙ slice_get-get_or wanted k c.index-wanted-k.result inside ∙ ap Some (sym c.index-wanted-k.is) in
+    let inside : k < length wanted =
+    omega (arith, c.requires.covers, ap length c.persons-k-end.ensures.value, c.loop-k-test.true) in
+    let there =
+    ap (slice_get wanted) so_far.long ∙ slice_get-get_or wanted k c.index-wanted-k.result inside
+    ∙ ap Some (sym c.index-wanted-k.is) in
     record {
       long = ap length pushed ∙ length_push table lines ∙ ap (λ n. n + 1) so_far.long;
       listed = subst (AreListedSoFar problem) (sym pushed)

@@ -17,12 +17,15 @@ loop-q-init c = record {
   inside = c.requires.some;
   brought = λ rest.
       let whole : chain_value c.args.network.now c.args.values.now 0 (c.args.set.now ++ rest) ≡ chain_value c.args.network.now c.args.values.now 0 (places_from 0 c.args.set.now ++ rest) =
-      ap (λ xs. chain_value c.args.network.now c.args.values.now 0 (xs ++ rest)) (sym (places_from-first c.args.set.now)) in
+      ap (λ xs. chain_value c.args.network.now c.args.values.now 0 (xs ++ rest))
+      (sym (places_from-first c.args.set.now)) in
       omega (arith, ints, whole);
 }
 
 pub bounds-values-q : goal.bounds-values-q
-bounds-values-q c = All-is_among (λ p. p < length c.args.values.now) c.args.set.now c.in-Some.q c.requires.covers c.in-Some.ensures.place.2
+bounds-values-q c =
+    All-is_among
+    (λ p. p < length c.args.values.now) c.args.set.now c.in-Some.q c.requires.covers c.in-Some.ensures.place.2
 
 pub overflow_add-value : goal.overflow_add-value
 overflow_add-value c =
@@ -44,7 +47,8 @@ index-requires c =
     omega (arith, inside, c.args.network.now.steps.ok.0)
 
 slice_index_any : (xs : List ℕ) (i d : ℕ) → i < length xs → get_or xs i d ≡ get_or xs i 0
-slice_index_any xs i d inside = sym (get_or_from_slice_get xs i (get_or xs i d) 0 (slice_get-get_or xs i d inside))
+slice_index_any xs i d inside =
+    sym (get_or_from_slice_get xs i (get_or xs i d) 0 (slice_get-get_or xs i d inside))
 
 pub loop-q-preserved : goal.loop-q-preserved
 loop-q-preserved c =
@@ -53,7 +57,8 @@ loop-q-preserved c =
     let set = c.args.set.now in
     let q = c.in-Some.q in
     let inv = c.loop-q.invariant in
-    let inside : q < length values = All-is_among (λ p. p < length values) set q c.requires.covers c.in-Some.ensures.place.2 in
+    let inside : q < length values =
+    All-is_among (λ p. p < length values) set q c.requires.covers c.in-Some.ensures.place.2 in
     let value : ℤ = value_at values q in
     let within : IsWithin MOST_VALUE value = c.requires.values q (pos 0) inside in
     let fits : FitsSigned w64 value = search rules in
@@ -66,13 +71,16 @@ loop-q-preserved c =
     let low_here = within.0 in
     let high_here = within.1 in
     let whole_fits : FitsSigned w64 whole = search rules in
-    let whole_told : to_z w64 (of_z w64 whole) ≡ before +ℤ value = to_z-of_z w64 whole whole_fits ∙ ap (λ z. before +ℤ z) told in
+    let whole_told : to_z w64 (of_z w64 whole) ≡ before +ℤ value =
+    to_z-of_z w64 whole whole_fits ∙ ap (λ z. before +ℤ z) told in
     let above : c.loop-q.from ≤ q = c.in-Some.ensures.place.0 in
     let below = c.in-Some.ensures.place.1 in
-    let states : c.len.result ≡ length network.terms.items = omega (arith, c.len.ensures, network.terms.ok.0) in
+    let states : c.len.result ≡ length network.terms.items =
+    omega (arith, c.len.ensures, network.terms.ok.0) in
     let stepped : c.index.result.now ≡ get_or network.steps.items q 0 = c.index.ensures ∙ slice_index_any network.steps.items q c.index.result.now (All-is_among (λ p. p < length network.steps.items) set q c.requires.steps c.in-Some.ensures.place.2) in
     let state : c.next_state-state.result ≡ next_state (length network.terms.items) c.loop-q.state (get_or network.steps.items q 0) =
-    c.next_state-state.ensures.value ∙ ap (λ n. next_state n c.loop-q.state c.index.result.now) states ∙ ap (next_state (length network.terms.items) c.loop-q.state) stepped in
+    c.next_state-state.ensures.value ∙ ap (λ n. next_state n c.loop-q.state c.index.result.now) states
+    ∙ ap (next_state (length network.terms.items) c.loop-q.state) stepped in
     record {
       few = omega (arith, below);
       within = (omega (arith, ints, low, low_here, whole_told, above), omega (arith, ints, high, high_here, whole_told, above));

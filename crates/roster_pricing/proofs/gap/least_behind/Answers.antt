@@ -14,9 +14,13 @@ row_within : (c : goal.After-led) → All (IsWithin MOST_LEAST) c.all.result.now
 row_within c =
     let few = c.is_sound.ensures.sound.pairings in
     let most : ℕ = MOST_TERM + length c.args.rows.now * MOST_VALUE in
-    let there = c.requires.rows.within (length c.args.rows.now - 1 - c.args.p) c.index-rows-rows.result (omega (arith, c.requires.all, c.requires.place)) in
-    let row : All (IsWithin most) c.index-rows-rows.result = subst (All (IsWithin most)) (sym c.index-rows-rows.is) there in
-    subst (All (IsWithin MOST_LEAST)) (sym c.all.ensures) (All-within-more most MOST_LEAST c.index-rows-rows.result (omega (arith, few, c.requires.all)) row)
+    let there =
+    c.requires.rows.within (length c.args.rows.now - 1 - c.args.p) c.index-rows-rows.result
+    (omega (arith, c.requires.all, c.requires.place)) in
+    let row : All (IsWithin most) c.index-rows-rows.result =
+    subst (All (IsWithin most)) (sym c.index-rows-rows.is) there in
+    subst (All (IsWithin MOST_LEAST)) (sym c.all.ensures)
+    (All-within-more most MOST_LEAST c.index-rows-rows.result (omega (arith, few, c.requires.all)) row)
 
 pub overflow_add-result : goal.overflow_add-result
 overflow_add-result c =
@@ -31,7 +35,8 @@ overflow_add-result c =
     search rules
 
 slice_index_any : (xs : List ℕ) (i d : ℕ) → i < length xs → get_or xs i d ≡ get_or xs i 0
-slice_index_any xs i d inside = sym (get_or_from_slice_get xs i (get_or xs i d) 0 (slice_get-get_or xs i d inside))
+slice_index_any xs i d inside =
+    sym (get_or_from_slice_get xs i (get_or xs i d) 0 (slice_get-get_or xs i d inside))
 
 pub returns : goal.returns
 returns c =
@@ -53,20 +58,26 @@ returns c =
     let whole_fits : FitsSigned w64 whole = search rules in
     let whole_told : to_z w64 (of_z w64 whole) ≡ whole = to_z-of_z w64 whole whole_fits in
     let brought : ℤ = value_at values p in
-    let brought_within : IsWithin MOST_VALUE brought = c.requires.values p (pos 0) (omega (arith, c.requires.covers, c.requires.place)) in
+    let brought_within : IsWithin MOST_VALUE brought =
+    c.requires.values p (pos 0) (omega (arith, c.requires.covers, c.requires.place)) in
     let brought_fits : FitsSigned w64 brought = search rules in
     let brought_told : to_z w64 (of_z w64 brought) ≡ brought = to_z-of_z w64 brought brought_fits in
     let behind = c.all.result.now in
     let place : length rows - 1 - p ≡ length problem.pairings - 1 - p = omega (arith, c.requires.all) in
     let inside : length rows - 1 - p < length rows = omega (arith, c.requires.all, c.requires.place) in
     let at : slice_get rows (length problem.pairings - 1 - p) ≡ Some behind =
-    ap (slice_get rows) (sym place) ∙ slice_get-get_or rows (length rows - 1 - p) c.index-rows-rows.result inside ∙ ap Some (sym c.index-rows-rows.is ∙ sym c.all.ensures) in
-    let states : c.len.result ≡ length network.terms.items = omega (arith, c.len.ensures, network.terms.ok.0) in
+    ap (slice_get rows) (sym place)
+    ∙ slice_get-get_or rows (length rows - 1 - p) c.index-rows-rows.result inside
+    ∙ ap Some (sym c.index-rows-rows.is ∙ sym c.all.ensures) in
+    let states : c.len.result ≡ length network.terms.items =
+    omega (arith, c.len.ensures, network.terms.ok.0) in
     let stepped : c.index.result.now ≡ get_or network.steps.items p 0 = c.index.ensures ∙ slice_index_any network.steps.items p c.index.result.now (omega (arith, c.requires.network.steps.covers, c.requires.place)) in
     let next : c.next_state-next.result ≡ next_state (length network.terms.items) state (get_or network.steps.items p 0) =
-    c.next_state-next.ensures.value ∙ ap (λ n. next_state n state c.index.result.now) states ∙ ap (next_state (length network.terms.items) state) stepped in
+    c.next_state-next.ensures.value ∙ ap (λ n. next_state n state c.index.result.now) states
+    ∙ ap (next_state (length network.terms.items) state) stepped in
     let told : led ≡ brought +ℤ value_at behind (next_state (length network.terms.items) state (get_or network.steps.items p 0)) =
-    c.led.ensures.value ∙ ap (λ z. z +ℤ value_at behind c.next_state-next.result) brought_told ∙ ap (λ n. brought +ℤ value_at behind n) next in
+    c.led.ensures.value ∙ ap (λ z. z +ℤ value_at behind c.next_state-next.result) brought_told
+    ∙ ap (λ n. brought +ℤ value_at behind n) next in
     let is = least_behind_is problem network values rows c.args.set.now p value state behind c.requires.rows c.requires.network.some c.requires.place at c.along-value.ensures.along in
     λ rest chain.
     let below = is rest chain in

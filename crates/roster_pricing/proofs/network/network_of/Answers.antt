@@ -12,14 +12,19 @@ stepped c p inside =
     let list : List ℕ = c.args.pairs.now.flights.items in
     let step : ℕ = c.step_of-step.result in
     let minutes = flights.each p (get_or list p 0) (slice_get-get_or list p 0 there) in
-    let read = c.in_ok-steps.ensures.each p (subst (λ xs. p < length xs) (sym c.deref-2.ensures.value) there) ∙ ap (λ (xs : List ℕ). get_or xs p 0 / step) c.deref-2.ensures.value in
-    let whole = subst (All (λ flight. flight / step * step ≡ flight)) c.deref.ensures.value c.step_of-step.ensures.whole in
+    let read =
+    c.in_ok-steps.ensures.each p (subst (λ xs. p < length xs) (sym c.deref-2.ensures.value) there)
+    ∙ ap (λ (xs : List ℕ). get_or xs p 0 / step) c.deref-2.ensures.value in
+    let whole =
+    subst
+    (All (λ flight. flight / step * step ≡ flight)) c.deref.ensures.value c.step_of-step.ensures.whole in
     ap (λ n. n * step) read ∙ whole p 0 there ∙ minutes
 
 pub returns : goal.returns
 returns c =
     let pairs = c.requires.pairs in
-    let followers : c.in_ok-followers.followers.items ≡ c.args.pairs.now.rows.items = c.in_ok-followers.ensures ∙ c.deref-3.ensures.value in
+    let followers : c.in_ok-followers.followers.items ≡ c.args.pairs.now.rows.items =
+    c.in_ok-followers.ensures ∙ c.deref-3.ensures.value in
     record {
       alone = pairs.alone;
       covers = ap length followers ∙ pairs.covers;

@@ -17,20 +17,25 @@ row_behind-requires-clause-done c q among near =
 
 pub row_behind-requires-clause-tail : goal.row_behind-requires-clause-tail
 row_behind-requires-clause-tail c =
-    subst (λ n. IsTail c.args.network.now c.args.values.now n c.in_ok-end.end) (sym (ap length c.pairings-count.ensures.value)) c.in_ok-end.ensures.tail
+    subst (λ n. IsTail c.args.network.now c.args.values.now n c.in_ok-end.end)
+    (sym (ap length c.pairings-count.ensures.value)) c.in_ok-end.ensures.tail
 
 pub row_behind-requires-clause-near : goal.row_behind-requires-clause-near
-row_behind-requires-clause-near c = All-within-more MOST_TERM (MOST_TERM + (length c.args.rows.now + 1) * MOST_VALUE) c.in_ok-end.end (omega arith) c.in_ok-end.ensures.within
+row_behind-requires-clause-near c =
+    All-within-more MOST_TERM (MOST_TERM + (length c.args.rows.now + 1) * MOST_VALUE) c.in_ok-end.end
+    (omega arith) c.in_ok-end.ensures.within
 
 pub first-requires : goal.first-requires
 first-requires c = omega (arith, c.in_ok-row.ensures.row.covers, c.requires.network.some)
 
 -- the law of flight, of this person
-adds : (c : goal.After-drop-end-inside-2) (set : List ℕ) → IsStrictlyIncreasing set → AddsFlight c.args.problem.now c.args.k set
+adds : (c : goal.After-drop-end-inside-2) (set : List ℕ) → IsStrictlyIncreasing set
+    → AddsFlight c.args.problem.now c.args.k set
 adds c set rising =
     let days = (home_of c.args.problem.now c.args.k).days in
     let whole = c.flight_of_set.ensures c.args.problem.now days c.args.k set rising in
-    let none = c.flight_of_set.ensures c.args.problem.now days c.args.k [] (λ i inside. absurd (omega arith)) in
+    let none =
+    c.flight_of_set.ensures c.args.problem.now days c.args.k [] (λ i inside. absurd (omega arith)) in
     omega (arith, whole, none)
 
 pub returns : goal.returns
@@ -41,10 +46,14 @@ returns c =
     let least : ℤ = c.first.result in
     let first = c.first.ensures in
     let some : 0 < length row = omega (arith, is.covers, c.requires.network.some) in
-    let here = subst (IsWithin (MOST_TERM + (length c.args.rows.now + 1) * MOST_VALUE)) (sym first) (c.in_ok-row.ensures.within 0 (pos 0) some) in
+    let here =
+    subst (IsWithin (MOST_TERM + (length c.args.rows.now + 1) * MOST_VALUE)) (sym first)
+    (c.in_ok-row.ensures.within 0 (pos 0) some) in
     let few = c.is_sound.ensures.sound.pairings in
-    let most : MOST_TERM + (length c.args.rows.now + 1) * MOST_VALUE ≤ MOST_LEAST = omega (arith, few, c.requires.all) in
-    let within = within-more (MOST_TERM + (length c.args.rows.now + 1) * MOST_VALUE) MOST_LEAST least most here in
+    let most : MOST_TERM + (length c.args.rows.now + 1) * MOST_VALUE ≤ MOST_LEAST =
+    omega (arith, few, c.requires.all) in
+    let within =
+    within-more (MOST_TERM + (length c.args.rows.now + 1) * MOST_VALUE) MOST_LEAST least most here in
     let fits : FitsSigned w64 least = search rules in
     let told : to_z w64 (of_z w64 least) ≡ least = to_z-of_z w64 least fits in
     subst (IsLeastOf problem c.args.prices.now c.args.k) (sym told) (record {

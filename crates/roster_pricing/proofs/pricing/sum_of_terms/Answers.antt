@@ -28,24 +28,36 @@ loop-back-preserved c =
     let high = inv.within.1 in
     let whole : ℤ = sum +ℤ to_z w64 (of_z w64 term) in
     let whole_fits : FitsSigned w64 whole = search rules in
-    let whole_told : to_z w64 (of_z w64 whole) ≡ sum +ℤ term = to_z-of_z w64 whole whole_fits ∙ ap (λ z. sum +ℤ z) told in
+    let whole_told : to_z w64 (of_z w64 whole) ≡ sum +ℤ term =
+    to_z-of_z w64 whole whole_fits ∙ ap (λ z. sum +ℤ z) told in
     let next : ℕ = length c.pairings-count.result.now - (c.loop-back.back + 1) in
-    let is : next + 1 ≡ length c.pairings-count.result.now - c.loop-back.back = omega (arith, c.loop-back-test.true) in
+    let is : next + 1 ≡ length c.pairings-count.result.now - c.loop-back.back =
+    omega (arith, c.loop-back-test.true) in
     let place : length c.pairings-count.result.now - 1 - c.loop-back.back ≡ next = omega arith in
     let price : ℤ = price_at c.args.prices.now (length c.pairings-count.result.now - 1 - c.loop-back.back) in
-    let price_within : IsWithin MOST_PRICE price = c.requires.within (length c.pairings-count.result.now - 1 - c.loop-back.back) (pos 0) (omega (arith, count, c.requires.covers, c.loop-back-test.true)) in
+    let price_within : IsWithin MOST_PRICE price =
+    c.requires.within (length c.pairings-count.result.now - 1 - c.loop-back.back) (pos 0)
+    (omega (arith, count, c.requires.covers, c.loop-back-test.true)) in
     let price_fits : FitsSigned w64 price = search rules in
-    let of_price = subst (λ y. IsTermOf problem c.args.base (length c.pairings-count.result.now - 1 - c.loop-back.back) y term) (to_z-of_z w64 price price_fits) c.term_of-sum.ensures.term in
-    let is_term = subst (λ q. IsTermOf problem c.args.base q (price_at c.args.prices.now q) term) place of_price in
+    let of_price =
+    subst
+    (λ y. IsTermOf problem c.args.base (length c.pairings-count.result.now - 1 - c.loop-back.back) y term)
+    (to_z-of_z w64 price price_fits) c.term_of-sum.ensures.term in
+    let is_term =
+    subst (λ q. IsTermOf problem c.args.base q (price_at c.args.prices.now q) term) place of_price in
     record {
       few = omega (arith, c.loop-back-test.true);
       below = λ places roster home. subst (λ z. z ≤ℤ shares_behind problem c.args.prices.now next places) (sym whole_told)
           (one_more problem c.args.prices.now c.args.base next term sum places roster home (omega (arith, count, c.loop-back-test.true)) is_term (subst (λ q. sum ≤ℤ shares_behind problem c.args.prices.now q places) (sym is) (inv.below places roster home)));
-      within = (omega (arith, ints, low, within.0, whole_told), omega (arith, ints, high, within.1, whole_told));
+      within =
+          (omega (arith, ints, low, within.0, whole_told), omega (arith, ints, high, within.1, whole_told));
     }
 
 pub returns-clause-least : goal.returns-clause-least
-returns-clause-least c places roster home = subst (λ q. to_z w64 c.loop-back.sum-bits ≤ℤ shares_behind c.args.problem.now c.args.prices.now q places) (nothing_left (length c.pairings-count.result.now) c.loop-back.back c.loop-back-test.false) (c.loop-back.invariant.below places roster home)
+returns-clause-least c places roster home =
+    subst (λ q. to_z w64 c.loop-back.sum-bits ≤ℤ shares_behind c.args.problem.now c.args.prices.now q places)
+    (nothing_left (length c.pairings-count.result.now) c.loop-back.back c.loop-back-test.false)
+    (c.loop-back.invariant.below places roster home)
   where
     nothing_left : (n i : ℕ) → n ≤ i → n - i ≡ 0
     nothing_left n i l = omega arith

@@ -10,6 +10,7 @@ use Rattle.roster_pricing.proofs.pricing.sum_of_terms.Given as goal
 abbrev pub invariant-loop-back : goal.invariant-loop-back
 invariant-loop-back l = record {
   few : l.back ≤ l.count;
-  below : (places : List ℕ) → IsLegalRoster l.problem places → IsHome l.problem l.base places → l.sum ≤ℤ shares_behind l.problem l.prices (l.count - l.back) places;
+  below : (places : List ℕ) → IsLegalRoster l.problem places → IsHome l.problem l.base places
+      → l.sum ≤ℤ shares_behind l.problem l.prices (l.count - l.back) places;
   within : IsWithin (l.back * MOST_PRICE) l.sum;
 }

@@ -19,7 +19,8 @@ told c =
 
 value_here : (c : goal.In_ok-push) → c.value_of.result ≡ (pos PARTS *ℤ units_of c.args.problem.now c.args.k c.loop-p.p) -ℤ price_at c.args.prices.now c.loop-p.p
 value_here c =
-    let within : IsWithin MOST_PRICE (price_at c.args.prices.now c.loop-p.p) = c.requires.within c.loop-p.p (pos 0) c.loop-p-test.true in
+    let within : IsWithin MOST_PRICE (price_at c.args.prices.now c.loop-p.p) =
+    c.requires.within c.loop-p.p (pos 0) c.loop-p-test.true in
     let fits : FitsSigned w64 (price_at c.args.prices.now c.loop-p.p) = search rules in
     c.value_of.ensures.value ∙ ap (λ y. (pos PARTS *ℤ units_of c.args.problem.now c.args.k c.loop-p.p) -ℤ y) (to_z-of_z w64 (price_at c.args.prices.now c.loop-p.p) fits)
 
@@ -30,6 +31,10 @@ loop-p-preserved c =
     let value : ℤ = to_z w64 (of_z w64 c.value_of.result) in
     record {
       long = ap length pushed ∙ length_push c.loop-p.values.items value ∙ ap (λ n. n + 1) inv.long;
-      each = each_more (λ q v. v ≡ (pos PARTS *ℤ units_of c.args.problem.now c.args.k q) -ℤ price_at c.args.prices.now q) (pos 0) c.loop-p.p c.loop-p.values.items c.push.new.self.items value pushed inv.long inv.each (told c ∙ value_here c);
+      each =
+          each_more
+          (λ q v. v ≡ (pos PARTS *ℤ units_of c.args.problem.now c.args.k q) -ℤ price_at c.args.prices.now q)
+          (pos 0) c.loop-p.p c.loop-p.values.items c.push.new.self.items value pushed inv.long inv.each
+          (told c ∙ value_here c);
       within = subst (All (IsWithin MOST_VALUE)) (sym pushed) (All-push (IsWithin MOST_VALUE) c.loop-p.values.items value inv.within (subst (IsWithin MOST_VALUE) (sym (told c)) c.value_of.ensures.within));
     }

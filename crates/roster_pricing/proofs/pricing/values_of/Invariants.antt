@@ -11,6 +11,7 @@ use Rattle.roster_pricing.proofs.pricing.values_of.Given as goal
 abbrev pub invariant-loop-p : goal.invariant-loop-p
 invariant-loop-p l = record {
   long : length l.values.items ≡ l.p;
-  each : (q : ℕ) → q < l.p → value_at l.values.items q ≡ (pos PARTS *ℤ units_of l.problem l.k q) -ℤ price_at l.prices q;
+  each : (q : ℕ) → q < l.p
+      → value_at l.values.items q ≡ (pos PARTS *ℤ units_of l.problem l.k q) -ℤ price_at l.prices q;
   within : All (IsWithin MOST_VALUE) l.values.items;
 }

@@ -11,15 +11,19 @@ returns-clause-tail c =
     let values = c.args.values.now in
     let p = c.args.p in
     let copied : c.in_ok-longer.longer ≡ c.args.tail.now = c.in_ok-longer.ensures ∙ c.all.ensures in
-    let long : length c.in_ok-longer.longer ≡ length network.terms.items = ap length copied ∙ c.requires.tail.covers in
+    let long : length c.in_ok-longer.longer ≡ length network.terms.items =
+    ap length copied ∙ c.requires.tail.covers in
     elim c.if-has.branch [
       | then-has w ↦
           let covers : length w.relax.new.self ≡ length network.terms.items = w.relax.ensures.same ∙ long in
           subst (IsTail network values p) (sym w.longer-is) (tail_more network values c.args.tail.now w.relax.new.self c.args.row.now p c.requires.network.some c.requires.tail c.requires.row covers
           (λ f inside. subst (λ t. value_at w.relax.new.self f ≤ℤ value_at t f) copied (w.relax.ensures.kept f (omega (arith, long, inside))))
           (λ f inside. lowered values c.args.row.now w.relax.new.self network.steps.items (length c.in_ok-longer.longer) (length network.terms.items) f p w.index.result.now c.requires.values
-          (omega (arith, c.requires.covers, c.requires.place)) (omega (arith, c.requires.network.steps.covers, c.requires.place)) w.index.ensures long (w.relax.ensures.through f (omega (arith, long, inside)))))
+          (omega (arith, c.requires.covers, c.requires.place))
+          (omega (arith, c.requires.network.steps.covers, c.requires.place)) w.index.ensures long
+          (w.relax.ensures.through f (omega (arith, long, inside)))))
       | else-has w ↦
           let none : is_among network.first p ≡ false = sym c.has.ensures.value ∙ w.if-has.false in
-          subst (IsTail network values p) (sym (w.longer-is ∙ copied)) (tail_same network values c.args.tail.now p none c.requires.tail)
+          subst (IsTail network values p) (sym (w.longer-is ∙ copied))
+          (tail_same network values c.args.tail.now p none c.requires.tail)
     ]

@@ -10,6 +10,8 @@ abbrev pub invariant-loop-f : goal.invariant-loop-f
 invariant-loop-f l = record {
   same : length l.row ≡ length l.fn.row;
   kept : (g : ℕ) → g < length l.fn.row → value_at l.row g ≤ℤ value_at l.fn.row g;
-  through : (g : ℕ) → g < l.f → value_at l.row g ≤ℤ (l.value +ℤ value_at l.after (next_state (length l.fn.row) g l.step));
-  within : (most : ℕ) → All (IsWithin most) l.after → All (IsWithin (most + MOST_VALUE)) l.fn.row → All (IsWithin (most + MOST_VALUE)) l.row;
+  through : (g : ℕ) → g < l.f
+      → value_at l.row g ≤ℤ (l.value +ℤ value_at l.after (next_state (length l.fn.row) g l.step));
+  within : (most : ℕ) → All (IsWithin most) l.after → All (IsWithin (most + MOST_VALUE)) l.fn.row
+      → All (IsWithin (most + MOST_VALUE)) l.row;
 }

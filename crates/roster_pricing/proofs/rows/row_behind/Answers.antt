@@ -11,16 +11,20 @@ use Rattle.roster_pricing.proofs.rows.row_behind.Goals as goal
 
 -- the place of the pairing
 inside_place : (c : goal.After-relax) → c.in-Some.q < length c.args.problem.now.pairings
-inside_place c = ((c.requires.network.alone c.in-Some.q).0 (c.requires.alone c.in-Some.q c.in-Some.ensures.place.2)).0
+inside_place c =
+    ((c.requires.network.alone c.in-Some.q).0 (c.requires.alone c.in-Some.q c.in-Some.ensures.place.2)).0
 
 -- the row that the pairing leads to
-row_found : (c : goal.After-relax) (row : List ℤ) → slice_get c.args.rows.now (length c.args.problem.now.pairings - 1 - c.in-Some.q) ≡ Some row → c.index-rows-count.result ≡ row
+row_found : (c : goal.After-relax) (row : List ℤ)
+    → slice_get c.args.rows.now (length c.args.problem.now.pairings - 1 - c.in-Some.q) ≡ Some row
+    → c.index-rows-count.result ≡ row
 row_found c row at =
     let count = ap length c.pairings-count.ensures.value in
     let there = subst (λ n. slice_get c.args.rows.now (n - 1 - c.in-Some.q) ≡ Some row) (sym count) at in
     c.index-rows-count.is ∙ get_or_from_slice_get c.args.rows.now (length c.pairings-count.result.now - 1 - c.in-Some.q) row c.index-rows-count.result there
 
-row_within : (c : goal.After-relax) → All (IsWithin (MOST_TERM + length c.args.rows.now * MOST_VALUE)) c.index-rows-count.result
+row_within : (c : goal.After-relax)
+    → All (IsWithin (MOST_TERM + length c.args.rows.now * MOST_VALUE)) c.index-rows-count.result
 row_within c =
     let count = ap length c.pairings-count.ensures.value in
     let done = c.requires.done c.in-Some.q c.in-Some.ensures.place.2 c.in-Some.ensures.place.1 in
@@ -38,7 +42,9 @@ loop-q-preserved c =
             let behind = row_found c row (subst (λ i. slice_get c.args.rows.now (length c.args.problem.now.pairings - 1 - i) ≡ Some row) here at) in
             let place = inside_place c in
             let led = lowered c.args.values.now c.index-rows-count.result c.relax.new.self c.args.network.now.steps.items (length c.loop-q.row) (length c.args.network.now.terms.items) f c.in-Some.q c.index.result.now c.requires.values
-            (omega (arith, c.requires.covers, place)) (omega (arith, c.requires.network.steps.covers, place)) c.index.ensures inv.covers (c.relax.ensures.through f (omega (arith, inv.covers, inside))) in
+            (omega (arith, c.requires.covers, place))
+            (omega (arith, c.requires.network.steps.covers, place)) c.index.ensures inv.covers
+            (c.relax.ensures.through f (omega (arith, inv.covers, inside))) in
             let told = subst (λ r. value_at c.relax.new.self f ≤ℤ (value_at c.args.values.now c.in-Some.q +ℤ value_at r (next_state (length c.args.network.now.terms.items) f (get_or c.args.network.now.steps.items c.in-Some.q 0)))) behind led in
             subst (λ i. value_at c.relax.new.self f ≤ℤ (value_at c.args.values.now i +ℤ value_at row (next_state (length c.args.network.now.terms.items) f (get_or c.args.network.now.steps.items i 0)))) (sym here) told
         | inr other ↦
@@ -50,7 +56,9 @@ loop-q-preserved c =
             let now = c.relax.ensures.kept f (omega (arith, inv.covers, inside)) in
             omega (arith, ints, led, now)
       ];
-      within = All-within-more ((MOST_TERM + length c.args.rows.now * MOST_VALUE) + MOST_VALUE) (MOST_TERM + (length c.args.rows.now + 1) * MOST_VALUE) c.relax.new.self (omega arith)
+      within =
+          All-within-more ((MOST_TERM + length c.args.rows.now * MOST_VALUE) + MOST_VALUE)
+          (MOST_TERM + (length c.args.rows.now + 1) * MOST_VALUE) c.relax.new.self (omega arith)
           (c.relax.ensures.within (MOST_TERM + length c.args.rows.now * MOST_VALUE)
           (row_within c)
           (All-within-more (MOST_TERM + (length c.args.rows.now + 1) * MOST_VALUE) ((MOST_TERM + length c.args.rows.now * MOST_VALUE) + MOST_VALUE) c.loop-q.row (omega arith) inv.within));

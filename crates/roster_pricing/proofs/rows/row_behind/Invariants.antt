@@ -12,7 +12,8 @@ abbrev pub invariant-loop-q : goal.invariant-loop-q
 invariant-loop-q l = record {
   covers : length l.row ≡ length l.network.terms.items;
   kept : (f : ℕ) → f < length l.network.terms.items → value_at l.row f ≤ℤ value_at l.tail f;
-  led : (q : ℕ) (row : List ℤ) → q < l.from → is_among l.first q ≡ true → slice_get l.rows (length l.problem.pairings - 1 - q) ≡ Some row
+  led : (q : ℕ) (row : List ℤ) → q < l.from → is_among l.first q ≡ true
+      → slice_get l.rows (length l.problem.pairings - 1 - q) ≡ Some row
       → (f : ℕ) → f < length l.network.terms.items → value_at l.row f ≤ℤ (value_at l.values q +ℤ value_at row (next_state (length l.network.terms.items) f (slice_index l.network.steps.items q)));
   within : All (IsWithin (MOST_TERM + (length l.rows + 1) * MOST_VALUE)) l.row;
 }

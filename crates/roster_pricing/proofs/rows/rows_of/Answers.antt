@@ -13,11 +13,14 @@ use Rattle.roster_pricing.proofs.RowLemmas.{follower_alone, rows_more, rows_none
 use Rattle.roster_pricing.proofs.rows.rows_of.Goals as goal
 
 -- what is found at a place of a list
-found_at : {X : Type 0} (xs : List X) (i j : ℕ) (found : X) → found ≡ get_or xs i found → i ≡ j → j < length xs → slice_get xs j ≡ Some found
-found_at xs i j found is same inside = slice_get-get_or xs j found inside ∙ ap Some (sym (is ∙ ap (λ n. get_or xs n found) same))
+found_at : {X : Type 0} (xs : List X) (i j : ℕ) (found : X) → found ≡ get_or xs i found → i ≡ j
+    → j < length xs → slice_get xs j ≡ Some found
+found_at xs i j found is same inside =
+    slice_get-get_or xs j found inside ∙ ap Some (sym (is ∙ ap (λ n. get_or xs n found) same))
 
 -- the followers that are found so far behind, of so many pairings, are those of the pairing there
-followers_found : (problem : Problem) (network : Network) (count back : ℕ) (found : List ℕ) → count ≡ length problem.pairings
+followers_found : (problem : Problem) (network : Network) (count back : ℕ) (found : List ℕ)
+    → count ≡ length problem.pairings
     → length network.followers.items ≡ length problem.pairings → back < length problem.pairings
     → found ≡ get_or network.followers.items (count - 1 - back) found
     → found ≡ followers_of network.followers.items (length problem.pairings - 1 - back)
@@ -31,15 +34,21 @@ loop-back-init c =
     let problem = c.args.problem.now in
     let network = c.args.network.now in
     let values = c.args.values.now in
-    let none : AreTails problem network values c.new-tails.result.items = subst (AreTails problem network values) (sym c.new-tails.ensures.items) (tails_none problem network values) in
+    let none : AreTails problem network values c.new-tails.result.items =
+    subst (AreTails problem network values) (sym c.new-tails.ensures.items)
+    (tails_none problem network values) in
     let zero : length c.new-tails.result.items ≡ 0 = ap length c.new-tails.ensures.items in
     record {
-      rows = subst (AreRows problem network values) (sym c.new-rows.ensures.items) (rows_none problem network values);
+      rows =
+          subst (AreRows problem network values) (sym c.new-rows.ensures.items)
+          (rows_none problem network values);
       long = ap length c.new-rows.ensures.items;
       tails = tails_more problem network values c.new-tails.result.items c.push.new.self.items c.in_ok-end_of_all.field-0 none c.in_ok-push.ensures.items
           (λ few. subst (λ n. IsTail network values n c.in_ok-end_of_all.field-0) (omega (arith, zero)) c.in_ok-end_of_all.ensures.tail)
           (All-within-more MOST_TERM (MOST_TERM + (length c.new-tails.result.items + 1) * MOST_VALUE) c.in_ok-end_of_all.field-0 (omega arith) c.in_ok-end_of_all.ensures.within);
-      longer = ap length c.in_ok-push.ensures.items ∙ length_push c.new-tails.result.items c.in_ok-end_of_all.field-0 ∙ ap (λ n. n + 1) zero;
+      longer =
+          ap length c.in_ok-push.ensures.items
+          ∙ length_push c.new-tails.result.items c.in_ok-end_of_all.field-0 ∙ ap (λ n. n + 1) zero;
     }
 
 -- what follows the pairing lies behind it, and may begin a chain
@@ -63,7 +72,8 @@ pub row_behind-requires-clause-done : goal.row_behind-requires-clause-done
 row_behind-requires-clause-done c q among near =
     let after = behind c q among in
     let count = ap length c.pairings-count.ensures.value in
-    let below : c.loop-back.back < length c.args.problem.now.pairings = omega (arith, count, c.loop-back-test.true) in
+    let below : c.loop-back.back < length c.args.problem.now.pairings =
+    omega (arith, count, c.loop-back-test.true) in
     let long = ap length c.deref.ensures.value ∙ c.loop-back.invariant.long in
     omega (arith, after.0, after.1, long, below)
 
@@ -74,8 +84,12 @@ row_behind-requires-clause-tail c =
     let inv = c.loop-back.invariant in
     let count = ap length c.pairings-count.ensures.value in
     let from : ℕ = c.all_from-from.result in
-    let at = found_at c.loop-back.tails.items (length c.pairings-count.result.now - from) (length problem.pairings - from) c.index-tail.result.now c.index-tail.ensures (omega (arith, count)) (omega (arith, count, inv.longer, c.loop-back-test.true, c.all_from-from.ensures)) in
-    subst (λ n. IsTail network c.args.values.now n c.index-tail.result.now) (omega (arith, count, c.all_from-from.ensures))
+    let at =
+    found_at c.loop-back.tails.items (length c.pairings-count.result.now - from)
+    (length problem.pairings - from) c.index-tail.result.now c.index-tail.ensures (omega (arith, count))
+    (omega (arith, count, inv.longer, c.loop-back-test.true, c.all_from-from.ensures)) in
+    subst (λ n. IsTail network c.args.values.now n c.index-tail.result.now)
+    (omega (arith, count, c.all_from-from.ensures))
     (inv.tails.each (length problem.pairings - from) c.index-tail.result.now (omega arith) at)
 
 pub longer_tail-requires-clause-tail : goal.longer_tail-requires-clause-tail
@@ -85,7 +99,8 @@ longer_tail-requires-clause-tail c =
     let inv = c.loop-back.invariant in
     let count = ap length c.pairings-count.ensures.value in
     let at = found_at c.loop-back.tails.items c.loop-back.back c.loop-back.back c.index-in-loop-back.result.now c.index-in-loop-back.ensures refl (omega (arith, inv.longer)) in
-    subst (λ n. IsTail network c.args.values.now n c.index-in-loop-back.result.now) (omega (arith, count, c.loop-back-test.true))
+    subst (λ n. IsTail network c.args.values.now n c.index-in-loop-back.result.now)
+    (omega (arith, count, c.loop-back-test.true))
     (inv.tails.each c.loop-back.back c.index-in-loop-back.result.now (omega (arith, count, c.loop-back-test.true)) at)
 
 pub loop-back-preserved : goal.loop-back-preserved
@@ -102,13 +117,19 @@ loop-back-preserved c =
     let most : ℕ = MOST_TERM + (length c.loop-back.rows.items + 1) * MOST_VALUE in
     let within : All (IsWithin most) c.in_ok-row.row = subst (λ rs. All (IsWithin (MOST_TERM + (length rs + 1) * MOST_VALUE)) c.in_ok-row.row) c.deref.ensures.value c.in_ok-row.ensures.within in
     let tail : All (IsWithin (MOST_TERM + length c.loop-back.tails.items * MOST_VALUE)) c.index-in-loop-back.result.now =
-    subst (All (IsWithin (MOST_TERM + length c.loop-back.tails.items * MOST_VALUE))) (sym c.index-in-loop-back.ensures) (inv.tails.within c.loop-back.back c.index-in-loop-back.result.now (omega (arith, inv.longer))) in
+    subst (All (IsWithin (MOST_TERM + length c.loop-back.tails.items * MOST_VALUE)))
+    (sym c.index-in-loop-back.ensures)
+    (inv.tails.within c.loop-back.back c.index-in-loop-back.result.now (omega (arith, inv.longer))) in
     record {
       rows = rows_more problem network values c.loop-back.rows.items c.push-in-loop-back.new.self.items c.in_ok-row.row p inv.rows c.in_ok-push-2.ensures.items (omega (arith, below)) (omega (arith, inv.long, below)) row within;
-      long = ap length c.in_ok-push-2.ensures.items ∙ length_push c.loop-back.rows.items c.in_ok-row.row ∙ ap (λ n. n + 1) inv.long;
+      long =
+          ap length c.in_ok-push-2.ensures.items ∙ length_push c.loop-back.rows.items c.in_ok-row.row
+          ∙ ap (λ n. n + 1) inv.long;
       tails = tails_more problem network values c.loop-back.tails.items c.push-in-loop-back-2.new.self.items c.in_ok-longer.longer inv.tails c.in_ok-push-3.ensures.items
           (λ few. subst (λ n. IsTail network values n c.in_ok-longer.longer) (omega (arith, count, inv.longer, below)) c.in_ok-longer.ensures.tail)
           (All-within-more (most + MOST_VALUE) (MOST_TERM + (length c.loop-back.tails.items + 1) * MOST_VALUE) c.in_ok-longer.longer (omega (arith, inv.long, inv.longer))
           (c.in_ok-longer.ensures.within most within (All-within-more (MOST_TERM + length c.loop-back.tails.items * MOST_VALUE) (most + MOST_VALUE) c.index-in-loop-back.result.now (omega (arith, inv.long, inv.longer)) tail)));
-      longer = ap length c.in_ok-push-3.ensures.items ∙ length_push c.loop-back.tails.items c.in_ok-longer.longer ∙ ap (λ n. n + 1) inv.longer;
+      longer =
+          ap length c.in_ok-push-3.ensures.items ∙ length_push c.loop-back.tails.items c.in_ok-longer.longer
+          ∙ ap (λ n. n + 1) inv.longer;
     }

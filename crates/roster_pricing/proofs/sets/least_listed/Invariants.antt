@@ -10,6 +10,7 @@ use Rattle.roster_pricing.proofs.sets.least_listed.Given as goal
 abbrev pub invariant-loop-i : goal.invariant-loop-i
 invariant-loop-i l = record {
   low : l.least ≤ℤ l.limit;
-  below : (j : ℕ) (set : List ℕ) → j < l.i → slice_get (sets_of l.lines) j ≡ Some set → l.least ≤ℤ reduced l.problem l.prices l.k set;
+  below : (j : ℕ) (set : List ℕ) → j < l.i → slice_get (sets_of l.lines) j ≡ Some set
+      → l.least ≤ℤ reduced l.problem l.prices l.k set;
   within : IsWithin MOST_LEAST l.least;
 }

@@ -22,5 +22,6 @@ returns-clause-value c =
     let less : ℤ = to_z w64 (of_z w64 cost) -ℤ to_z w64 (of_z w64 price) in
     let less_fits : FitsSigned w64 less = search rules in
     let less_told : to_z w64 (of_z w64 less) ≡ less = to_z-of_z w64 less less_fits in
-    let set : set_at c.args.lines.now c.args.i ≡ c.set-set.result = get_or_from_slice_get (sets_of c.args.lines.now) c.args.i c.set-set.result [] c.set-set.ensures in
+    let set : set_at c.args.lines.now c.args.i ≡ c.set-set.result =
+    get_or_from_slice_get (sets_of c.args.lines.now) c.args.i c.set-set.result [] c.set-set.ensures in
     omega (arith, ints, less_told, cost_told, price_told, c.cost_above-cost.ensures.value, c.price_of.ensures.value, ap (line_cost c.args.problem.now c.args.k) set)

@@ -10,7 +10,9 @@ use Rattle.roster_pricing.specs.Reduced.{price_at}
 use Rattle.roster_pricing.proofs.sets.price_of.Goals as goal
 
 pub bounds-prices-p : goal.bounds-prices-p
-bounds-prices-p c = All-is_among (λ p. p < length c.args.prices.now) c.args.set.now c.in-Some.p c.requires.places c.in-Some.ensures.place.2
+bounds-prices-p c =
+    All-is_among
+    (λ p. p < length c.args.prices.now) c.args.set.now c.in-Some.p c.requires.places c.in-Some.ensures.place.2
 
 pub overflow_add-sum : goal.overflow_add-sum
 overflow_add-sum c =
@@ -31,7 +33,9 @@ loop-p-preserved c =
     let inv = c.loop-p.invariant in
     let p = c.in-Some.p in
     let price : ℤ = price_at c.args.prices.now p in
-    let inside : p < length c.args.prices.now = All-is_among (λ q. q < length c.args.prices.now) c.args.set.now p c.requires.places c.in-Some.ensures.place.2 in
+    let inside : p < length c.args.prices.now =
+    All-is_among
+    (λ q. q < length c.args.prices.now) c.args.set.now p c.requires.places c.in-Some.ensures.place.2 in
     let within : IsWithin MOST_PRICE price = c.requires.prices p (pos 0) inside in
     let fits : FitsSigned w64 price = search rules in
     let told : to_z w64 (of_z w64 price) ≡ price = to_z-of_z w64 price fits in
@@ -43,10 +47,13 @@ loop-p-preserved c =
     let low_here = within.0 in
     let high_here = within.1 in
     let whole_fits : FitsSigned w64 whole = search rules in
-    let whole_told : to_z w64 (of_z w64 whole) ≡ before +ℤ price = to_z-of_z w64 whole whole_fits ∙ ap (λ z. before +ℤ z) told in
+    let whole_told : to_z w64 (of_z w64 whole) ≡ before +ℤ price =
+    to_z-of_z w64 whole whole_fits ∙ ap (λ z. before +ℤ z) told in
     let above : c.loop-p.from ≤ p = c.in-Some.ensures.place.0 in
     let below = c.in-Some.ensures.place.1 in
-    let next = ap (total (price_at c.args.prices.now)) c.in-Some.ensures.rest ∙ total-cons (price_at c.args.prices.now) p (places_from (p + 1) c.args.set.now) in
+    let next =
+    ap (total (price_at c.args.prices.now)) c.in-Some.ensures.rest
+    ∙ total-cons (price_at c.args.prices.now) p (places_from (p + 1) c.args.set.now) in
     record {
       so_far = omega (arith, ints, inv.so_far, next, whole_told);
       within = (omega (arith, ints, low, low_here, whole_told, above), omega (arith, ints, high, high_here, whole_told, above));

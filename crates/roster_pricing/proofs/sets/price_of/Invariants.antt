@@ -10,7 +10,8 @@ use Rattle.roster_pricing.proofs.sets.price_of.Given as goal
 -- the prices so far, and those of the pairings that are left
 abbrev pub invariant-loop-p : goal.invariant-loop-p
 invariant-loop-p l = record {
-  so_far : l.sum +ℤ total (price_at l.prices) (places_from l.from l.set) ≡ total (price_at l.prices) (places_from 0 l.set);
+  so_far : l.sum +ℤ total (price_at l.prices) (places_from l.from l.set)
+      ≡ total (price_at l.prices) (places_from 0 l.set);
   within : IsWithin (l.from * MOST_PRICE) l.sum;
   few : l.from ≤ MOST_PAIRINGS;
 }

@@ -29,7 +29,8 @@ loop-f-preserved c =
 pub returns-clause-terms : goal.returns-clause-terms
 returns-clause-terms c =
     let inv = c.loop-f.invariant in
-    let at_end : c.loop-f.f ≡ c.last_state-last.result = omega (arith, c.loop-f-test.false, c.loop-f.auto.f-end) in
+    let at_end : c.loop-f.f ≡ c.last_state-last.result =
+    omega (arith, c.loop-f-test.false, c.loop-f.auto.f-end) in
     terms_are c.args.problem.now c.args.k c.args.step c.loop-f.f c.fixed_flight-fixed.result c.loop-f.terms.items c.push-2.new.self.items (to_z w64 (of_z w64 c.last_term.result)) c.in_ok-push-2.ensures.items inv.long c.fixed_flight-fixed.ensures.value inv.each
     (told c.last_term.result c.last_term.ensures.within ∙ subst (λ n. c.last_term.result ≡ (pos PARTS *ℤ pos (weight_of c.args.problem.now * ((c.fixed_flight-fixed.result + n * c.args.step) - target_of c.args.problem.now c.args.k))) -ℤ missed_at c.args.problem.now c.args.k c.fixed_flight-fixed.result) (sym at_end) c.last_term.ensures.value)
 

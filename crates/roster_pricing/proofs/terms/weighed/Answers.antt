@@ -20,8 +20,11 @@ returns-then-missed-before-clause-value c =
     let turned_fits : FitsSigned w64 turned = search rules in
     let turned_told : to_z w64 (of_z w64 turned) ≡ turned = to_z-of_z w64 turned turned_fits in
     let parted = mul-sub (weight_of c.args.problem.now) c.args.before c.args.missed in
-    let more = mul-le-mul_left (weight_of c.args.problem.now) (le_below c.args.missed c.args.before c.if-missed-before.true) in
-    omega (arith, ints, told, turned_told, parted, more, c.weighed_minutes.ensures.value, c.if-missed-before.true)
+    let more =
+    mul-le-mul_left (weight_of c.args.problem.now)
+    (le_below c.args.missed c.args.before c.if-missed-before.true) in
+    omega
+    (arith, ints, told, turned_told, parted, more, c.weighed_minutes.ensures.value, c.if-missed-before.true)
 
 pub returns-else-missed-before-clause-value : goal.returns-else-missed-before-clause-value
 returns-else-missed-before-clause-value c =
@@ -30,5 +33,7 @@ returns-else-missed-before-clause-value c =
     let fits : FitsSigned w64 result = search rules in
     let told : to_z w64 (of_z w64 result) ≡ result = to_z-of_z w64 result fits in
     let parted = mul-sub (weight_of c.args.problem.now) c.args.missed c.args.before in
-    let more = mul-le-mul_left (weight_of c.args.problem.now) (le_above c.args.before c.args.missed c.if-missed-before.false) in
+    let more =
+    mul-le-mul_left (weight_of c.args.problem.now)
+    (le_above c.args.before c.args.missed c.if-missed-before.false) in
     omega (arith, ints, told, parted, more, c.weighed_minutes-else-missed-before.ensures.value, c.if-missed-before.false)

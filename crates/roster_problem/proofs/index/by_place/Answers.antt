@@ -31,16 +31,20 @@ loop-i-preserved g c =
     (subst (λ entry. (place : Option ℕ) × FnReturnsAt g.F.Fn c.args.place_of entry place) c.index-entries-i.is (c.place_of.result, told)) in
     elim c.match-place_of.branch [
       | in-Some+in_ok-push w ↦
-          let at : FnReturnsAt g.F.Fn c.args.place_of c.index-entries-i.result (Some w.in-Some.place) = subst (FnReturnsAt g.F.Fn c.args.place_of c.index-entries-i.result) w.in-Some.is told in
+          let at : FnReturnsAt g.F.Fn c.args.place_of c.index-entries-i.result (Some w.in-Some.place) =
+          subst (FnReturnsAt g.F.Fn c.args.place_of c.index-entries-i.result) w.in-Some.is told in
           let known = inside_at (λ entry p. FnReturnsAt g.F.Fn c.args.place_of entry (Some p)) c.args.places c.args.entries.now c.loop-i.i w.in-Some.place c.index-entries-i.result c.requires.there (omega arith) c.index-entries-i.is at in
           record {
-            long = ap length (w.lists-is ∙ w.in_ok-push.ensures) ∙ length-set c.loop-i.lists w.in-Some.place _ ∙ c.loop-i.invariant.long;
+            long =
+                ap length (w.lists-is ∙ w.in_ok-push.ensures) ∙ length-set c.loop-i.lists w.in-Some.place _
+                ∙ c.loop-i.invariant.long;
             index = λ belongs tells. subst (IsIndex belongs c.args.places _) (sym (w.lists-is ∙ w.in_ok-push.ensures))
                 (IsIndex-more belongs c.args.places w.in-Some.place c.loop-i.i c.args.entries.now c.index-entries-i.result c.loop-i.lists known (omega arith) c.index-entries-i.is (λ q. tells q c.index-entries-i.result _ at) (c.loop-i.invariant.index belongs tells));
             given = given;
           }
       | in_default w ↦
-          let at : FnReturnsAt g.F.Fn c.args.place_of c.index-entries-i.result None = subst (FnReturnsAt g.F.Fn c.args.place_of c.index-entries-i.result) w.in_default.is told in
+          let at : FnReturnsAt g.F.Fn c.args.place_of c.index-entries-i.result None =
+          subst (FnReturnsAt g.F.Fn c.args.place_of c.index-entries-i.result) w.in_default.is told in
           record {
             long = ap length w.lists-is ∙ c.loop-i.invariant.long;
             index = λ belongs tells. subst (IsIndex belongs c.args.places _) (sym w.lists-is)
@@ -52,8 +56,10 @@ loop-i-preserved g c =
 pub returns-clause-index : goal.returns-clause-index
 returns-clause-index g c belongs tells =
     let all = take_all c.loop-i.i c.args.entries.now (omega arith) in
-    subst (λ entries. IsIndex belongs c.args.places entries c.loop-i.lists) all (c.loop-i.invariant.index belongs tells)
+    subst (λ entries. IsIndex belongs c.args.places entries c.loop-i.lists) all
+    (c.loop-i.invariant.index belongs tells)
 
 pub returns-clause-given : goal.returns-clause-given
 returns-clause-given g c =
-    subst (All (λ entry. (place : Option ℕ) × FnReturnsAt g.F.Fn c.args.place_of entry place)) (take_all c.loop-i.i c.args.entries.now (omega arith)) c.loop-i.invariant.given
+    subst (All (λ entry. (place : Option ℕ) × FnReturnsAt g.F.Fn c.args.place_of entry place))
+    (take_all c.loop-i.i c.args.entries.now (omega arith)) c.loop-i.invariant.given

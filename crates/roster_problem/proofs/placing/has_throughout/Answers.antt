@@ -4,7 +4,9 @@ use Rattle.roster_model.proofs.SetLemmas.{All-is_among}
 use Rattle.roster_problem.proofs.placing.has_throughout.Goals as goal
 
 pub bounds-places-p : goal.bounds-places-p
-bounds-places-p c = All-is_among (λ p. p < length c.args.places.now) c.args.set.now c.in-Some.p c.requires c.in-Some.ensures.place.2
+bounds-places-p c =
+    All-is_among
+    (λ p. p < length c.args.places.now) c.args.set.now c.in-Some.p c.requires c.in-Some.ensures.place.2
 
 pub returns-then-places-p : goal.returns-then-places-p
 returns-then-places-p c = (

@@ -4,5 +4,7 @@ use Rattle.roster_problem.proofs.placing.put.Goals as goal
 
 pub bounds-places-p : goal.bounds-places-p
 bounds-places-p c =
-    let inside = All-is_among (λ p. p < length c.args.places.now) c.args.set.now c.in-Some.p c.requires c.in-Some.ensures.place.2 in
+    let inside =
+    All-is_among
+    (λ p. p < length c.args.places.now) c.args.set.now c.in-Some.p c.requires c.in-Some.ensures.place.2 in
     omega (arith, c.loop-p.auto.places)

@@ -8,7 +8,8 @@ returns-then-word-ge-SET_WORDS c p l = no_bit_past c.args.words.now p (omega (ar
 pub returns-in-Some : goal.returns-in-Some
 returns-in-Some c =
     let from : ℕ = c.args.from in
-    first_in_words c.args.words.now from (from / 64) (from % 64) c.in-Some.bit (omega arith) (λ p l below. absurd (omega arith)) c.in-Some.ensures
+    first_in_words c.args.words.now from (from / 64) (from % 64) c.in-Some.bit (omega arith)
+    (λ p l below. absurd (omega arith)) c.in-Some.ensures
 
 pub returns : goal.returns
 returns c =

@@ -6,7 +6,8 @@ use Rattle.roster_problem.proofs.set.first_in_words.Goals as goal
 
 pub returns-in-Some : goal.returns-in-Some
 returns-in-Some c =
-    first_in_words c.args.words.now (c.args.word * 64) c.loop-i.i 0 c.in-Some.bit (omega arith) (λ p l below. c.loop-i.invariant p l (omega arith)) c.in-Some.ensures
+    first_in_words c.args.words.now (c.args.word * 64) c.loop-i.i 0 c.in-Some.bit (omega arith)
+    (λ p l below. c.loop-i.invariant p l (omega arith)) c.in-Some.ensures
 
 pub loop-i-preserved : goal.loop-i-preserved
 loop-i-preserved c p l below = elim (cases_lt p (c.loop-i.i * 64)) [

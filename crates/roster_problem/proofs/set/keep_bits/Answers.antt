@@ -28,14 +28,17 @@ loop-i-preserved c =
       done = λ j l. elim (cases_eq j i) [
         | inl same ↦
             let was = c.loop-i.invariant.rest i (omega arith) in
-            subst (λ k. get_or (set words i both) k 0 ≡ bit_and (get_or c.args.words.now k 0) (get_or others k 0)) (sym same)
+            subst
+            (λ k. get_or (set words i both) k 0 ≡ bit_and (get_or c.args.words.now k 0) (get_or others k 0))
+            (sym same)
             (get_or-set_same words i both 0 inside ∙ ap (λ word. bit_and word (get_or others i 0)) was)
         | inr other ↦ get_or-set_other words i j both 0 other ∙ c.loop-i.invariant.done j (omega arith)
       ];
       rest = λ j l. get_or-set_other words i j both 0 (λ e. omega arith) ∙ c.loop-i.invariant.rest j (omega arith);
       fits = λ fits.
           let all = c.loop-i.invariant.fits fits in
-          All-set (λ word. word < 2 ^ 64) words i both (let word = all i 0 inside in omega (arith, and_le_l (get_or words i 0) (get_or others i 0))) all;
+          All-set (λ word. word < 2 ^ 64) words i both
+          (let word = all i 0 inside in omega (arith, and_le_l (get_or words i 0) (get_or others i 0))) all;
     }
 
 pub returns-clause-bits : goal.returns-clause-bits

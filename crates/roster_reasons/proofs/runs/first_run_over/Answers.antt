@@ -12,4 +12,5 @@ returns c i d inside =
     let long = length-range_with_len DAYS_BEFORE judged in
     let within : i < judged = omega (arith, long, inside) in
     let day = get_or-range_with_len DAYS_BEFORE judged i d within in
-    subst (λ last. in_run minutes c.args.n last ≤ c.args.most) (sym day) (c.loop-last.invariant (DAYS_BEFORE + i) (omega arith) (omega arith))
+    subst (λ last. in_run minutes c.args.n last ≤ c.args.most) (sym day)
+    (c.loop-last.invariant (DAYS_BEFORE + i) (omega arith) (omega arith))

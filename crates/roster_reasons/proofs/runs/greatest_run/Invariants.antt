@@ -9,6 +9,8 @@ use Rattle.roster_reasons.proofs.runs.greatest_run.Given as goal
 abbrev pub invariant-loop-last : goal.invariant-loop-last
 invariant-loop-last l = record {
   run : IsRun (minutes_by l.measure l.days l.list) l.days l.n l.most l.greatest;
-  most : (before : ℕ) → DAYS_BEFORE ≤ before → before < l.last → in_run (minutes_by l.measure l.days l.list) l.n before ≤ l.greatest.minutes;
-  first : (before : ℕ) → DAYS_BEFORE ≤ before → before < l.greatest.last → in_run (minutes_by l.measure l.days l.list) l.n before < l.greatest.minutes;
+  most : (before : ℕ) → DAYS_BEFORE ≤ before → before < l.last
+      → in_run (minutes_by l.measure l.days l.list) l.n before ≤ l.greatest.minutes;
+  first : (before : ℕ) → DAYS_BEFORE ≤ before → before < l.greatest.last
+      → in_run (minutes_by l.measure l.days l.list) l.n before < l.greatest.minutes;
 }

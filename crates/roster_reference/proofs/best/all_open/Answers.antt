@@ -8,9 +8,12 @@ use Rattle.roster_reference.proofs.best.all_open.Goals as goal
 pub returns : goal.returns
 returns c =
     let problem = c.args.problem.now in
-    let items : c.in_ok-places.places.items ≡ replicate (length problem.pairings) (length problem.persons) = search rules in
+    let items : c.in_ok-places.places.items ≡ replicate (length problem.pairings) (length problem.persons) =
+    search rules in
     let fits : SFits w64 c.roster_cost-cost.result = search rules in
     record {
       legal = subst (IsLegalRoster problem) (sym (c.new.ensures ∙ items)) (all_open_legal problem);
-      cost = to_z-of_z w64 c.roster_cost-cost.result fits ∙ c.roster_cost-cost.ensures ∙ ap (cost_of problem) (c.deref.ensures.value ∙ sym c.new.ensures);
+      cost =
+          to_z-of_z w64 c.roster_cost-cost.result fits ∙ c.roster_cost-cost.ensures
+          ∙ ap (cost_of problem) (c.deref.ensures.value ∙ sym c.new.ensures);
     }

@@ -10,7 +10,9 @@ pub loop-place-init : goal.loop-place-init
 loop-place-init t c = record {
   numbers = c.requires.numbers;
   front = refl;
-  settled = Settles-nothing c.args.problem.now _ Anywhere c.args.best.now c.requires.held (λ others inside. omega (arith, inside.1));
+  settled =
+      Settles-nothing c.args.problem.now _ Anywhere c.args.best.now c.requires.held
+      (λ others inside. omega (arith, inside.1));
 }
 
 pub loop-place-preserved : goal.loop-place-preserved
@@ -22,7 +24,9 @@ loop-place-preserved t c =
     let within : depth < length first = omega (arith, c.requires.within) in
     record {
       numbers = c.in_ok-try_all.ensures.numbers;
-      front = front_less _ _ depth c.in_ok-try_all.ensures.front ∙ take-set places depth place ∙ c.loop-place.invariant.front;
+      front =
+          front_less _ _ depth c.in_ok-try_all.ensures.front ∙ take-set places depth place
+          ∙ c.loop-place.invariant.front;
       settled = Settles-then c.args.problem.now
           (λ others. (take depth others ≡ take depth first) × (get_or others depth 0 < place))
           (λ others. take (depth + 1) others ≡ take (depth + 1) (set places depth place))

@@ -21,13 +21,16 @@ pub returns-then-k-persons-clause-settled : goal.returns-then-k-persons-clause-s
 returns-then-k-persons-clause-settled t c =
     let problem = c.args.problem.now in
     let places = c.args.places.now in
-    let here : length problem.persons ≡ c.args.k = sym (c.if-k-persons.true ∙ ap length c.persons.ensures.value) in
+    let here : length problem.persons ≡ c.args.k =
+    sym (c.if-k-persons.true ∙ ap length c.persons.ensures.value) in
     let P : ℕ → Type 0 = λ n. IsWalkedTo problem n places → Settles problem (λ others. AgreeBefore n places others) Anywhere (Some c.args.best.now) c.take_earlier.new.best in
     subst P here (λ walked. settled_at_end problem places c.args.best.now c.take_earlier.new.best walked c.take_earlier.ensures) c.requires.walked
 
 pub loop-i-init : goal.loop-i-init
 loop-i-init t c = record {
-  person = is_below c.args.k (length c.args.problem.now.persons) (length c.persons.result.now) c.requires.person (ap length c.persons.ensures.value) c.if-k-persons.false;
+  person =
+      is_below c.args.k (length c.args.problem.now.persons) (length c.persons.result.now) c.requires.person
+      (ap length c.persons.ensures.value) c.if-k-persons.false;
   same = refl;
   settled = tried_none c.args.problem.now (sets_of (lines_at c.args.table.now c.args.k)) c.args.k c.args.places.now c.args.best.now c.requires.held;
 }
@@ -36,7 +39,8 @@ pub has_throughout-requires : goal.has_throughout-requires
 has_throughout-requires t c =
     let problem = c.args.problem.now in
     let line = line_in_table problem c.args.table.now c.args.k c.loop-i.i c.set-set.result c.requires.table c.loop-i.invariant.person c.set-set.ensures in
-    let long : length problem.pairings ≡ length c.loop-i.places = sym (c.loop-i.auto.places ∙ c.requires.walked.covers) in
+    let long : length problem.pairings ≡ length c.loop-i.places =
+    sym (c.loop-i.auto.places ∙ c.requires.walked.covers) in
     subst (λ n. All (λ p. p < n) c.set-set.result) long line.places
 
 pub walk-requires : goal.walk-requires

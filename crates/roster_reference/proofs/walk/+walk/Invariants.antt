@@ -13,5 +13,6 @@ abbrev pub invariant-loop-i : goal.invariant-loop-i
 invariant-loop-i l = record {
   person : l.k < length l.problem.persons;
   same : l.places ≡ l.initial.places;
-  settled : Settles l.problem (Tried (sets_of (lines_at l.table l.k)) l.i l.k l.initial.places) Anywhere (Some l.initial.best) l.best;
+  settled : Settles l.problem (Tried (sets_of (lines_at l.table l.k)) l.i l.k l.initial.places) Anywhere
+      (Some l.initial.best) l.best;
 }

@@ -22,8 +22,11 @@ loop-value-preserved c =
     let low = c.loop-value.invariant.bound.0 in
     let high = c.loop-value.invariant.bound.1 in
     let few : i + 1 ≤ MOST_PAIRINGS = omega (arith, c.requires.few, c.loop-value-test.true) in
-    let both : SFits w64 (to_z w64 c.loop-value.sum-bits +ℤ to_z w64 (of_z w64 (get_or values i (pos 0)))) = omega (arith, ints, here.0, here.1, item, low, high, few) in
-    let new = to_z-of_z w64 (to_z w64 c.loop-value.sum-bits +ℤ to_z w64 (of_z w64 (get_or values i (pos 0)))) both in
+    let both : SFits w64 (to_z w64 c.loop-value.sum-bits +ℤ to_z w64 (of_z w64 (get_or values i (pos 0)))) =
+    omega (arith, ints, here.0, here.1, item, low, high, few) in
+    let new =
+    to_z-of_z w64
+    (to_z w64 c.loop-value.sum-bits +ℤ to_z w64 (of_z w64 (get_or values i (pos 0)))) both in
     record {
       so_far = omega (arith, ints, new, item, more, c.loop-value.invariant.so_far);
       bound = (omega (arith, ints, new, item, here.0, low), omega (arith, ints, new, item, here.1, high));

@@ -18,13 +18,19 @@ keep-requires-clause-known c = (_, c.in_ok-go_to.ensures.writing _ c.loop-i.inva
 pub loop-i-preserved : goal.loop-i-preserved
 loop-i-preserved c =
     let entry : Entry = get_or c.args.lines.now c.loop-i.i no_entry in
-    let inside : c.loop-i.i < length c.args.lines.now = omega (arith, c.min-end.ensures, c.width.ensures.value) in
+    let inside : c.loop-i.i < length c.args.lines.now =
+    omega (arith, c.min-end.ensures, c.width.ensures.value) in
     let at = slice_get-get_or c.args.lines.now c.loop-i.i no_entry inside in
-    let front : List AllowedLine = allowed_between c.args.scale c.args.lines.now c.min-start.result c.loop-i.i in
+    let front : List AllowedLine =
+    allowed_between c.args.scale c.args.lines.now c.min-start.result c.loop-i.i in
     let written = c.in_ok-keep.ensures front (c.in_ok-go_to.ensures.writing front c.loop-i.invariant) in
-    let extra = to_z-of_z w64 c.extra_of.result (record { sfits = c.extra_of.type_inv }) ∙ c.extra_of.ensures.value entry at in
-    let set = c.in_ok-go_to.ensures.path ∙ set_is c.args.lines.now c.loop-i.i c.set.result entry c.set.ensures at in
-    let line : allowed c.go_to.new.self.path _ ≡ allowed_in c.args.scale c.args.lines.now entry = ap₂ allowed set extra in
+    let extra =
+    to_z-of_z w64 c.extra_of.result (record { sfits = c.extra_of.type_inv })
+    ∙ c.extra_of.ensures.value entry at in
+    let set =
+    c.in_ok-go_to.ensures.path ∙ set_is c.args.lines.now c.loop-i.i c.set.result entry c.set.ensures at in
+    let line : allowed c.go_to.new.self.path _ ≡ allowed_in c.args.scale c.args.lines.now entry =
+    ap₂ allowed set extra in
     subst (IsWriting c.keep.new.self c.go_to.new.self.path)
     (sym (allowed_between-more c.args.scale c.args.lines.now c.min-start.result c.loop-i.i entry c.loop-i.auto.i inside (get_or_from_slice_get c.args.lines.now c.loop-i.i entry entry at)))
     (subst (λ (l : AllowedLine). IsWriting c.keep.new.self c.go_to.new.self.path (front ++ l ∷ [])) line written)

@@ -23,7 +23,9 @@ loop-i-preserved c =
     let choices = c.args.rows.now in
     let item = c.at-choice.result in
     record {
-      there = c.in_ok-step.ensures ∙ ap (λ path. next_path path item) c.loop-i.invariant.there ∙ sym (path_at choices c.loop-i.i item c.at-choice.ensures.value);
+      there =
+          c.in_ok-step.ensures ∙ ap (λ path. next_path path item) c.loop-i.invariant.there
+          ∙ sym (path_at choices c.loop-i.i item c.at-choice.ensures.value);
       marking =
           marked_at (λ line. agrees c.args.wanted (is_among line.set c.args.p)) choices c.loop-i.i item c.is_wanted.result _ _ _ _
           c.at-choice.ensures.value c.in_ok-step.ensures c.loop-i.invariant.there

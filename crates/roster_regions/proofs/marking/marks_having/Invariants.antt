@@ -9,5 +9,6 @@ use Rattle.roster_regions.proofs.marking.marks_having.Given as goal
 abbrev pub invariant-loop-i : goal.invariant-loop-i
 invariant-loop-i l = record {
   there : l.path ≡ path_after [] (take l.i l.rows);
-  marking : IsMarking l.marker (take l.i l.rows) (filter (λ line. agrees l.wanted (is_among line.set l.p)) (lines_in (take l.i l.rows)));
+  marking : IsMarking l.marker (take l.i l.rows)
+      (filter (λ line. agrees l.wanted (is_among line.set l.p)) (lines_in (take l.i l.rows)));
 }

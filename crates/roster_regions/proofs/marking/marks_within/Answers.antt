@@ -27,11 +27,16 @@ loop-i-preserved c =
     let item = c.at-choice.result in
     let there = c.in_ok-step.ensures ∙ ap (λ path. next_path path item) c.loop-i.invariant.there in
     let sums = c.step-in-loop-i.ensures (path_after [] (take c.loop-i.i choices)) c.loop-i.invariant.sums in
-    let value = c.value.ensures.value c.args.prices.now (next_path (path_after [] (take c.loop-i.i choices)) item) sums in
-    let fits : SFits w64 c.value.result = omega (arith, ints, c.value.ensures.bound.0, c.value.ensures.bound.1) in
+    let value =
+    c.value.ensures.value c.args.prices.now
+    (next_path (path_after [] (take c.loop-i.i choices)) item) sums in
+    let fits : SFits w64 c.value.result =
+    omega (arith, ints, c.value.ensures.bound.0, c.value.ensures.bound.1) in
     record {
       there = there ∙ sym (path_at choices c.loop-i.i item c.at-choice.ensures.value);
-      sums = subst (AreSums c.args.prices.now c.step-in-loop-i.new.self) (sym (path_at choices c.loop-i.i item c.at-choice.ensures.value)) sums;
+      sums =
+          subst (AreSums c.args.prices.now c.step-in-loop-i.new.self)
+          (sym (path_at choices c.loop-i.i item c.at-choice.ensures.value)) sums;
       marking =
           marked_at (λ line. int_le (value_of c.args.prices.now line) (to_z w64 (of_z w64 c.args.most))) choices c.loop-i.i item _ _ _ _ _
           c.at-choice.ensures.value c.in_ok-step.ensures c.loop-i.invariant.there

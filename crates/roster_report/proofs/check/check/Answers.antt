@@ -21,7 +21,8 @@ returns c =
     let locks : List (Option Rule) = map (option_map rule_of) c.in_ok-locks.locks.items in
     let verdicts : List (Option Rule) = map (option_map rule_of) c.in_ok-verdicts.verdicts.items in
     let given : c.as_slice-locked.result.now ≡ c.in_ok-locks.locks.items = c.as_slice-locked.ensures.value in
-    let told : c.as_slice-broken.result.now ≡ c.in_ok-verdicts.verdicts.items = c.as_slice-broken.ensures.value in
+    let told : c.as_slice-broken.result.now ≡ c.in_ok-verdicts.verdicts.items =
+    c.as_slice-broken.ensures.value in
     let persons = rw (given, told) at c.in_ok-push_verdicts.ensures in
     record {
       locks = locks;

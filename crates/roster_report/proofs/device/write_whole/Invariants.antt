@@ -6,7 +6,8 @@ abbrev pub invariant-loop-written : goal.invariant-loop-written
 invariant-loop-written g l = record {
   within : l.written ≤ length l.text;
   going : l.writer.failed ≡ false;
-  so_far : Appends (g.W.Write.contents l.fn.writer.inner) (g.W.Write.contents l.writer.inner) (take l.written l.text);
+  so_far : Appends (g.W.Write.contents l.fn.writer.inner) (g.W.Write.contents l.writer.inner)
+      (take l.written l.text);
 }
 
 abbrev pub decreases-loop-written : goal.decreases-loop-written

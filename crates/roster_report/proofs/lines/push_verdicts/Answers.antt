@@ -14,8 +14,11 @@ loop-k-preserved c =
     let verdicts : List (Option model.Rule) = map (option_map rule_of) c.args.verdicts.now in
     let person : Person = c.person-item.result in
     let all = ap length c.persons-person-items.ensures.value in
-    let lock : rule_at locks c.loop-k.k ≡ option_map rule_of _ = rule_at-map c.args.locks.now c.loop-k.k _ (omega arith) in
-    let verdict : rule_at verdicts c.loop-k.k ≡ option_map rule_of _ = rule_at-map c.args.verdicts.now c.loop-k.k _ (omega arith) in
-    let line = c.in_ok-push_verdict.ensures ∙ ap (λ v. c.loop-k.out.items ++ verdict_line person v) (sym verdict) in
+    let lock : rule_at locks c.loop-k.k ≡ option_map rule_of _ =
+    rule_at-map c.args.locks.now c.loop-k.k _ (omega arith) in
+    let verdict : rule_at verdicts c.loop-k.k ≡ option_map rule_of _ =
+    rule_at-map c.args.verdicts.now c.loop-k.k _ (omega arith) in
+    let line =
+    c.in_ok-push_verdict.ensures ∙ ap (λ v. c.loop-k.out.items ++ verdict_line person v) (sym verdict) in
     let written = c.in_ok-push_lock.ensures ∙ ap (λ l. c.push_verdict.new.out.items ++ lock_line person l) (sym lock) ∙ ap (λ xs. xs ++ lock_line person (rule_at locks c.loop-k.k)) line ∙ append_assoc c.loop-k.out.items (verdict_line person (rule_at verdicts c.loop-k.k)) (lock_line person (rule_at locks c.loop-k.k)) in
     lines-more (λ (entry : ℕ × Person). verdict_line entry.1 (rule_at verdicts entry.0) ++ lock_line entry.1 (rule_at locks entry.0)) _ c.args.problem.now.persons c.loop-k.k person _ _ _ c.persons-person-items.ensures.value c.loop-k-test.true c.person-item.is c.loop-k.invariant written

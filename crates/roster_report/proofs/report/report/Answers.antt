@@ -19,7 +19,8 @@ returns c =
     let heading = c.in_ok-push_heading.ensures ∙ ap (λ (t : List ℕ). t ++ line_of (codes "ROSTER" ∷ period_text c.period.result ∷ [])) c.new-text.ensures.items ∙ ap (λ (p : Period). line_of (codes "ROSTER" ∷ period_text p ∷ [])) c.period.ensures in
     let inside = c.roster.inside in
     let fits : FitsSigned w64 inside.cost = search rules in
-    let told = to_z-of_z w64 inside.cost fits ∙ ap (λ (key : Key). key.cost) c.roster.view_is ∙ c.requires.cost in
+    let told =
+    to_z-of_z w64 inside.cost fits ∙ ap (λ (key : Key). key.cost) c.roster.view_is ∙ c.requires.cost in
     let placed = c.as_slice-places.ensures ∙ ap (λ (key : Key). key.places) c.roster.view_is in
     let cost = c.in_ok-push_amount.ensures ∙ ap (λ (z : ℤ). c.push_heading.new.out.items ++ line_of (codes "COST" ∷ signed_decimal z ∷ [])) told in
     let locks : List (Option Rule) = map (option_map rule_of) c.in_ok-locks.locks.items in

@@ -9,4 +9,6 @@ loop-k-preserved c =
 
 pub returns : goal.returns
 returns c =
-    AreOfEach-before (IsLock c.args.problem.now) c.args.problem.now c.loop-k.k c.loop-k.locks.items c.loop-k.invariant (omega (arith, ap length c.persons-count.ensures.value))
+    AreOfEach-before
+    (IsLock c.args.problem.now) c.args.problem.now c.loop-k.k c.loop-k.locks.items c.loop-k.invariant
+    (omega (arith, ap length c.persons-count.ensures.value))

@@ -12,7 +12,9 @@ returns-else-i-gt0 c =
     longer_block c.args.days.now list c.args.first i c.requires.block (elim c.else-i-gt0.branch [
       | else-i-gt0-via-then-i-gt0+else-have_rest_between w ↦ λ past rest.
           let next : i ≡ i - 1 + 1 = omega arith in
-          let second = subst (λ k. slice_get list k ≡ Some w.duty-then-i-gt0.result.now) next w.duty-then-i-gt0.ensures in
+          let second =
+          subst
+          (λ k. slice_get list k ≡ Some w.duty-then-i-gt0.result.now) next w.duty-then-i-gt0.ensures in
           let recurrent = recurrent_at c.args.days.now list (i - 1) _ _ w.duty.ensures second rest in
           absurd (both_ways _ w.if-have_rest_between.false (w.have_rest_between.ensures.1 recurrent))
       | else-i-gt0-via-else-i-gt0 w ↦ λ past rest. absurd (omega (arith, w.if-i-gt0.false, past))

@@ -11,9 +11,11 @@ loop-night-init c =
     let days = c.args.days.now in
     let test = holds_night days c.args.from c.args.to in
     let first = c.saturating_sub-first.result in
-    let mornings : (k : ℕ) → k < first → k + 1 < c.mornings_by.result = λ k below. omega (arith, c.saturating_sub-first.ensures) in
+    let mornings : (k : ℕ) → k < first → k + 1 < c.mornings_by.result =
+    λ k below. omega (arith, c.saturating_sub-first.ensures) in
     let none = count-same test 0 first (omega arith) (λ k from below.
-    not_held_before days c.args.from c.args.to k (c.mornings_by.ensures.value.0 (k + 1) 0 (omega arith) (mornings k below))) in
+    not_held_before days c.args.from c.args.to k
+    (c.mornings_by.ensures.value.0 (k + 1) 0 (omega arith) (mornings k below))) in
     record {
       count = sym none;
       few = omega arith;
@@ -26,9 +28,11 @@ returns-then-le c =
     let night = c.loop-night.night in
     let ten = get_or_from_slice_get days.ten night c.ten.result 0 c.ten.ensures.value in
     let begun : c.args.to ≤ c.ten.result = search rules in
-    let inside : night < length days.eight - 1 = omega (arith, c.loop-night-test.true, c.days-night-end.ensures.value) in
+    let inside : night < length days.eight - 1 =
+    omega (arith, c.loop-night-test.true, c.days-night-end.ensures.value) in
     let none = count-same test night (length days.eight - 1) (omega arith) (λ k from below.
-    not_held_after days c.ten.ensures.table c.args.from c.args.to night k from (omega arith) (omega (arith, ten, begun))) in
+    not_held_after days c.ten.ensures.table c.args.from c.args.to night k from (omega arith)
+    (omega (arith, ten, begun))) in
     let few = c.loop-night.invariant.few in
     let count = c.loop-night.invariant.count in
     (λ h. absurd (false≢true h), λ many. absurd (omega (arith, none, few, count, many)))
@@ -44,8 +48,11 @@ pub returns-then-held-eq-RECURRENT_NIGHTS : goal.returns-then-held-eq-RECURRENT_
 returns-then-held-eq-RECURRENT_NIGHTS c =
     let days = c.args.days.now in
     let night = c.loop-night.night in
-    let inside : night < length days.eight - 1 = omega (arith, c.loop-night-test.true, c.days-night-end.ensures.value) in
-    let rest = count-rises (holds_night days c.args.from c.args.to) (night + 1) (length days.eight - 1) (omega arith) in
+    let inside : night < length days.eight - 1 =
+    omega (arith, c.loop-night-test.true, c.days-night-end.ensures.value) in
+    let rest =
+    count-rises (holds_night days c.args.from c.args.to) (night + 1) (length days.eight - 1)
+    (omega arith) in
     (λ h. omega (arith, (counted (goal.at.returns-then-held-eq-RECURRENT_NIGHTS c).After-from-held).0, rest, c.if-held-eq-RECURRENT_NIGHTS.true), λ many. refl)
 
 pub loop-night-preserved : goal.loop-night-preserved

@@ -10,9 +10,11 @@ pub loop-night-init : goal.loop-night-init
 loop-night-init c =
     let days = c.args.days.now in
     let first = c.saturating_sub-first.result in
-    let mornings : (k : ℕ) → k < first → k + 1 < c.mornings_by.result = λ k below. omega (arith, c.saturating_sub-first.ensures) in
+    let mornings : (k : ℕ) → k < first → k + 1 < c.mornings_by.result =
+    λ k below. omega (arith, c.saturating_sub-first.ensures) in
     let none = count-same (can_hold days c.args.from) 0 first (omega arith) (λ k from below.
-    cannot_hold days c.args.from k (c.mornings_by.ensures.value.0 (k + 1) 0 (omega arith) (mornings k below))) in
+    cannot_hold days c.args.from k
+    (c.mornings_by.ensures.value.0 (k + 1) 0 (omega arith) (mornings k below))) in
     record { count = sym none; few = omega arith }
 
 -- with this night, which adds one at most
@@ -26,11 +28,14 @@ pub returns-then-held-eq-RECURRENT_NIGHTS : goal.returns-then-held-eq-RECURRENT_
 returns-then-held-eq-RECURRENT_NIGHTS c =
     let days = c.args.days.now in
     let night = c.loop-night.night in
-    let inside : night < length days.eight - 1 = omega (arith, c.loop-night-test.true, c.days-night-end.ensures.value) in
+    let inside : night < length days.eight - 1 =
+    omega (arith, c.loop-night-test.true, c.days-night-end.ensures.value) in
     let all = (counted (goal.at.returns-then-held-eq-RECURRENT_NIGHTS c).After-from-held).0 in
     let few = c.loop-night.invariant.few in
     let count = c.loop-night.invariant.count in
-    rested-found days c.mornings_by.ensures.table c.args.from night inside (omega (arith, all, c.if-held-eq-RECURRENT_NIGHTS.true)) (omega (arith, few, count)) c.max.result (search rules)
+    rested-found days c.mornings_by.ensures.table c.args.from night inside
+    (omega (arith, all, c.if-held-eq-RECURRENT_NIGHTS.true)) (omega (arith, few, count)) c.max.result
+    (search rules)
 
 pub loop-night-preserved : goal.loop-night-preserved
 loop-night-preserved c =
@@ -39,8 +44,11 @@ loop-night-preserved c =
 
 pub returns : goal.returns
 returns c =
-    let last : c.loop-night.night ≡ length c.args.days.now.eight - 1 = omega (arith, c.loop-night-test.false, c.days-night-end.ensures.value) in
+    let last : c.loop-night.night ≡ length c.args.days.now.eight - 1 =
+    omega (arith, c.loop-night-test.false, c.days-night-end.ensures.value) in
     let few = c.loop-night.invariant.few in
     let count = c.loop-night.invariant.count in
-    let below : count_below (can_hold c.args.days.now c.args.from) c.loop-night.night < RECURRENT_NIGHTS = omega (arith, few, count) in
-    rested-never c.args.days.now c.mornings_by.ensures.table c.args.from (subst (λ n. count_below (can_hold c.args.days.now c.args.from) n < RECURRENT_NIGHTS) last below)
+    let below : count_below (can_hold c.args.days.now c.args.from) c.loop-night.night < RECURRENT_NIGHTS =
+    omega (arith, few, count) in
+    rested-never c.args.days.now c.mornings_by.ensures.table c.args.from
+    (subst (λ n. count_below (can_hold c.args.days.now c.args.from) n < RECURRENT_NIGHTS) last below)

@@ -13,7 +13,9 @@ use Rattle.roster_run.proofs.BookAnswers.{part_where_failed, text-weaker, writte
 use Rattle.roster_run.proofs.running.answer_best.Goals as goal
 
 -- nobody has too many lines, so the report of the best roster is what is answered
-best_report : (problem : Problem) (places : List ℕ) → IsBest problem places → ((k : ℕ) → k < length problem.persons → ¬ IsCrowded problem k) → (text : List ℕ) → IsReportOf problem places text → IsProblemReport Solve problem [] text
+best_report : (problem : Problem) (places : List ℕ) → IsBest problem places
+    → ((k : ℕ) → k < length problem.persons → ¬ IsCrowded problem k) → (text : List ℕ)
+    → IsReportOf problem places text → IsProblemReport Solve problem [] text
 best_report problem places best few text written = record {
   faultless = λ fault told. few told.k told.crowded.person told.crowded.crowded;
   reports = record { places = places; best = best; written = written };
@@ -24,8 +26,11 @@ returns-in-Ok-clause-answered g c = λ answered.
     let problem = c.args.problem.now in
     let places = c.deref.result.now.places in
     let best = subst (λ (key : Key). IsBest problem key.places) (sym c.deref.ensures) (IfOk-at_ok (λ solved. IsBestKey problem (arc_value solved.roster)) c.in-Ok.is c.requires.best).best in
-    let few = IfOk-at_ok (λ _. (k : ℕ) → k < length problem.persons → ¬ IsCrowded problem k) c.in-Ok.is c.requires.few in
-    text-weaker (IsReportOf problem places) (IsProblemReport Solve problem []) _ (best_report problem places best few)
+    let few =
+    IfOk-at_ok
+    (λ _. (k : ℕ) → k < length problem.persons → ¬ IsCrowded problem k) c.in-Ok.is c.requires.few in
+    text-weaker (IsReportOf problem places) (IsProblemReport Solve problem []) _
+    (best_report problem places best few)
     (written_where_answered c.write_report.result _ (sym c.told.ensures ∙ answered) c.write_report.ensures.written)
 
 pub returns-in-Ok-clause-part : goal.returns-in-Ok-clause-part
@@ -33,6 +38,9 @@ returns-in-Ok-clause-part g c = λ failed.
     let problem = c.args.problem.now in
     let places = c.deref.result.now.places in
     let best = subst (λ (key : Key). IsBest problem key.places) (sym c.deref.ensures) (IfOk-at_ok (λ solved. IsBestKey problem (arc_value solved.roster)) c.in-Ok.is c.requires.best).best in
-    let few = IfOk-at_ok (λ _. (k : ℕ) → k < length problem.persons → ¬ IsCrowded problem k) c.in-Ok.is c.requires.few in
-    text-weaker (IsReportOf problem places) (IsProblemAnswer Solve problem []) _ (λ text written. inr (best_report problem places best few text written))
+    let few =
+    IfOk-at_ok
+    (λ _. (k : ℕ) → k < length problem.persons → ¬ IsCrowded problem k) c.in-Ok.is c.requires.few in
+    text-weaker (IsReportOf problem places) (IsProblemAnswer Solve problem []) _
+    (λ text written. inr (best_report problem places best few text written))
     (part_where_failed c.write_report.result _ (sym c.told.ensures ∙ failed) c.write_report.ensures.prefix)

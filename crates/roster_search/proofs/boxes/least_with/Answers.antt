@@ -13,7 +13,8 @@ returns-in-None-clause-settled g c =
     let problem = c.args.problem.now in
     let table = c.args.table.now in
     let ranges = c.args.ranges.now in
-    let covers : length ranges ≡ length problem.persons = omega (arith, c.requires.ranges, c.requires.table.covers) in
+    let covers : length ranges ≡ length problem.persons =
+    omega (arith, c.requires.ranges, c.requires.table.covers) in
     let none : IsWithoutPart problem table ranges = subst (λ found. MatchOption found (IsWithoutPart problem table ranges) (λ places. IsLeast problem (IsInRanges table ranges) (key_of problem places.items))) c.in-None.is c.in_ok-places.ensures.least in
     settled_by_none problem table ranges none.0 c.args.known.now covers c.requires.known none.1 c.costs_fit.ensures.high
 
@@ -22,6 +23,7 @@ returns-in-Some-clause-settled g c =
     let problem = c.args.problem.now in
     let table = c.args.table.now in
     let ranges = c.args.ranges.now in
-    let covers : length ranges ≡ length problem.persons = omega (arith, c.requires.ranges, c.requires.table.covers) in
+    let covers : length ranges ≡ length problem.persons =
+    omega (arith, c.requires.ranges, c.requires.table.covers) in
     let least = MatchOption-at_some _ _ _ c.in-Some.is c.in_ok-places.ensures.least in
     settled_by_earlier problem (IsInRanges table ranges) (IsInRanges table ranges) c.args.known.now c.in-Some.places.items c.if_before.result c.requires.known least.held.legal least.least least.inside c.if_before.ensures.earlier

@@ -14,5 +14,8 @@ returns-clause-least g c =
     let problem = c.args.problem.now in
     let table = c.args.table.now in
     let ranges = c.args.ranges.now in
-    let covers : length ranges ≡ length problem.persons = omega (arith, c.requires.ranges, c.requires.table.covers) in
-    least_of_all problem table ranges c.loop-base.base (key_of problem c.loop-base.places.items) c.is_sound.ensures.sound covers (omega (arith, c.loop-base-test.false, c.loop-base.auto.base-end)) c.loop-base.invariant.least
+    let covers : length ranges ≡ length problem.persons =
+    omega (arith, c.requires.ranges, c.requires.table.covers) in
+    least_of_all problem table ranges c.loop-base.base
+    (key_of problem c.loop-base.places.items) c.is_sound.ensures.sound covers
+    (omega (arith, c.loop-base-test.false, c.loop-base.auto.base-end)) c.loop-base.invariant.least

@@ -6,6 +6,7 @@ use Rattle.roster_search.proofs.boxes.merged_bases.Given as goal
 -- the bases so far are merged
 abbrev pub invariant-loop-base : goal.invariant-loop-base
 invariant-loop-base g l = record {
-  least : IsLeast l.problem (IsInPart l.problem l.table l.ranges (before l.base)) (key_of l.problem l.places.items);
+  least : IsLeast l.problem (IsInPart l.problem l.table l.ranges (before l.base))
+      (key_of l.problem l.places.items);
   goes_on : g.F.Finder.goes_on l.initial.finder l.finder;
 }

@@ -14,7 +14,8 @@ returns-clause-settled g c =
     let table = c.args.table.now in
     let known : Key = c.args.known.now in
     let ranges = c.as_slice-ranges.result.now in
-    let are = subst (AreWhole table (length table)) (sym c.as_slice-ranges.ensures.value) c.in_ok-ranges.ensures in
+    let are =
+    subst (AreWhole table (length table)) (sym c.as_slice-ranges.ensures.value) c.in_ok-ranges.ensures in
     if_ok c.least_with.result
     (λ found. Settles problem (IsInRanges table ranges) (IsInRanges table ranges) (Some known) (unwrap_or found known))
     (λ found. Settles problem Anywhere Anywhere (Some known) (unwrap_or found known))

@@ -15,12 +15,14 @@ returns-in-Some-clause-least g c =
     let problem = c.args.problem.now in
     let table = c.args.table.now in
     let ranges = c.args.ranges.now in
-    let covers : length ranges ≡ length problem.persons = omega (arith, c.requires.ranges, c.requires.table.covers) in
+    let covers : length ranges ≡ length problem.persons =
+    omega (arith, c.requires.ranges, c.requires.table.covers) in
     let base : ℕ = c.args.base in
     let part = subst (λ found. IsLeastBelow problem (IsInPart problem table ranges (λ b. eqb b base)) (pos (2 ^ 63 - 1)) found) c.in-Some.is c.in_ok-part.ensures.least in
     let old : List ℕ = c.args.places.items in
     let new : List ℕ = c.in_ok-merged-in-Some.field-0.items in
-    let seen : new ≡ merge problem (λ b. eqb b base) c.in-Some.part.places c.deref.result.now = c.in_ok-merged-in-Some.ensures in
+    let seen : new ≡ merge problem (λ b. eqb b base) c.in-Some.part.places c.deref.result.now =
+    c.in_ok-merged-in-Some.ensures in
     let same : new ≡ merge problem (λ b. eqb b base) c.in-Some.part.places old =
     seen ∙ ap (merge problem (λ b. eqb b base) c.in-Some.part.places) c.deref.ensures.value in
     least_of_next c.shares_add_up.ensures problem table ranges base c.in-Some.part old new covers part.0 c.requires.least same

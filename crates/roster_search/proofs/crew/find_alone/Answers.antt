@@ -12,7 +12,8 @@ returns-in-Some-2 c =
     let problem = c.args.problem.now in
     let most : ℤ = to_z w64 (of_z w64 c.args.most) in
     let found = subst (λ (found : Option Key). IsFoundWithin problem (IsIn problem c.in-Some.node) most found) c.in-Some-2.is c.in_ok-roster.ensures.found in
-    subst (λ most. IsWithinCost problem (IsInSome problem c.args.nodes.items) most c.in-Some-2.roster) (to_z-of_z w64 c.args.most c.ranges.most)
+    subst (λ most. IsWithinCost problem (IsInSome problem c.args.nodes.items) most c.in-Some-2.roster)
+    (to_z-of_z w64 c.args.most c.ranges.most)
     (left_found problem (IsInSome problem c.args.nodes.items) most c.loop-node.nodes.items c.pop.new.self.items c.in-Some.node c.in-Some-2.roster c.loop-node.invariant c.in-Some.ensures.items found)
 
 pub loop-node-preserved : goal.loop-node-preserved

@@ -15,8 +15,13 @@ returns g t c =
     let nodes : List Region = c.args.nodes.items in
     let mine : List Region = c.in_ok-mine.mine.items in
     let theirs : List Region = c.in_ok-mine.theirs.items in
-    let here = IfOk-at_ok (IsExplored problem (IsInSome problem mine) most) c.in_ok-here.was c.join-here.ensures.first in
-    let there = IfOk-at_ok (IsExplored problem (IsInSome problem theirs) most) c.in_ok-there.was c.join-here.ensures.second in
+    let here =
+    IfOk-at_ok
+    (IsExplored problem (IsInSome problem mine) most) c.in_ok-here.was c.join-here.ensures.first in
+    let there =
+    IfOk-at_ok
+    (IsExplored problem (IsInSome problem theirs) most) c.in_ok-there.was c.join-here.ensures.second in
     let found = if_ok c.both.result _ (IsExplored problem (IsInSome problem nodes) most) c.both.ensures
     (λ both is. explored_dealt problem most nodes mine theirs both c.in_ok-mine.ensures (is problem mine theirs most here there)) in
-    subst (λ most. IfOk c.both.result (IsExplored problem (IsInSome problem nodes) most)) (to_z-of_z w64 c.args.most c.ranges.most) found
+    subst (λ most. IfOk c.both.result (IsExplored problem (IsInSome problem nodes) most))
+    (to_z-of_z w64 c.args.most c.ranges.most) found

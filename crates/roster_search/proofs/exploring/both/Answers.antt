@@ -5,11 +5,13 @@ use Rattle.roster_search.proofs.exploring.both.Goals as goal
 
 pub returns-in-Found : goal.returns-in-Found
 returns-in-Found c problem mine theirs most here there =
-    found_here problem most mine theirs c.in-Found.roster (subst (IsExplored problem (IsInSome problem mine) most) c.in-Found.is here)
+    found_here problem most mine theirs c.in-Found.roster
+    (subst (IsExplored problem (IsInSome problem mine) most) c.in-Found.is here)
 
 pub returns-in-Found-there : goal.returns-in-Found-there
 returns-in-Found-there c problem mine theirs most here there =
-    found_there problem most mine theirs c.in-Found-there.roster (subst (IsExplored problem (IsInSome problem theirs) most) c.in-Found-there.is there)
+    found_there problem most mine theirs c.in-Found-there.roster
+    (subst (IsExplored problem (IsInSome problem theirs) most) c.in-Found-there.is there)
 
 pub returns-in_ok-append-in-Open-there : goal.returns-in_ok-append-in-Open-there
 returns-in_ok-append-in-Open-there c problem mine theirs most here there =

@@ -5,7 +5,8 @@ use Rattle.roster_search.proofs.exploring.dealt.Goals as goal
 pub loop-node-init : goal.loop-node-init
 loop-node-init c =
     let problem = c.args.problem.now in
-    subst (λ mine. IsDealing problem c.args.nodes.items mine c.new-theirs.result.items c.args.nodes.items) (sym c.new-mine.ensures.items)
+    subst (λ mine. IsDealing problem c.args.nodes.items mine c.new-theirs.result.items c.args.nodes.items)
+    (sym c.new-mine.ensures.items)
     (subst (λ theirs. IsDealing problem c.args.nodes.items [] theirs c.args.nodes.items) (sym c.new-theirs.ensures.items) (dealing_begins problem c.args.nodes.items c.requires))
 
 pub loop-node-preserved-in-Continue-1 : goal.loop-node-preserved-in-Continue-1

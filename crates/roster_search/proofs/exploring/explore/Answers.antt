@@ -11,5 +11,6 @@ returns-in-Some c =
     let problem = c.args.problem.now in
     let most : ℤ = to_z w64 (of_z w64 c.args.most) in
     let found = MatchOption-at_some _ _ _ c.in-Some.is c.in_ok-roster.ensures in
-    subst (λ most. IsWithinCost problem (IsInSome problem c.args.nodes.items) most c.in-Some.roster) (to_z-of_z w64 c.args.most c.ranges.most)
+    subst (λ most. IsWithinCost problem (IsInSome problem c.args.nodes.items) most c.in-Some.roster)
+    (to_z-of_z w64 c.args.most c.ranges.most)
     (found_then problem (IsInSome problem c.args.nodes.items) most c.loop.nodes.items c.in-Some.roster c.loop.invariant found)

@@ -29,6 +29,9 @@ returns-in_ok-push-in-Parted-2 c =
     let new : List Region = c.push-in-Parted.new.self.items in
     let visited = subst (IsVisited problem c.in-Some.node most) c.in-Parted.is c.in_ok-found.ensures in
     let are = All-pop (IsRegion problem) old front c.pop.result c.pop.ensures.items c.requires in
-    let more : new ≡ (front ++ others ∷ []) ++ having ∷ [] = c.in_ok-push-in-Parted-2.ensures.items ∙ ap (λ xs. xs ++ having ∷ []) c.in_ok-push-in-Parted.ensures.items in
-    subst (λ most. AreOpenOf problem (IsInSome problem old) most new) (to_z-of_z w64 c.args.most c.ranges.most)
+    let more : new ≡ (front ++ others ∷ []) ++ having ∷ [] =
+    c.in_ok-push-in-Parted-2.ensures.items
+    ∙ ap (λ xs. xs ++ having ∷ []) c.in_ok-push-in-Parted.ensures.items in
+    subst (λ most. AreOpenOf problem (IsInSome problem old) most new)
+    (to_z-of_z w64 c.args.most c.ranges.most)
     (parts_of_last problem most old front new c.in-Some.node having others c.in-Some.ensures.items more are.0 visited)

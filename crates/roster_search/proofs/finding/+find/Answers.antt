@@ -14,7 +14,8 @@ returns-in-Some-clause-found g t c =
     let most : ℤ = to_z w64 (of_z w64 c.args.most) in
     let parted = subst (IsVisited problem c.args.node most) c.in-Parted.is c.in_ok-found.ensures in
     let found = subst (λ (found : Option Key). IsFoundWithin problem (IsIn problem c.in-Parted.having) most found) c.in-Some.is c.in_ok-roster-in-Parted.ensures.found in
-    subst (λ most. IsWithinCost problem (IsIn problem c.args.node) most c.in-Some.roster) (to_z-of_z w64 c.args.most c.ranges.most)
+    subst (λ most. IsWithinCost problem (IsIn problem c.args.node) most c.in-Some.roster)
+    (to_z-of_z w64 c.args.most c.ranges.most)
     (found_in_having problem most c.args.node c.in-Parted.having c.in-Parted.others c.in-Some.roster parted found)
 
 pub returns-in-Some-clause-goes_on : goal.returns-in-Some-clause-goes_on
@@ -26,6 +27,9 @@ returns-in_default-clause-found g t c =
     let most : ℤ = to_z w64 (of_z w64 c.args.most) in
     let parted = subst (IsVisited problem c.args.node most) c.in-Parted.is c.in_ok-found.ensures in
     let none = subst (λ (found : Option Key). IsFoundWithin problem (IsIn problem c.in-Parted.having) most found) c.in_default.is c.in_ok-roster-in-Parted.ensures.found in
-    let found = if_ok c.find-in-Parted.result (IsFoundWithin problem (IsIn problem c.in-Parted.others) most) (IsFoundWithin problem (IsIn problem c.args.node) most) c.find-in-Parted.ensures.found
+    let found =
+    if_ok c.find-in-Parted.result (IsFoundWithin problem (IsIn problem c.in-Parted.others) most)
+    (IsFoundWithin problem (IsIn problem c.args.node) most) c.find-in-Parted.ensures.found
     (λ found is. found_in_others problem most c.args.node c.in-Parted.having c.in-Parted.others found parted none is) in
-    subst (λ most. IfOk c.find-in-Parted.result (IsFoundWithin problem (IsIn problem c.args.node) most)) (to_z-of_z w64 c.args.most c.ranges.most) found
+    subst (λ most. IfOk c.find-in-Parted.result (IsFoundWithin problem (IsIn problem c.args.node) most))
+    (to_z-of_z w64 c.args.most c.ranges.most) found

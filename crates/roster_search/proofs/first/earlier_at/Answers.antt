@@ -10,9 +10,11 @@ pub loop-k-preserved : goal.loop-k-preserved
 loop-k-preserved g c =
     let problem = c.args.problem.now in
     let key : Key = c.args.roster.now in
-    let Here : List ℕ → Type 0 = λ places. IsIn problem c.loop-k.region places × Has c.loop-k.k c.args.p places in
+    let Here : List ℕ → Type 0 =
+    λ places. IsIn problem c.loop-k.region places × Has c.loop-k.k c.args.p places in
     let fits : FitsSigned w64 c.roster.inside.cost = search rules in
-    let cost : to_z w64 (of_z w64 c.roster.inside.cost) ≡ key.cost = to_z-of_z w64 c.roster.inside.cost fits ∙ ap (λ (k : Key). k.cost) c.roster.view_is in
+    let cost : to_z w64 (of_z w64 c.roster.inside.cost) ≡ key.cost =
+    to_z-of_z w64 c.roster.inside.cost fits ∙ ap (λ (k : Key). k.cost) c.roster.view_is in
     let none = subst (λ found. IsFoundWithin problem Here (to_z w64 (of_z w64 c.roster.inside.cost)) found) c.in-None.is c.in_ok-earlier.ensures.found in
     record {
       tried = tried_one_more problem c.args.p c.loop-k.k c.args.region.now c.loop-k.region c.deny.new.self key c.loop-k.invariant.tried
@@ -24,11 +26,14 @@ pub returns-in-Some-clause-settled : goal.returns-in-Some-clause-settled
 returns-in-Some-clause-settled g c =
     let problem = c.args.problem.now in
     let key : Key = c.args.roster.now in
-    let Here : List ℕ → Type 0 = λ places. IsIn problem c.loop-k.region places × Has c.loop-k.k c.args.p places in
+    let Here : List ℕ → Type 0 =
+    λ places. IsIn problem c.loop-k.region places × Has c.loop-k.k c.args.p places in
     let number : ℕ = get_or c.as_slice.result.now c.args.p 0 in
     let fits : FitsSigned w64 c.roster.inside.cost = search rules in
-    let cost : to_z w64 (of_z w64 c.roster.inside.cost) ≡ key.cost = to_z-of_z w64 c.roster.inside.cost fits ∙ ap (λ (k : Key). k.cost) c.roster.view_is in
-    let slice : c.as_slice.result.now ≡ key.places = c.as_slice.ensures ∙ ap (λ (k : Key). k.places) c.roster.view_is in
+    let cost : to_z w64 (of_z w64 c.roster.inside.cost) ≡ key.cost =
+    to_z-of_z w64 c.roster.inside.cost fits ∙ ap (λ (k : Key). k.cost) c.roster.view_is in
+    let slice : c.as_slice.result.now ≡ key.places =
+    c.as_slice.ensures ∙ ap (λ (k : Key). k.places) c.roster.view_is in
     let has = number_at problem c.args.p c.args.region.now key c.as_slice.result.now c.requires.agree c.requires.pairing slice in
     let less : c.loop-k.k < number = omega (arith, c.loop-k-test.true) in
     let found = subst (λ found. IsFoundWithin problem Here (to_z w64 (of_z w64 c.roster.inside.cost)) found) c.in-Some.is c.in_ok-earlier.ensures.found in
@@ -41,7 +46,8 @@ returns-clause-settled g c =
     let problem = c.args.problem.now in
     let key : Key = c.args.roster.now in
     let number : ℕ = get_or c.as_slice.result.now c.args.p 0 in
-    let slice : c.as_slice.result.now ≡ key.places = c.as_slice.ensures ∙ ap (λ (k : Key). k.places) c.roster.view_is in
+    let slice : c.as_slice.result.now ≡ key.places =
+    c.as_slice.ensures ∙ ap (λ (k : Key). k.places) c.roster.view_is in
     let has = number_at problem c.args.p c.args.region.now key c.as_slice.result.now c.requires.agree c.requires.pairing slice in
     let all : c.loop-k.k ≡ number = omega (arith, c.loop-k-test.false, c.loop-k.auto.k-end) in
     let tried = subst (λ n. AreTried problem c.args.p n c.args.region.now c.loop-k.region key) all c.loop-k.invariant.tried in

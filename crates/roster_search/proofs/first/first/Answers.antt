@@ -27,5 +27,6 @@ returns-then-is_empty-clause-settled g c =
 
 pub returns-clause-settled : goal.returns-clause-settled
 returns-clause-settled g c =
-    let all : c.loop-p.p ≡ length c.args.problem.now.pairings = omega (arith, ap length c.pairings-p-end.ensures.value) in
+    let all : c.loop-p.p ≡ length c.args.problem.now.pairings =
+    omega (arith, ap length c.pairings-p-end.ensures.value) in
     settled_at_end c.args.problem.now c.args.region.now c.loop-p.region c.args.roster.now c.loop-p.roster c.loop-p.p c.requires.least c.loop-p.invariant.agree c.loop-p.invariant.on all

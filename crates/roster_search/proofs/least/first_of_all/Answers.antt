@@ -12,9 +12,11 @@ returns-then-not-branch-clause-settled g c =
     let problem = c.args.problem.now in
     let key : Key = c.args.roster.now in
     let fits : FitsSigned w64 c.roster.inside.cost = search rules in
-    let cost : to_z w64 (of_z w64 c.roster.inside.cost) ≡ key.cost = to_z-of_z w64 c.roster.inside.cost fits ∙ ap (λ (k : Key). k.cost) c.roster.view_is in
+    let cost : to_z w64 (of_z w64 c.roster.inside.cost) ≡ key.cost =
+    to_z-of_z w64 c.roster.inside.cost fits ∙ ap (λ (k : Key). k.cost) c.roster.view_is in
     let above = says_no _ _ _ c.in_ok-tighten.ensures c.if-not-branch.true in
-    settled_below problem c.args.region.now key c.requires.held (subst (IsAllAbove problem c.args.region.now) cost above)
+    settled_below problem c.args.region.now key c.requires.held
+    (subst (IsAllAbove problem c.args.region.now) cost above)
 
 pub first-requires-clause-least : goal.first-requires-clause-least
 first-requires-clause-least g c others legal inside =
@@ -26,8 +28,10 @@ returns-clause-settled g c =
     let problem = c.args.problem.now in
     let key : Key = c.args.roster.now in
     let fits : FitsSigned w64 c.roster.inside.cost = search rules in
-    let cost : to_z w64 (of_z w64 c.roster.inside.cost) ≡ key.cost = to_z-of_z w64 c.roster.inside.cost fits ∙ ap (λ (k : Key). k.cost) c.roster.view_is in
+    let cost : to_z w64 (of_z w64 c.roster.inside.cost) ≡ key.cost =
+    to_z-of_z w64 c.roster.inside.cost fits ∙ ap (λ (k : Key). k.cost) c.roster.view_is in
     let part = says_yes _ _ _ c.in_ok-tighten.ensures c.if-not-branch.false in
-    on_ok_weaker c.first.result (settled_in_whole problem c.args.region.now c.tighten.new.self key c.first.new.roster
+    on_ok_weaker c.first.result
+    (settled_in_whole problem c.args.region.now c.tighten.new.self key c.first.new.roster
     (subst (λ most. IsNarrowed problem (CostsAtMost problem most) c.args.region.now c.tighten.new.self) cost part))
     c.first.ensures.settled

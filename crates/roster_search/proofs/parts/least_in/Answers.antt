@@ -13,6 +13,7 @@ returns-clause-least g c =
     let ranges = c.args.ranges.now in
     let base = c.args.base in
     let region = c.args.region in
-    IfOk-weaker c.least.result (IsLeastBelow problem (IsIn problem region) (pos (2 ^ 63 - 1))) (IsLeastBelow problem (IsInPart problem table ranges (λ b. eqb b base)) (pos (2 ^ 63 - 1)))
+    IfOk-weaker c.least.result (IsLeastBelow problem (IsIn problem region) (pos (2 ^ 63 - 1)))
+    (IsLeastBelow problem (IsInPart problem table ranges (λ b. eqb b base)) (pos (2 ^ 63 - 1)))
     (λ found least. least_in_other problem (IsIn problem region) (IsInPart problem table ranges (λ b. eqb b base)) (pos (2 ^ 63 - 1)) found c.requires.part.inside (λ places legal part. c.requires.part.all places part) least)
     c.least.ensures.least

@@ -29,8 +29,11 @@ returns-in-Some c =
     let fixed = says_yes _ _ _ c.in_ok-fix.ensures c.if-not-branch-2.false in
     let left = narrowed_then problem (CostsAtMost problem most) c.args.region.now c.loop-step.region c.fix.new.region c.loop-step.invariant fixed in
     let found = subst (λ (found : Option Key). IfSome found (IsWithinCost problem (IsIn problem c.fix.new.region) most)) c.in-Some.is c.in_ok-roster.ensures in
-    let within = within_part problem (CostsAtMost problem most) c.args.region.now c.fix.new.region most c.in-Some.roster left found in
-    subst (λ most. IsWithinCost problem (IsIn problem c.args.region.now) most c.in-Some.roster) (to_z-of_z w64 c.args.most c.ranges.most) within
+    let within =
+    within_part problem
+    (CostsAtMost problem most) c.args.region.now c.fix.new.region most c.in-Some.roster left found in
+    subst (λ most. IsWithinCost problem (IsIn problem c.args.region.now) most c.in-Some.roster)
+    (to_z-of_z w64 c.args.most c.ranges.most) within
 
 pub loop-step-preserved : goal.loop-step-preserved
 loop-step-preserved c =
@@ -53,4 +56,5 @@ returns c =
     let most : ℤ = to_z w64 (of_z w64 c.args.most) in
     let fixed = says_yes _ _ _ c.in_ok-tighten.ensures c.if-not-branch-3.false in
     let left = narrowed_then problem (CostsAtMost problem most) c.args.region.now c.loop-step.region c.tighten.new.self c.loop-step.invariant fixed in
-    subst (λ most. IsNarrowed problem (CostsAtMost problem most) c.args.region.now c.tighten.new.self) (to_z-of_z w64 c.args.most c.ranges.most) left
+    subst (λ most. IsNarrowed problem (CostsAtMost problem most) c.args.region.now c.tighten.new.self)
+    (to_z-of_z w64 c.args.most c.ranges.most) left

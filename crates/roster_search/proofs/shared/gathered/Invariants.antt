@@ -5,7 +5,8 @@ use Rattle.roster_search.proofs.shared.gathered.Given as goal
 -- what is left is found, and so is what was taken out
 abbrev pub invariant-loop-parts : goal.invariant-loop-parts
 invariant-loop-parts l = record {
-  lists : All (λ parts. IfOk parts (λ parts. AreBaseParts l.problem l.table l.ranges parts.items)) l.lists.items;
+  lists : All
+      (λ parts. IfOk parts (λ parts. AreBaseParts l.problem l.table l.ranges parts.items)) l.lists.items;
   all : AreBaseParts l.problem l.table l.ranges l.all.items;
 }
 

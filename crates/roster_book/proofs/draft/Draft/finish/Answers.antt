@@ -15,7 +15,9 @@ pub new-requires-clause-sound : goal.new-requires-clause-sound
 new-requires-clause-sound c = rw c.into_vec.ensures (IsSound-in_order (tables_of_draft c.args.self) (IsSound-records (contents_of c.args.self) c.requires.records))
 
 pub new-requires-clause-faultless : goal.new-requires-clause-faultless
-new-requires-clause-faultless c = rw c.into_vec.ensures (IsFaultless-draft (contents_of c.args.self) c.requires.records (sym c.in_default.ensures))
+new-requires-clause-faultless c =
+    rw c.into_vec.ensures
+    (IsFaultless-draft (contents_of c.args.self) c.requires.records (sym c.in_default.ensures))
 
 pub returns-clause-told : goal.returns-clause-told
 returns-clause-told c = λ command row records d.

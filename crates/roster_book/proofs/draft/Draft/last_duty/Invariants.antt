@@ -4,4 +4,5 @@ use Rattle.roster_book.proofs.draft.Draft.last_duty.Given as goal
 
 -- the last of the duties seen so far
 abbrev pub invariant-loop-duty : goal.invariant-loop-duty
-invariant-loop-duty l = option_map (λ duty. duty.now) l.last ≡ last_duty (take l.duty-index l.self.duties) l.place
+invariant-loop-duty l =
+    option_map (λ duty. duty.now) l.last ≡ last_duty (take l.duty-index l.self.duties) l.place

@@ -9,5 +9,7 @@ use Rattle.roster_book.proofs.draft.Draft.take_assign.Goals as goal
 pub returns : goal.returns
 returns c = λ command row before d k.
     let fields = fields_of c.args.fields.now in
-    Takes-pushed command row AssignRecord before fields (contents_of c.args.self.now) _ (assign_of before fields) _ _ _ d k
-    (c.push.ensures _ (assign_of before fields) (c.judge_assign-assign.ensures command row before d)) (λ same. rw same refl)
+    Takes-pushed command row AssignRecord before fields (contents_of c.args.self.now) _
+    (assign_of before fields) _ _ _ d k
+    (c.push.ensures _ (assign_of before fields) (c.judge_assign-assign.ensures command row before d))
+    (λ same. rw same refl)

@@ -18,11 +18,13 @@ push-requires-clause-pairing c =
 
 pub returns-in_err-cost : goal.returns-in_err-cost
 returns-in_err-cost c = λ command row before d k.
-    Takes-refused (fields_of c.args.fields.now) _ _ _ d k c.from_residual.ensures.1 (c.in_err-cost.ensures.judged command row before d)
+    Takes-refused (fields_of c.args.fields.now) _ _ _ d k c.from_residual.ensures.1
+    (c.in_err-cost.ensures.judged command row before d)
 
 pub returns-in_err-push : goal.returns-in_err-push
 returns-in_err-push c = λ command row before d k.
-    Takes-refused (fields_of c.args.fields.now) _ _ _ d k c.from_residual-in_err-push.ensures.1 ((c.in_ok-cost.ensures.judged command row before d).0)
+    Takes-refused (fields_of c.args.fields.now) _ _ _ d k c.from_residual-in_err-push.ensures.1
+    ((c.in_ok-cost.ensures.judged command row before d).0)
 
 pub returns : goal.returns
 returns c = λ command row before d k.

@@ -5,11 +5,13 @@ use Rattle.roster_book.proofs.draft.Draft.take_sector.Goals as goal
 
 pub returns-in_err-place : goal.returns-in_err-place
 returns-in_err-place c = λ command row before d k.
-    Takes-refused (fields_of c.args.fields.now) _ _ _ d k c.from_residual.ensures.1 (c.in_err-place.ensures.judged command row before d)
+    Takes-refused (fields_of c.args.fields.now) _ _ _ d k c.from_residual.ensures.1
+    (c.in_err-place.ensures.judged command row before d)
 
 pub returns-in_err-push_sector : goal.returns-in_err-push_sector
 returns-in_err-push_sector c = λ command row before d k.
-    Takes-refused (fields_of c.args.fields.now) _ _ _ d k c.from_residual-in_err-push_sector.ensures.1 ((c.in_ok-place.ensures.judged command row before d).0)
+    Takes-refused (fields_of c.args.fields.now) _ _ _ d k c.from_residual-in_err-push_sector.ensures.1
+    ((c.in_ok-place.ensures.judged command row before d).0)
 
 pub returns : goal.returns
 returns c = λ command row before d k.

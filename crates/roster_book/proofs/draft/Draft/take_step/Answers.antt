@@ -7,11 +7,13 @@ use Rattle.roster_book.proofs.draft.Draft.take_step.Goals as goal
 
 pub returns-in_err-step : goal.returns-in_err-step
 returns-in_err-step c = λ command row before d k.
-    Takes-refused (fields_of c.args.fields.now) _ _ _ d k c.from_residual.ensures.1 (c.in_err-step.ensures command row before d)
+    Takes-refused (fields_of c.args.fields.now) _ _ _ d k c.from_residual.ensures.1
+    (c.in_err-step.ensures command row before d)
 
 pub returns-in_err-push : goal.returns-in_err-push
 returns-in_err-push c = λ command row before d k.
-    Takes-refused (fields_of c.args.fields.now) _ _ _ d k c.from_residual-in_err-push.ensures.1 ((c.in_ok-step.ensures command row before d).0)
+    Takes-refused (fields_of c.args.fields.now) _ _ _ d k c.from_residual-in_err-push.ensures.1
+    ((c.in_ok-step.ensures command row before d).0)
 
 pub returns : goal.returns
 returns c = λ command row before d k.

@@ -9,7 +9,9 @@ pub returns-in-Some : goal.returns-in-Some
 returns-in-Some c =
     let assigns = c.args.assigns.now in
     let within : c.in-Some.i < length c.args.assigns.now = search rules in
-    let there = slice_get_read assigns (length assigns) c.in-Some.i c.index-assigns-i.result refl within c.index-assigns-i.is in
+    let there =
+    slice_get_read assigns
+    (length assigns) c.in-Some.i c.index-assigns-i.result refl within c.index-assigns-i.is in
     let own : unwrap_or c.assign.inside.person c.args.nobody ≡ unwrap_or c.index-assigns-i.result.person c.args.nobody =
     subst (λ (assign : Assign). unwrap_or c.assign.inside.person c.args.nobody ≡ unwrap_or assign.person c.args.nobody) c.assign.view_is refl in
     c.unwrap_or.ensures ∙ own ∙ sym (number-assigned c.args.nobody assigns c.args.p c.in-Some.i c.index-assigns-i.result (sym c.in-Some.ensures) there)

@@ -6,4 +6,5 @@ pub returns-in-Ok : goal.returns-in-Ok
 returns-in-Ok c = λ command before some faultless. code_of_kind-again command before (fields_of c.args.fields.now) some faultless c.in-Ok.ensures.0
 
 pub returns-in-Err : goal.returns-in-Err
-returns-in-Err c = λ command before some faultless. code_of_kind-own before (fields_of c.args.fields.now) _ c.in-Err.ensures
+returns-in-Err c =
+    λ command before some faultless. code_of_kind-own before (fields_of c.args.fields.now) _ c.in-Err.ensures

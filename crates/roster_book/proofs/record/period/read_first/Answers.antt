@@ -7,7 +7,8 @@ use Rattle.roster_book.proofs.record.period.read_first.Goals as goal
 
 pub returns-then-not-is_period : goal.returns-then-not-is_period
 returns-then-not-is_period c =
-    code_of-no_period (command_of c.args.command) (fields_of c.args.fields.now) (sym c.is_period.ensures ∙ c.if-not-is_period.true)
+    code_of-no_period (command_of c.args.command) (fields_of c.args.fields.now)
+    (sym c.is_period.ensures ∙ c.if-not-is_period.true)
 
 pub returns : goal.returns
 unfolding period_in

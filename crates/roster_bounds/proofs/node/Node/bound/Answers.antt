@@ -13,9 +13,13 @@ returns c places of =
     let node = c.args.self.now in
     let tables = node.tables in
     let price = price_at tables.prices in
-    let lines : ℤ = total (λ k. reduced_cost tables.problem price k (set_of k places)) (range_with_len 0 (length tables.problem.persons)) in
-    let states : ℤ = penalties_and_prices price (length tables.problem.persons) 0 tables.problem.pairings places in
-    let law : cost_of tables.problem places ≡ lines +ℤ states = c.priced_shares_add_up.ensures tables.problem price places of.legal.covers of.legal.numbers in
+    let lines : ℤ =
+    total (λ k. reduced_cost tables.problem price k (set_of k places))
+    (range_with_len 0 (length tables.problem.persons)) in
+    let states : ℤ =
+    penalties_and_prices price (length tables.problem.persons) 0 tables.problem.pairings places in
+    let law : cost_of tables.problem places ≡ lines +ℤ states =
+    c.priced_shares_add_up.ensures tables.problem price places of.legal.covers of.legal.numbers in
     let first : c.persons_bound.result ≤ℤ lines = c.persons_bound.ensures.below places of in
     let second : c.pairings_bound.result ≤ℤ states = c.pairings_bound.ensures.below places of in
     let low = c.persons_bound.ensures.fits.least in

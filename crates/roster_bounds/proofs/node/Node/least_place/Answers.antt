@@ -6,7 +6,8 @@ use Rattle.roster_bounds.proofs.OfNode.{least_place_is}
 use Rattle.roster_bounds.proofs.Placing.{placing_most}
 use Rattle.roster_bounds.proofs.node.Node.least_place.Goals as goal
 
-told : (c : goal.After-placing) → c.placing.result ≡ placing_person c.self.inside.tables.now.table 0 c.self.inside.lines.items c.args.p
+told : (c : goal.After-placing)
+    → c.placing.result ≡ placing_person c.self.inside.tables.now.table 0 c.self.inside.lines.items c.args.p
 told c = c.placing.ensures ∙ ap₂ (λ (table : List (List Entry)) (lines : List ℕ). placing_person table 0 lines c.args.p) c.table.ensures.value c.deref.ensures.value
 
 pub overflow_cast-result : goal.overflow_cast-result
@@ -20,4 +21,5 @@ pub returns-clause-least : goal.returns-clause-least
 returns-clause-least c places x of at =
     let inside = c.self.inside in
     let here = subst (λ (n : ChosenLines). IsOfNode n places) (sym c.self.view_is) of in
-    omega (arith, told c, least_place_is inside.tables.now.table inside.lines.items places c.args.p x here.has at)
+    omega
+    (arith, told c, least_place_is inside.tables.now.table inside.lines.items places c.args.p x here.has at)

@@ -23,7 +23,9 @@ loop-i-preserved c =
             let here : j ≡ c.loop-i.i = omega arith in
             let same = ap (line_set tables.table k) (sym here) ∙ line_set-at tables.table k j set at in
             let mine = subst (λ xs. Meets tables.table lines xs → ⊥) (sym same) apart in
-            let low = subst (λ xs. c.reduced_if_apart.result ≤ℤ reduced_at tables k xs) same (c.reduced_if_apart.ensures.below mine) in
+            let low =
+            subst (λ xs. c.reduced_if_apart.result ≤ℤ reduced_at tables k xs) same
+            (c.reduced_if_apart.ensures.below mine) in
             omega (arith, ints, second, low)
       ]);
       fits = subst (AreReduced 1) (sym back) (elim c.lesser-least.ensures.one [
@@ -39,7 +41,10 @@ returns-clause-below c set line apart =
     let items = inside.lines.ok.0 in
     let count : c.len.result ≡ length inside.lines.items = omega (arith, c.len.ensures, items) in
     let is = subst (λ (n : ChosenLines). IsTableOf n.tables.problem n.tables.table) c.self.view_is c.width-i-end.ensures.lines in
-    let found = number_of_line tables.problem tables.table (length c.args.self.now.lines) set is c.requires line in
-    let width = c.width-i-end.ensures.value ∙ ap (λ k. length (lines_at inside.tables.now.table k)) count ∙ ap (λ (n : ChosenLines). length (lines_at n.tables.table (length n.lines))) c.self.view_is in
+    let found =
+    number_of_line tables.problem tables.table (length c.args.self.now.lines) set is c.requires line in
+    let width =
+    c.width-i-end.ensures.value ∙ ap (λ k. length (lines_at inside.tables.now.table k)) count
+    ∙ ap (λ (n : ChosenLines). length (lines_at n.tables.table (length n.lines))) c.self.view_is in
     let all : found.0 < c.loop-i.i = omega (arith, found.1, width, c.loop-i-test.false) in
     c.loop-i.invariant.below found.0 set all found.2 apart

@@ -9,6 +9,9 @@ use Rattle.roster_bounds.proofs.node.Node.next_bound.Given as goal
 -- the lines so far
 abbrev pub invariant-loop-i : goal.invariant-loop-i
 invariant-loop-i l = record {
-  below : (j : ℕ) (set : List ℕ) → j < l.i → slice_get (sets_of (lines_at l.self.tables.table (length l.self.lines))) j ≡ Some set → (Meets l.self.tables.table l.self.lines set → ⊥) → l.least ≤ℤ reduced_at l.self.tables (length l.self.lines) set;
+  below : (j : ℕ) (set : List ℕ) → j < l.i
+      → slice_get (sets_of (lines_at l.self.tables.table (length l.self.lines))) j ≡ Some set
+      → (Meets l.self.tables.table l.self.lines set → ⊥)
+      → l.least ≤ℤ reduced_at l.self.tables (length l.self.lines) set;
   fits : AreReduced 1 l.least;
 }

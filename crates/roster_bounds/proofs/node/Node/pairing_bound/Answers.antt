@@ -15,8 +15,12 @@ returns-then-has-clause-below c places x of at =
     let inside = c.self.inside in
     let node : ChosenLines = record { tables = inside.tables.now; lines = inside.lines.items } in
     let here = subst (λ (n : ChosenLines). IsOfNode n places) (sym c.self.view_is) of in
-    let price = price_of_placed node inside.placed places inside.reduced c.args.p x c.self.invariant here at (sym c.if-has.ensures.value) in
-    let same = same_word64 c.price.result c.price.type_inv ∙ c.price.ensures.value ∙ sym price ∙ ap (λ (n : ChosenLines). penalty_or_price n.tables c.args.p x) c.self.view_is in
+    let price =
+    price_of_placed node inside.placed places inside.reduced c.args.p x c.self.invariant here at
+    (sym c.if-has.ensures.value) in
+    let same =
+    same_word64 c.price.result c.price.type_inv ∙ c.price.ensures.value ∙ sym price
+    ∙ ap (λ (n : ChosenLines). penalty_or_price n.tables c.args.p x) c.self.view_is in
     omega (arith, ints, same)
 
 pub returns-then-len-persons-clause-below : goal.returns-then-len-persons-clause-below
@@ -26,9 +30,15 @@ returns-then-len-persons-clause-below c places x of at =
     let here = subst (λ (n : ChosenLines). IsOfNode n places) (sym c.self.view_is) of in
     let items = inside.lines.ok.0 in
     let persons = ap (λ (problem : Problem). length problem.persons) c.problem.ensures in
-    let all : length inside.lines.items ≡ length inside.tables.now.problem.persons = omega (arith, c.if-len-persons.true, c.len.ensures, items, ap length c.persons.ensures.value, persons) in
-    let penalty = penalty_of_other node inside.placed places inside.reduced c.args.p x c.self.invariant here at (sym c.if-has.ensures.value) all in
-    let same = same_word64 c.penalty.result c.penalty.type_inv ∙ c.penalty.ensures.value ∙ sym penalty ∙ ap (λ (n : ChosenLines). penalty_or_price n.tables c.args.p x) c.self.view_is in
+    let all : length inside.lines.items ≡ length inside.tables.now.problem.persons =
+    omega
+    (arith, c.if-len-persons.true, c.len.ensures, items, ap length c.persons.ensures.value, persons) in
+    let penalty =
+    penalty_of_other node inside.placed places inside.reduced c.args.p x c.self.invariant here at
+    (sym c.if-has.ensures.value) all in
+    let same =
+    same_word64 c.penalty.result c.penalty.type_inv ∙ c.penalty.ensures.value ∙ sym penalty
+    ∙ ap (λ (n : ChosenLines). penalty_or_price n.tables c.args.p x) c.self.view_is in
     omega (arith, ints, same)
 
 pub returns-clause-below : goal.returns-clause-below

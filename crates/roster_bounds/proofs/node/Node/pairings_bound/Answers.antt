@@ -13,7 +13,9 @@ loop-p-preserved c =
     let low = c.loop-p.invariant.fits.0 in
     let high = c.loop-p.invariant.fits.1 in
     let tables = c.args.self.now.tables in
-    let pairings : c.pairings-pairings.result.now ≡ tables.problem.pairings = c.pairings-pairings.ensures.value ∙ ap (λ (problem : Problem). problem.pairings) c.problem.ensures ∙ ap (λ (n : ChosenLines). n.tables.problem.pairings) c.self.view_is in
+    let pairings : c.pairings-pairings.result.now ≡ tables.problem.pairings =
+    c.pairings-pairings.ensures.value ∙ ap (λ (problem : Problem). problem.pairings) c.problem.ensures
+    ∙ ap (λ (n : ChosenLines). n.tables.problem.pairings) c.self.view_is in
     let inside : p < length tables.problem.pairings = omega (arith, c.loop-p-test.true, ap length pairings) in
     record {
       below = λ places of.

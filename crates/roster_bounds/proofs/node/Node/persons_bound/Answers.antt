@@ -17,7 +17,8 @@ loop-k-init c =
     let node = c.args.self.now in
     let inside = c.self.inside in
     let items = inside.lines.ok.0 in
-    let chosen : length node.lines ≡ length inside.lines.items = ap (λ (n : ChosenLines). length n.lines) (sym c.self.view_is) in
+    let chosen : length node.lines ≡ length inside.lines.items =
+    ap (λ (n : ChosenLines). length n.lines) (sym c.self.view_is) in
     let count : c.len-k.result ≡ length node.lines = omega (arith, c.len-k.ensures, items, chosen) in
     let is = subst (λ (n : ChosenLines). IsNode n.tables n.lines inside.placed inside.reduced) c.self.view_is c.self.invariant in
     let persons = ap (λ (problem : Problem). length problem.persons) c.problem.ensures in
@@ -30,7 +31,9 @@ loop-k-init c =
           let same = total-chosen node.tables node.lines places of.has in
           let all = ap (λ n. total f (range_with_len 0 n)) count in
           omega (arith, ints, told, is.sum, same, all);
-      fits = subst (AreReduced c.len-k.result) (sym told) (subst (λ n. AreReduced n inside.reduced) (sym count) is.fits);
+      fits =
+          subst (AreReduced c.len-k.result) (sym told)
+          (subst (λ n. AreReduced n inside.reduced) (sym count) is.fits);
       chosen = omega (arith, count);
     }
 
@@ -50,7 +53,9 @@ loop-k-preserved c =
           let low = c.loop-k.invariant.below places of in
           let here = c.person_bound-sum.ensures.below places of in
           omega (arith, ints, told, all, low, here);
-      fits = subst (AreReduced (k + 1)) (sym told) (AreReduced-more sum more k c.loop-k.invariant.fits c.person_bound-sum.ensures.fits);
+      fits =
+          subst (AreReduced (k + 1)) (sym told)
+          (AreReduced-more sum more k c.loop-k.invariant.fits c.person_bound-sum.ensures.fits);
       chosen = omega (arith, c.loop-k.invariant.chosen);
     }
 
@@ -62,7 +67,9 @@ returns-clause-below c places of =
     let limit = ap (λ (n : ChosenLines). length n.tables.problem.persons) c.self.view_is in
     let values = ap length c.persons-persons.ensures.value in
     let items = c.self.inside.lines.ok.0 in
-    let fewer : c.len-k.result ≤ length c.persons-persons.result.now = omega (arith, c.len-k.ensures, items, c.self.invariant.apart.persons, values, persons) in
-    let all : c.loop-k.k ≡ length node.tables.problem.persons = omega (arith, c.loop-k-test.false, c.loop-k.auto.k-end fewer, values, persons, limit) in
+    let fewer : c.len-k.result ≤ length c.persons-persons.result.now =
+    omega (arith, c.len-k.ensures, items, c.self.invariant.apart.persons, values, persons) in
+    let all : c.loop-k.k ≡ length node.tables.problem.persons =
+    omega (arith, c.loop-k-test.false, c.loop-k.auto.k-end fewer, values, persons, limit) in
     let low = c.loop-k.invariant.below places of in
     subst (λ n. to_z w128 c.loop-k.sum-bits ≤ℤ total f (range_with_len 0 n)) all low

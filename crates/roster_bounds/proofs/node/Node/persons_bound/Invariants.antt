@@ -10,7 +10,8 @@ use Rattle.roster_bounds.proofs.node.Node.persons_bound.Given as goal
 -- the persons so far
 abbrev pub invariant-loop-k : goal.invariant-loop-k
 invariant-loop-k l = record {
-  below : (places : List ℕ) → IsOfNode l.self places → l.sum ≤ℤ total (λ k. reduced_at l.self.tables k (set_of k places)) (range_with_len 0 l.k);
+  below : (places : List ℕ) → IsOfNode l.self places
+      → l.sum ≤ℤ total (λ k. reduced_at l.self.tables k (set_of k places)) (range_with_len 0 l.k);
   fits : AreReduced l.k l.sum;
   chosen : length l.self.lines ≤ l.k;
 }

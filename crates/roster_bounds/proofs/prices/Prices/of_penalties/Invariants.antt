@@ -7,6 +7,7 @@ use Rattle.roster_bounds.proofs.prices.Prices.of_penalties.Given as goal
 -- the prices of the pairings so far
 abbrev pub invariant-loop-pairing : goal.invariant-loop-pairing
 invariant-loop-pairing l = record {
-  prices : l.prices.items ≡ map (λ pairing. pos (pairing.penalty * l.halves / 2)) (take l.pairing-index l.pairings);
+  prices : l.prices.items
+      ≡ map (λ pairing. pos (pairing.penalty * l.halves / 2)) (take l.pairing-index l.pairings);
   within : All (IsWithin MOST_PRICE) l.prices.items;
 }

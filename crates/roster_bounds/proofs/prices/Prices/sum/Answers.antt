@@ -9,13 +9,15 @@ use Rattle.roster_bounds.proofs.prices.Prices.sum.Goals as goal
 
 pub at-sum-requires : goal.at-sum-requires
 at-sum-requires c =
-    All-is_among (λ p. p < length c.args.self.now) c.args.set.now c.in-Some.p c.requires c.in-Some.ensures.place.2
+    All-is_among
+    (λ p. p < length c.args.self.now) c.args.set.now c.in-Some.p c.requires c.in-Some.ensures.place.2
 
 pub loop-p-preserved : goal.loop-p-preserved
 loop-p-preserved c =
     let price = price_at c.args.self.now in
     let p = c.in-Some.p in
-    let next = ap (total price) c.in-Some.ensures.rest ∙ total-cons price p (places_from (p + 1) c.args.set.now) in
+    let next =
+    ap (total price) c.in-Some.ensures.rest ∙ total-cons price p (places_from (p + 1) c.args.set.now) in
     let few = c.at-sum.ensures.bound in
     let so_far = c.loop-p.invariant.so_far in
     let low = c.loop-p.invariant.bound.0 in
@@ -23,7 +25,8 @@ loop-p-preserved c =
     let after = c.in-Some.ensures.place.0 in
     let within = c.in-Some.ensures.place.1 in
     record {
-      so_far = omega (arith, ints, so_far, next, c.at-sum.ensures.value, few.0, few.1, low, high, after, within);
+      so_far =
+          omega (arith, ints, so_far, next, c.at-sum.ensures.value, few.0, few.1, low, high, after, within);
       bound = (omega (arith, ints, few.0, few.1, low, high, after, within), omega (arith, ints, few.0, few.1, low, high, after, within));
       within = omega (arith, within);
     }

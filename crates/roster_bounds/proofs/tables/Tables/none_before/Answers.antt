@@ -18,7 +18,11 @@ pub returns-in-Some : goal.returns-in-Some
 returns-in-Some c none others legal inside =
     let roster = c.args.roster.now in
     let problem = ap (λ (t : PricedTable). t.problem) c.self.view_is in
-    let least : IsNotAfter c.args.self.now.problem Anywhere (arc_value c.in-Some.best) = subst (λ (p : Problem). IsNotAfter p Anywhere (arc_value c.in-Some.best)) problem
+    let least : IsNotAfter c.args.self.now.problem Anywhere (arc_value c.in-Some.best) =
+    subst (λ (p : Problem). IsNotAfter p Anywhere (arc_value c.in-Some.best)) problem
     (subst (λ best. IfSome best (λ best. IsNotAfter c.self.inside.problem.now Anywhere (arc_value best))) c.in-Some.is c.self.invariant.1) in
-    let before = subst (λ (key : Key). key_le roster key ≡ true) c.deref.ensures (not_after c.comes_before.result _ c.comes_before.ensures.value none) in
-    key_le-trans roster (arc_value c.in-Some.best) (key_of c.args.self.now.problem others) before (least others legal inside)
+    let before =
+    subst (λ (key : Key). key_le roster key ≡ true) c.deref.ensures
+    (not_after c.comes_before.result _ c.comes_before.ensures.value none) in
+    key_le-trans roster (arc_value c.in-Some.best) (key_of c.args.self.now.problem others) before
+    (least others legal inside)

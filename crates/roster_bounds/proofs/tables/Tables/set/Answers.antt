@@ -9,8 +9,12 @@ pub returns-clause-line : goal.returns-clause-line
 returns-clause-line c =
     let problem = c.self.inside.problem.now in
     let table = c.self.inside.table.now in
-    let person = subst (λ (t : PricedTable). c.args.k < length t.problem.persons) (sym c.self.view_is) c.requires.person in
-    let line = subst (λ (t : PricedTable). c.args.i < length (lines_at t.table c.args.k)) (sym c.self.view_is) c.requires.line in
+    let person =
+    subst (λ (t : PricedTable). c.args.k < length t.problem.persons)
+    (sym c.self.view_is) c.requires.person in
+    let line =
+    subst (λ (t : PricedTable). c.args.i < length (lines_at t.table c.args.k))
+    (sym c.self.view_is) c.requires.line in
     subst (λ (t : PricedTable). IsLine t.problem c.args.k c.set.result) c.self.view_is
     (subst (IsLine problem c.args.k) (line_set-at table c.args.k c.args.i c.set.result c.set.ensures)
     (line_is problem table c.args.k c.args.i c.self.invariant.0.priced.lines person line))

@@ -5,7 +5,8 @@ use Rattle.roster_branchtree.proofs.watch.WatchNodes.node.Goals as goal
 
 pub returns-in_default : goal.returns-in_default
 returns-in_default g c =
-    subst (KeepsWatch c.args.self.now) (sym (c.in_default.ensures.same ∙ c.if-is_due.ensures.same)) (keeps_nothing c.args.self.now)
+    subst (KeepsWatch c.args.self.now) (sym (c.in_default.ensures.same ∙ c.if-is_due.ensures.same))
+    (keeps_nothing c.args.self.now)
 
 pub returns-else-is_due : goal.returns-else-is_due
 returns-else-is_due g c =

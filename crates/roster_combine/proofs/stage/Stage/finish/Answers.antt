@@ -25,7 +25,9 @@ invariant_of-self g c =
     let kept = map-set_same items lists worker c.room_for.new.list c.index_mut.result.now (c.room_for.ensures.same ∙ ap items c.index_mut.ensures.value) in (
       c.self.invariant.0,
       c.self.invariant.1,
-      subst (λ (ls : List (List Part)). IsReplaying task c.self.inside.pool.state ls (arc_value c.self.inside.best)) (sym kept) c.self.invariant.2,
+      subst
+          (λ (ls : List (List Part)). IsReplaying task c.self.inside.pool.state ls (arc_value c.self.inside.best))
+          (sym kept) c.self.invariant.2,
       c.self.invariant.3,
       length-set lists worker c.room_for.new.list ∙ c.self.invariant.4,
       c.self.invariant.5,
@@ -61,25 +63,36 @@ invariant_of-self-in-Ok-finish g c =
     let part : Part = record { span = span; best = best } in
     let room = c.room_for.new.list in
     let pushed = c.push_reserved.new.self in
-    let has : held old worker ≡ Some span = subst (λ (replay : Replay). held replay.state worker ≡ Some span) (sym c.self.view_is) c.requires.held in
-    let is_settled : IsSettled task.problem task.table part = subst (λ (replay : Replay). IsSettled replay.task.problem replay.task.table part) (sym c.self.view_is) c.requires.settled in
+    let has : held old worker ≡ Some span =
+    subst (λ (replay : Replay). held replay.state worker ≡ Some span)
+    (sym c.self.view_is) c.requires.held in
+    let is_settled : IsSettled task.problem task.table part =
+    subst (λ (replay : Replay). IsSettled replay.task.problem replay.task.table part)
+    (sym c.self.view_is) c.requires.settled in
     let settled = c.in-Ok-finish.ensures.settled in
-    let within : worker < length lists = omega (arith, held_within old worker span has, replaying.hands, length-map lists items) in
+    let within : worker < length lists =
+    omega (arith, held_within old worker span has, replaying.hands, length-map lists items) in
     let own : room.items ≡ slice_index_or (map items lists) worker [] =
-    c.room_for.ensures.same ∙ ap items c.index_mut.ensures.value ∙ sym (get_or-map items lists worker c.index_mut.result.now [] within) in
-    let before : c.index_mut-in-Ok-finish.result.now ≡ room = c.index_mut-in-Ok-finish.ensures.value ∙ get_or-set_same lists worker room c.index_mut-in-Ok-finish.result.now within in
+    c.room_for.ensures.same ∙ ap items c.index_mut.ensures.value
+    ∙ sym (get_or-map items lists worker c.index_mut.result.now [] within) in
+    let before : c.index_mut-in-Ok-finish.result.now ≡ room =
+    c.index_mut-in-Ok-finish.ensures.value
+    ∙ get_or-set_same lists worker room c.index_mut-in-Ok-finish.result.now within in
     let more : pushed.items ≡ slice_index_or (map items lists) worker [] ++ part ∷ [] =
     c.push_reserved.ensures.items
     ∙ ap₂ (λ (xs : List Part) (x : Part). xs ++ x ∷ []) (ap items before ∙ own) (ap₂ (λ (s : Span) (b : Key). record { span = s; best = b }) settled.0 settled.1) in
     let final : map items (slice_set (slice_set lists worker room) worker pushed) ≡ slice_set (map items lists) worker (slice_index_or (map items lists) worker [] ++ part ∷ []) =
-    ap (map items) (set-set lists worker room pushed) ∙ map-set items lists worker pushed ∙ ap (slice_set (map items lists) worker) more in
-    let less : arc_value c.keep_less.new.best ≡ less_of known best = c.keep_less.ensures ∙ ap (less_of known) c.in-Ok.ensures.best in
+    ap (map items) (set-set lists worker room pushed) ∙ map-set items lists worker pushed
+    ∙ ap (slice_set (map items lists) worker) more in
+    let less : arc_value c.keep_less.new.best ≡ less_of known best =
+    c.keep_less.ensures ∙ ap (less_of known) c.in-Ok.ensures.best in
     let finished = replays-finish task old next worker part (map items lists) known replaying has c.in-Ok-finish.ensures.adds.state is_settled in (
       c.self.invariant.0,
       c.self.invariant.1,
       subst (λ (ls : List (List Part)). IsReplaying task next ls (arc_value c.keep_less.new.best)) (sym final)
           (subst (λ (key : Key). IsReplaying task next (slice_set (map items lists) worker (slice_index_or (map items lists) worker [] ++ part ∷ [])) key) (sym less) finished),
       c.self.invariant.3,
-      length-set (slice_set lists worker room) worker pushed ∙ length-set lists worker room ∙ c.self.invariant.4,
+      length-set (slice_set lists worker room) worker pushed ∙ length-set lists worker room
+          ∙ c.self.invariant.4,
       c.self.invariant.5,
     )

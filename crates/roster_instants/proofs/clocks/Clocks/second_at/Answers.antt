@@ -13,7 +13,8 @@ the_second : (c : After-as_second) → IsSecond c.args.self.now c.args.day c.arg
 the_second c =
     let is : IsHour c.moment.result c.args.day c.args.hour = assumption in
     second_of _ c.args.self.now c.moment.result c.args.day c.args.hour c.to_timestamp.result c.unwrap-instant.result c.as_second.result
-    c.self.invariant (sym c.self.view_is) is c.to_timestamp.ensures c.unwrap-instant.ensures c.as_second.ensures
+    c.self.invariant
+    (sym c.self.view_is) is c.to_timestamp.ensures c.unwrap-instant.ensures c.as_second.ensures
 
 pub overflow_cast-result : goal.overflow_cast-result
 overflow_cast-result c =

@@ -16,14 +16,18 @@ pub returns-then-begun-days : goal.returns-then-begun-days
 returns-then-begun-days c =
     let begun = c.come_by-begun.result in
     let long = c.days.ensures.table.mid in
-    let mids : c.deref.result.now ≡ c.args.self.now.mid = c.deref.ensures.value ∙ ap (λ (d : Days). d.mid) c.self.view_is in
-    past_window c.args.self.now c.args.instant begun (subst (λ xs. HaveCome xs c.args.instant begun) mids c.come_by-begun.ensures.value)
+    let mids : c.deref.result.now ≡ c.args.self.now.mid =
+    c.deref.ensures.value ∙ ap (λ (d : Days). d.mid) c.self.view_is in
+    past_window c.args.self.now c.args.instant begun
+    (subst (λ xs. HaveCome xs c.args.instant begun) mids c.come_by-begun.ensures.value)
     (omega (arith, long, c.days.ensures.value, c.if-begun-days.true))
 
 pub returns : goal.returns
 returns c =
     let begun = c.come_by-begun.result in
     let long = c.days.ensures.table.mid in
-    let mids : c.deref.result.now ≡ c.args.self.now.mid = c.deref.ensures.value ∙ ap (λ (d : Days). d.mid) c.self.view_is in
-    day_begun c.args.self.now c.args.instant begun c.checked_sub.result (subst (λ xs. HaveCome xs c.args.instant begun) mids c.come_by-begun.ensures.value)
+    let mids : c.deref.result.now ≡ c.args.self.now.mid =
+    c.deref.ensures.value ∙ ap (λ (d : Days). d.mid) c.self.view_is in
+    day_begun c.args.self.now c.args.instant begun c.checked_sub.result
+    (subst (λ xs. HaveCome xs c.args.instant begun) mids c.come_by-begun.ensures.value)
     (omega (arith, long, c.days.ensures.value, c.if-begun-days.false)) c.checked_sub.ensures

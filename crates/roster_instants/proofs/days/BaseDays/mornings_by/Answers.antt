@@ -8,4 +8,5 @@ use Rattle.roster_instants.proofs.days.BaseDays.mornings_by.Goals as goal
 pub come_by-requires : goal.come_by-requires
 come_by-requires c =
     let days : Days = record { month_days = c.self.inside.month_days; mid = c.self.inside.mid.items; eight = c.self.inside.eight.items; ten = c.self.inside.ten.items } in
-    subst IsNonDecreasing (sym c.deref.ensures.value) (IsNonDecreasingBy-from_default (λ x. x) days.eight 0 (eight-later days c.self.invariant))
+    subst IsNonDecreasing (sym c.deref.ensures.value)
+    (IsNonDecreasingBy-from_default (λ x. x) days.eight 0 (eight-later days c.self.invariant))

@@ -7,7 +7,8 @@ use Rattle.roster_instants.proofs.period.Period.read.Goals as goal
 use Rattle.roster_instants.proofs.period.Period.read.Goals.{then-not-is_in_range-via-then-not-is_in_range, then-not-is_in_range-via-else-not-is_in_range+then-not-is_in_range-2}
 
 pub returns-then-not-has_shape : goal.returns-then-not-has_shape
-returns-then-not-has_shape c = period-unshaped c.args.text.now (sym c.has_shape.ensures.value ∙ c.if-not-has_shape.true)
+returns-then-not-has_shape c =
+    period-unshaped c.args.text.now (sym c.has_shape.ensures.value ∙ c.if-not-has_shape.true)
 
 pub returns-then-not-is_in_range : goal.returns-then-not-is_in_range
 returns-then-not-is_in_range c =
@@ -20,7 +21,12 @@ returns-then-not-is_in_range c =
 
 pub returns : goal.returns
 returns c =
-    let year = ap (λ n. is_in_range FIRST_MONTH_YEAR LAST_MONTH_YEAR n) (sym c.number_at-year.ensures.value) ∙ sym c.is_in_range.ensures ∙ c.if-not-is_in_range.false in
-    let month = ap (λ n. is_in_range 1 12 n) (sym c.number_at-month.ensures.value) ∙ sym c.is_in_range-else-not-is_in_range.ensures ∙ c.if-not-is_in_range-2.false in
-    ap (λ (d : Period). Some d) (same_period _ _ _ _ year month c.number_at-year.ensures.value c.number_at-month.ensures.value)
+    let year =
+    ap (λ n. is_in_range FIRST_MONTH_YEAR LAST_MONTH_YEAR n) (sym c.number_at-year.ensures.value)
+    ∙ sym c.is_in_range.ensures ∙ c.if-not-is_in_range.false in
+    let month =
+    ap (λ n. is_in_range 1 12 n) (sym c.number_at-month.ensures.value)
+    ∙ sym c.is_in_range-else-not-is_in_range.ensures ∙ c.if-not-is_in_range-2.false in
+    ap (λ (d : Period). Some d)
+    (same_period _ _ _ _ year month c.number_at-year.ensures.value c.number_at-month.ensures.value)
     ∙ period-read c.args.text.now (sym c.has_shape.ensures.value ∙ c.if-not-has_shape.false) year month

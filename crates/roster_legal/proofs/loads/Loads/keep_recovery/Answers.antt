@@ -12,6 +12,8 @@ returns c =
     let timed = c.self.inside.times in
     let positions = c.args.positions.now in
     let yes = IsTrue c.keep_recovery.result in
-    let known = subst (λ (l : Loaded). IsLoaded l timed c.self.inside.loads.items) c.self.view_is c.self.invariant in
-    subst (λ ds. yes ↔ KeepsRecovery (home_of loaded.problem loaded.person).days (picked ds positions)) known.duties
+    let known =
+    subst (λ (l : Loaded). IsLoaded l timed c.self.inside.loads.items) c.self.view_is c.self.invariant in
+    subst
+    (λ ds. yes ↔ KeepsRecovery (home_of loaded.problem loaded.person).days (picked ds positions)) known.duties
     (subst (λ d. yes ↔ KeepsRecovery d (picked timed.duties positions)) known.days c.keep_recovery.ensures)

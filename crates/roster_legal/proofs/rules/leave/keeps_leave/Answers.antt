@@ -12,14 +12,18 @@ returns-then-not-is_off_leave c = (
   λ h. absurd (false≢true h),
   λ keeps.
       let here = get_or_from_slice_get c.args.list.now c.loop-i.i c.duty.result.now c.duty.result.now c.duty.ensures in
-      let off = subst (IsOffLeave (leaves_of c.args.problem.now c.args.k)) here (keeps c.loop-i.i c.duty.result.now (omega arith)) in
+      let off =
+      subst (IsOffLeave (leaves_of c.args.problem.now c.args.k)) here
+      (keeps c.loop-i.i c.duty.result.now (omega arith)) in
       absurd (both_ways _ c.if-not-is_off_leave.true (c.is_off_leave.ensures.1 off)),
 )
 
 pub loop-i-preserved : goal.loop-i-preserved
 loop-i-preserved c =
-    let here = get_or_from_slice_get c.args.list.now c.loop-i.i c.duty.result.now c.duty.result.now c.duty.ensures in
-    All-more (IsOffLeave (leaves_of c.args.problem.now c.args.k)) c.args.list.now c.loop-i.i c.duty.result.now (omega arith) c.loop-i.invariant
+    let here =
+    get_or_from_slice_get c.args.list.now c.loop-i.i c.duty.result.now c.duty.result.now c.duty.ensures in
+    All-more (IsOffLeave (leaves_of c.args.problem.now c.args.k)) c.args.list.now c.loop-i.i c.duty.result.now
+    (omega arith) c.loop-i.invariant
     (subst (IsOffLeave (leaves_of c.args.problem.now c.args.k)) (sym here) (c.is_off_leave.ensures.0 c.if-not-is_off_leave.false))
 
 pub returns : goal.returns

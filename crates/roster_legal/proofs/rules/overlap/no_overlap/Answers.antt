@@ -11,7 +11,9 @@ returns-then-not-ends_before c = (
   λ apart.
       let next : c.loop-i.i ≡ c.loop-i.i - 1 + 1 = omega arith in
       let second = subst (λ j. slice_get c.args.list.now j ≡ Some c.duty-in-loop-i.result.now) next c.duty-in-loop-i.ensures in
-      let turn = in_turn_at c.args.list.now c.requires.ordered c.requires.timed apart (c.loop-i.i - 1) c.duty.result.now c.duty-in-loop-i.result.now c.duty.ensures second in
+      let turn =
+      in_turn_at c.args.list.now c.requires.ordered c.requires.timed apart
+      (c.loop-i.i - 1) c.duty.result.now c.duty-in-loop-i.result.now c.duty.ensures second in
       absurd (both_ways _ c.if-not-ends_before.true (c.ends_before.ensures.1 turn)),
 )
 

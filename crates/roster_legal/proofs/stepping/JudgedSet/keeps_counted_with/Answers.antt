@@ -15,8 +15,13 @@ counted c holds many (LimitRule limit) behind =
     let placed = subst IsPlaced same c.problem.ensures.placed in
     let known = subst (λ (j : Stepped). IsStepped j.loads j.set c.self.inside.depth c.self.inside.positions.items c.self.inside.rooms.items c.self.inside.busy) c.self.view_is c.self.invariant in
     let few = before judged c.args.p placed.ordered placed.timed known.legal c.requires.next in
-    limits-by_sums (home_of judged.loads.problem judged.loads.person).days (duty_list judged.loads.problem judged.loads.person (judged.set ++ c.args.p ∷ [])) (year_of judged.loads.problem judged.loads.person) (eleven_of judged.loads.problem judged.loads.person) few.0 few.1 (c.has_room_for.ensures.yes holds many) limit
-counted c holds many DaysOffRule behind = c.has_days_off_with.ensures.yes c.if-not-has_days_off_with.false many
+    limits-by_sums (home_of judged.loads.problem judged.loads.person).days
+    (duty_list judged.loads.problem judged.loads.person (judged.set ++ c.args.p ∷ []))
+    (year_of judged.loads.problem judged.loads.person)
+    (eleven_of judged.loads.problem judged.loads.person) few.0 few.1
+    (c.has_room_for.ensures.yes holds many) limit
+counted c holds many DaysOffRule behind =
+    c.has_days_off_with.ensures.yes c.if-not-has_days_off_with.false many
 counted c holds many rule behind = absurd (omega arith)
 
 pub returns-clause-yes : goal.returns-clause-yes

@@ -21,7 +21,9 @@ keep_recovery-requires-clause-ordered c =
     let judged = c.args.self.now in
     let same = ap (λ (j : Stepped). j.loads) c.self.view_is in
     let placed = subst IsPlaced same c.problem.ensures.placed in
-    let list = duties-picked judged.loads.problem judged.loads.person (judged.set ++ c.args.p ∷ []) c.args.positions.now c.requires.positions in
+    let list =
+    duties-picked judged.loads.problem judged.loads.person
+    (judged.set ++ c.args.p ∷ []) c.args.positions.now c.requires.positions in
     subst (λ (l : Loaded). IsInOrder (picked l.problem.duties c.args.positions.now)) (sym same)
     (subst IsInOrder (sym list) (list_ordered judged.loads.problem judged.loads.person (judged.set ++ c.args.p ∷ []) placed.ordered))
 
@@ -29,7 +31,9 @@ pub returns-else-self-lt2-clause-yes : goal.returns-else-self-lt2-clause-yes
 returns-else-self-lt2-clause-yes c = λ h many.
     let judged = c.args.self.now in
     let same = ap (λ (j : Stepped). j.loads) c.self.view_is in
-    let list = duties-picked judged.loads.problem judged.loads.person (judged.set ++ c.args.p ∷ []) c.args.positions.now c.requires.positions in
+    let list =
+    duties-picked judged.loads.problem judged.loads.person
+    (judged.set ++ c.args.p ∷ []) c.args.positions.now c.requires.positions in
     let is = subst (λ (l : Loaded). IsTrue c.keep_recovery.result ↔ KeepsRecovery (home_of l.problem l.person).days (picked l.problem.duties c.args.positions.now)) same c.keep_recovery.ensures in
     subst (KeepsRecovery (home_of judged.loads.problem judged.loads.person).days) list (is.0 h)
 
@@ -39,7 +43,10 @@ returns-else-self-lt2-clause-no c = λ fails legal.
     let same = ap (λ (j : Stepped). j.loads) c.self.view_is in
     let placed = subst IsPlaced same c.problem.ensures.placed in
     let known = subst (λ (j : Stepped). IsStepped j.loads j.set c.self.inside.depth c.self.inside.positions.items c.self.inside.rooms.items c.self.inside.busy) c.self.view_is c.self.invariant in
-    let list = duties-picked judged.loads.problem judged.loads.person (judged.set ++ c.args.p ∷ []) c.args.positions.now c.requires.positions in
+    let list =
+    duties-picked judged.loads.problem judged.loads.person
+    (judged.set ++ c.args.p ∷ []) c.args.positions.now c.requires.positions in
     let is = subst (λ (l : Loaded). IsTrue c.keep_recovery.result ↔ KeepsRecovery (home_of l.problem l.person).days (picked l.problem.duties c.args.positions.now)) same c.keep_recovery.ensures in
     let keeps = next-holds judged c.args.p placed.ordered placed.timed known.legal c.requires.next judged.set legal RecoveryRule in
-    both_ways _ fails (is.1 (subst (KeepsRecovery (home_of judged.loads.problem judged.loads.person).days) (sym list) keeps))
+    both_ways _ fails
+    (is.1 (subst (KeepsRecovery (home_of judged.loads.problem judged.loads.person).days) (sym list) keeps))

@@ -17,9 +17,12 @@ joined-requires-clause-apart c =
     let more = c.duties_of-more.result.now in
     let same = ap (λ (j : Stepped). j.loads) c.self.view_is in
     let known = subst (λ (j : Stepped). IsStepped j.loads j.set c.self.inside.depth c.self.inside.positions.items c.self.inside.rooms.items c.self.inside.busy) c.self.view_is c.self.invariant in
-    let is_problem : c.problem.result.now ≡ problem = c.problem.ensures.value ∙ ap (λ (l : Loaded). l.problem) same in
+    let is_problem : c.problem.result.now ≡ problem =
+    c.problem.ensures.value ∙ ap (λ (l : Loaded). l.problem) same in
     let members : (i : ℕ) → is_among more i ≡ is_of p problem.duties i = λ i. c.duties_of-more.ensures.positions.members i ∙ ap (λ (m : Problem). is_of p m.duties i) is_problem in
-    let apart = duties_apart problem judged.loads.person p judged.set c.self.inside.positions.items more known.duties (new_behind p judged.set c.requires.behind) members in
+    let apart =
+    duties_apart problem judged.loads.person p judged.set c.self.inside.positions.items more known.duties
+    (new_behind p judged.set c.requires.behind) members in
     subst (λ xs. (i : ℕ) → is_among xs i ≡ true → is_among more i ≡ false) (sym c.deref.ensures.value) apart
 
 pub keeps_counted_with-requires-clause-busy : goal.keeps_counted_with-requires-clause-busy
@@ -37,9 +40,11 @@ keeps_recovery_with-requires-clause-positions c =
     let more = c.duties_of-more.result.now in
     let same = ap (λ (j : Stepped). j.loads) c.self.view_is in
     let known = subst (λ (j : Stepped). IsStepped j.loads j.set c.self.inside.depth c.self.inside.positions.items c.self.inside.rooms.items c.self.inside.busy) c.self.view_is c.self.invariant in
-    let is_problem : c.problem.result.now ≡ problem = c.problem.ensures.value ∙ ap (λ (l : Loaded). l.problem) same in
+    let is_problem : c.problem.result.now ≡ problem =
+    c.problem.ensures.value ∙ ap (λ (l : Loaded). l.problem) same in
     let members : (i : ℕ) → is_among more i ≡ is_of p problem.duties i = λ i. c.duties_of-more.ensures.positions.members i ∙ ap (λ (m : Problem). is_of p m.duties i) is_problem in
-    let old = subst (AreDutiesOf problem judged.loads.person judged.set) (sym c.deref.ensures.value) known.duties in
+    let old =
+    subst (AreDutiesOf problem judged.loads.person judged.set) (sym c.deref.ensures.value) known.duties in
     let all = duties_with problem judged.loads.person p judged.set c.deref.result.now more c.in_ok-positions.positions.items old members c.in_ok-positions.ensures.rising c.in_ok-positions.ensures.members in
     subst (AreDutiesOf problem judged.loads.person (judged.set ++ p ∷ [])) (sym c.deref-2.ensures.value) all
 
@@ -58,7 +63,8 @@ overflow_add-result c =
 -- the rules from Recovery on hold of the longer set, if it has three pairings or more
 later : (c : goal.After-put) → 2 ≤ length c.args.self.now.set → HoldLater c.args.self.now.loads.problem c.args.self.now.loads.person (c.args.self.now.set ++ c.args.p ∷ [])
 later c many RecoveryRule late = c.keeps_recovery_with.ensures.yes c.if-not-keeps_recovery_with.false many
-later c many rule late = c.keeps_counted_with.ensures.yes c.if-not-keeps_counted_with.false many rule (omega arith)
+later c many rule late =
+    c.keeps_counted_with.ensures.yes c.if-not-keeps_counted_with.false many rule (omega arith)
 
 -- what is known of the longer set,
 longer : (c : goal.After-put) → IsStepped c.args.self.now.loads (c.args.self.now.set ++ c.args.p ∷ []) (c.self.inside.depth + 1) c.in_ok-positions.positions.items c.in_ok-rooms.rooms.items (bit_or c.self.inside.busy c.busy.result)
@@ -70,11 +76,15 @@ longer c =
     let same = ap (λ (j : Stepped). j.loads) c.self.view_is in
     let known = subst (λ (j : Stepped). IsStepped j.loads j.set c.self.inside.depth c.self.inside.positions.items c.self.inside.rooms.items c.self.inside.busy) c.self.view_is c.self.invariant in
     let placed = subst IsPlaced same c.problem.ensures.placed in
-    let is_problem : c.problem.result.now ≡ problem = c.problem.ensures.value ∙ ap (λ (l : Loaded). l.problem) same in
+    let is_problem : c.problem.result.now ≡ problem =
+    c.problem.ensures.value ∙ ap (λ (l : Loaded). l.problem) same in
     let members : (i : ℕ) → is_among more i ≡ is_of p problem.duties i = λ i. c.duties_of-more.ensures.positions.members i ∙ ap (λ (m : Problem). is_of p m.duties i) is_problem in
-    let old = subst (AreDutiesOf problem judged.loads.person judged.set) (sym c.deref.ensures.value) known.duties in
+    let old =
+    subst (AreDutiesOf problem judged.loads.person judged.set) (sym c.deref.ensures.value) known.duties in
     let all = duties_with problem judged.loads.person p judged.set c.deref.result.now more c.in_ok-positions.positions.items old members c.in_ok-positions.ensures.rising c.in_ok-positions.ensures.members in
-    let load = subst (λ (l : Loaded). IsLoadOf l.problem l.person p c.load.result.now) same (c.load.ensures (ap (λ (l : Loaded). is_among l.alone p) same ∙ c.requires.alone)) in
+    let load =
+    subst (λ (l : Loaded). IsLoadOf l.problem l.person p c.load.result.now) same
+    (c.load.ensures (ap (λ (l : Loaded). is_among l.alone p) same ∙ c.requires.alone)) in
     let rooms = c.deref-3.ensures.value in
     stepped-next judged p c.self.inside.depth c.self.inside.busy (bit_or c.self.inside.busy c.busy.result) c.self.inside.positions.items c.self.inside.rooms.items c.in_ok-positions.positions.items c.in_ok-rooms.rooms.items c.load.result.now placed known c.requires all load
     (c.in_ok-rooms.ensures.long ∙ ap length rooms)
@@ -86,7 +96,8 @@ longer c =
 set_is : (c : goal.After-put) → c.put.new.self ≡ c.args.self.now.set ++ c.args.p ∷ []
 set_is c =
     let set = ap (λ (j : Stepped). j.set) c.self.view_is in
-    c.put.ensures.last (subst (All (λ q. q < c.args.p)) (sym set) c.requires.behind) ∙ ap (λ xs. xs ++ c.args.p ∷ []) set
+    c.put.ensures.last (subst (All (λ q. q < c.args.p)) (sym set) c.requires.behind)
+    ∙ ap (λ xs. xs ++ c.args.p ∷ []) set
 
 pub invariant_of-result : goal.invariant_of-result
 invariant_of-result c =

@@ -22,6 +22,8 @@ loop-low-preserved c =
       rising = omega arith;
       bound = c.loop-low.invariant.bound;
       before = λ i set earlier at.
-          still_before (sets_of c.args.self.now) c.width-high.ensures.ordered c.args.set.now i middle set c.set.result (omega arith) at c.set.ensures (sym c.is_at_most.ensures ∙ c.if-is_at_most.false);
+          still_before
+          (sets_of c.args.self.now) c.width-high.ensures.ordered c.args.set.now i middle set c.set.result
+          (omega arith) at c.set.ensures (sym c.is_at_most.ensures ∙ c.if-is_at_most.false);
       behind = c.loop-low.invariant.behind;
     }

@@ -9,8 +9,10 @@ abbrev pub invariant-loop-low : goal.invariant-loop-low
 invariant-loop-low l = record {
   rising : l.low ≤ l.high;
   bound : l.high ≤ length l.self;
-  before : (i : ℕ) (set : List ℕ) → i < l.low → slice_get (sets_of l.self) i ≡ Some set → places_le l.set set ≡ false;
-  behind : (i : ℕ) (set : List ℕ) → l.high ≤ i → slice_get (sets_of l.self) i ≡ Some set → places_le l.set set ≡ true;
+  before : (i : ℕ) (set : List ℕ) → i < l.low → slice_get (sets_of l.self) i ≡ Some set
+      → places_le l.set set ≡ false;
+  behind : (i : ℕ) (set : List ℕ) → l.high ≤ i → slice_get (sets_of l.self) i ≡ Some set
+      → places_le l.set set ≡ true;
 }
 
 abbrev pub decreases-loop-low : goal.decreases-loop-low

@@ -9,4 +9,6 @@ pub invariant_of-result : goal.invariant_of-result
 invariant_of-result c = subst IsTree (sym c.in_ok-lines.ensures.items) (IsTree-first _ refl refl)
 
 pub returns : goal.returns
-returns c = ap entries_in c.in_ok-lines.ensures.items ∙ entries_in-first _ ∙ ap (λ cost. entry_of [] cost ∷ []) (to_z-of_z w64 c.args.cost c.ranges.cost)
+returns c =
+    ap entries_in c.in_ok-lines.ensures.items ∙ entries_in-first _
+    ∙ ap (λ cost. entry_of [] cost ∷ []) (to_z-of_z w64 c.args.cost c.ranges.cost)

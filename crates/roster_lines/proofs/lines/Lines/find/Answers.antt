@@ -16,13 +16,15 @@ returns-then-i-width c i =
     let n : ℕ = c.count_before-i.result in (
       λ e. absurd (none-some i e),
       λ at.
-          let here : n ≡ i = cut_at sets c.width.ensures.ordered c.args.set.now n i c.count_before-i.ensures at in
+          let here : n ≡ i =
+          cut_at sets c.width.ensures.ordered c.args.set.now n i c.count_before-i.ensures at in
           let inside = slice_get_within sets i c.args.set.now at in
           absurd (elim c.then-i-width.branch [
             | then-i-width-via-then-i-width w ↦ omega (arith, w.if-i-width.true, c.width.ensures.value, length-sets_of c.args.self.now)
             | then-i-width-via-else-i-width+then-ne w ↦
                 let same = same_Some _ _ (sym w.set.ensures ∙ ap (slice_get sets) here ∙ at) in
-                both_ways _ (ap not ((bytes_eq-Decides w.set.result c.args.set.now).1 same)) (sym w.ne.ensures ∙ w.if-ne.true)
+                both_ways _ (ap not ((bytes_eq-Decides w.set.result c.args.set.now).1 same))
+                (sym w.ne.ensures ∙ w.if-ne.true)
           ]),
     )
 

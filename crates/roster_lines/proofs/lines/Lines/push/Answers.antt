@@ -13,7 +13,8 @@ use Rattle.roster_lines.proofs.lines.Lines.push.Goals as goal
 pub index-requires : goal.index-requires
 index-requires c =
     let lines = c.self.inside.lines.items in
-    let long : length c.args.self.now ≡ length lines = ap length (sym c.self.view_is) ∙ length-entries_in lines in
+    let long : length c.args.self.now ≡ length lines =
+    ap length (sym c.self.view_is) ∙ length-entries_in lines in
     let items = c.self.inside.lines.ok.0 in
     omega (arith, c.requires.parent)
 
@@ -24,7 +25,9 @@ deep c =
     let parent = c.args.parent in
     let view = sym c.self.view_is in
     let long : length c.args.self.now ≡ length lines = ap length view ∙ length-entries_in lines in
-    let there = slice_get_read lines (length lines) parent c.index.result.now refl (omega (arith, c.requires.parent)) c.index.ensures in
+    let there =
+    slice_get_read lines (length lines) parent c.index.result.now refl
+    (omega (arith, c.requires.parent)) c.index.ensures in
     let later = subst (λ entries. All (λ p. p < c.args.last) (set_at entries parent)) view c.requires.later in
     (c.self.invariant.depths parent c.index.result.now there, depth_below lines c.self.invariant parent c.index.result.now c.args.last there c.requires.last later)
 
@@ -48,7 +51,8 @@ returns c =
     let lines = c.self.inside.lines.items in
     let parent = c.args.parent in
     let last = c.args.last in
-    let long : length c.args.self.now ≡ length lines = ap length (sym c.self.view_is) ∙ length-entries_in lines in
+    let long : length c.args.self.now ≡ length lines =
+    ap length (sym c.self.view_is) ∙ length-entries_in lines in
     ap entries_in c.in_ok-push.ensures.items
     ∙ entries_in-push lines _ (omega (arith, c.requires.parent))
     ∙ ap (λ cost. entries_in lines ++ entry_of (longer (entries_in lines) parent last) cost ∷ []) (to_z-of_z w64 c.args.cost c.ranges.cost)

@@ -11,7 +11,8 @@ use Rattle.roster_lines.proofs.lines.Lines.set.Goals as goal
 pub loop-at-init : goal.loop-at-init
 loop-at-init c =
     let lines = c.self.inside.lines.items in
-    let long : length c.args.self.now ≡ length lines = ap length (sym c.self.view_is) ∙ length-entries_in lines in
+    let long : length c.args.self.now ≡ length lines =
+    ap length (sym c.self.view_is) ∙ length-entries_in lines in
     record {
       inside = omega (arith, c.requires);
       set = sym (ap (λ s. set_at (entries_in lines) c.args.i ++ s) c.empty-set.ensures ∙ append-nil _);
@@ -21,7 +22,8 @@ pub with-requires : goal.with-requires
 with-requires c =
     let lines = c.self.inside.lines.items in
     let there = slice_get_read lines (length lines) c.loop-at.at c.index-line.result.now refl c.loop-at.invariant.inside c.index-line.ensures in
-    let below = last_below lines c.self.invariant c.loop-at.at c.index-line.result.now there c.loop-at-test.true in
+    let below =
+    last_below lines c.self.invariant c.loop-at.at c.index-line.result.now there c.loop-at-test.true in
     omega (arith, c.from.ensures)
 
 pub loop-at-smaller : goal.loop-at-smaller
@@ -34,10 +36,13 @@ pub loop-at-preserved : goal.loop-at-preserved
 loop-at-preserved c =
     let lines = c.self.inside.lines.items in
     let line = c.index-line.result.now in
-    let there = slice_get_read lines (length lines) c.loop-at.at line refl c.loop-at.invariant.inside c.index-line.ensures in
+    let there =
+    slice_get_read lines
+    (length lines) c.loop-at.at line refl c.loop-at.invariant.inside c.index-line.ensures in
     let before = c.self.invariant.parents c.loop-at.at line there c.loop-at-test.true in
     let inside = c.loop-at.invariant.inside in
-    let long : length c.args.self.now ≡ length lines = ap length (sym c.self.view_is) ∙ length-entries_in lines in
+    let long : length c.args.self.now ≡ length lines =
+    ap length (sym c.self.view_is) ∙ length-entries_in lines in
     let put : c.unwrap-set.result ≡ with_place line.last c.loop-at.set = subst (λ r. IsOkAnd r (λ s. s ≡ with_place c.from.result c.loop-at.set)) c.unwrap-set.ensures c.with.ensures.value ∙ ap (λ p. with_place p c.loop-at.set) c.from.ensures in
     record {
       inside = omega arith;
@@ -48,6 +53,8 @@ pub returns : goal.returns
 returns c =
     let lines = c.self.inside.lines.items in
     let first : c.loop-at.at ≡ 0 = omega (arith, c.loop-at-test.false) in
-    let empty : set_at (entries_in lines) c.loop-at.at ≡ [] = ap (set_at (entries_in lines)) first ∙ set_at_first lines in
+    let empty : set_at (entries_in lines) c.loop-at.at ≡ [] =
+    ap (set_at (entries_in lines)) first ∙ set_at_first lines in
     let set = c.loop-at.invariant.set ∙ ap (λ front. front ++ c.loop-at.set) empty in
-    set_at_get c.args.self.now c.args.i c.requires ∙ ap Some (ap (λ entries. set_at entries c.args.i) (sym c.self.view_is) ∙ set)
+    set_at_get c.args.self.now c.args.i c.requires
+    ∙ ap Some (ap (λ entries. set_at entries c.args.i) (sym c.self.view_is) ∙ set)

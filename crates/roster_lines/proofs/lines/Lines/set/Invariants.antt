@@ -7,7 +7,8 @@ use Rattle.roster_lines.proofs.lines.Lines.set.Given as goal
 abbrev pub invariant-loop-at : goal.invariant-loop-at
 invariant-loop-at l = record {
   inside : l.at < length l.self-inside.lines.items;
-  set : set_at (entries_in l.self-inside.lines.items) l.i ≡ set_at (entries_in l.self-inside.lines.items) l.at ++ l.set;
+  set : set_at (entries_in l.self-inside.lines.items) l.i
+      ≡ set_at (entries_in l.self-inside.lines.items) l.at ++ l.set;
 }
 
 abbrev pub decreases-loop-at : goal.decreases-loop-at

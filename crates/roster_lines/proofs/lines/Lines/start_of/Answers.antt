@@ -11,7 +11,8 @@ use Rattle.roster_lines.proofs.lines.Lines.start_of.Goals as goal
 pub returns-then-p-eq-MOST_PAIRINGS : goal.returns-then-p-eq-MOST_PAIRINGS
 returns-then-p-eq-MOST_PAIRINGS c =
     let sets = sets_of c.args.self.now in
-    let long : length c.args.self.now ≡ length c.self.inside.lines.items = ap length (sym c.self.view_is) ∙ length-entries_in c.self.inside.lines.items in
+    let long : length c.args.self.now ≡ length c.self.inside.lines.items =
+    ap length (sym c.self.view_is) ∙ length-entries_in c.self.inside.lines.items in
     let items = c.self.inside.lines.ok.0 in
     let all : c.len.result ≡ length sets = omega (arith, c.len.ensures, length-sets_of c.args.self.now) in
     let places = subst (λ entries. All (All (λ q. q < MOST_PAIRINGS)) (sets_of entries)) c.self.view_is c.self.invariant.places in

@@ -34,11 +34,13 @@ returns-clause-stem c =
     let made : c.put.new.self ≡ longer = c.put.ensures.last (is.behind p c.requires.candidate) in
     let within = c.units_of_set.ensures problem k longer c.is_sound.ensures.sound c.requires.line.ascending c.requires.line.places in
     let all : stem.units +ℤ units ≡ total (units_of problem k) longer =
-    omega (arith, ints, is.units, c.units.ensures.value, c.one_pairing_more.ensures.units problem k p stem.set) in
+    omega
+    (arith, ints, is.units, c.units.ensures.value, c.one_pairing_more.ensures.units problem k p stem.set) in
     let more = c.one_pairing_more.ensures.flight problem k p stem.set in
     let flown = flight_with problem k stem c.args.pairs.now.flights.items p c.index-2.result.now is c.requires.pairs.flights c.requires.candidate more c.index-2.ensures in
     let below : Stem = record { set = c.put.new.self; number = c.args.number; among = stem.among; candidates = c.and.result; units = to_z w64 (of_z w64 (to_z w64 (of_z w64 stem.units) +ℤ to_z w64 (of_z w64 units))); flight = stem.flight + c.index-2.result.now } in
-    IsStem-below problem k c.requires.parts stem below p c.index.result.now is c.requires.candidate (c.requires.pairs.rows p c.index.result.now there) made refl c.and.ensures
+    IsStem-below problem k c.requires.parts stem below p c.index.result.now is c.requires.candidate
+    (c.requires.pairs.rows p c.index.result.now there) made refl c.and.ensures
     (omega (arith, ints, before, brought, all, within.0, within.1) ∙ ap (total (units_of problem k)) (sym made))
     (flown ∙ ap (flight_of problem k) (sym made))
     (subst (IsLine problem k) (sym made) c.requires.line)

@@ -12,14 +12,19 @@ returns-in-TooMany-clause-fault c =
     let problem = c.args.problem.now in
     let table = c.args.self.now in
     let here : length table ≡ c.len.result = omega (arith, ap length c.self.view_is) in
-    let fault = MatchResult-at_err (AreMade problem (length table)) (IsFaultOf problem (length table)) _ c.in-Err.is c.requires.made in
+    let fault =
+    MatchResult-at_err (AreMade problem (length table))
+    (IsFaultOf problem (length table)) _ c.in-Err.is c.requires.made in
     let crowded = subst (IsFaultOf problem (length table)) c.in-TooMany.is fault in
-    subst (IsFirstCrowded problem) here (IsFirstCrowded-next problem table c.requires.table c.requires.next crowded)
+    subst (IsFirstCrowded problem) here
+    (IsFirstCrowded-next problem table c.requires.table c.requires.next crowded)
 
 pub returns-clause-table : goal.returns-clause-table
 returns-clause-table c =
     let problem = c.args.problem.now in
     let table = c.args.self.now in
-    let made = MatchResult-at_ok (AreMade problem (length table)) (IsFaultOf problem (length table)) _ c.in-Ok.is c.requires.made in
+    let made =
+    MatchResult-at_ok (AreMade problem (length table))
+    (IsFaultOf problem (length table)) _ c.in-Ok.is c.requires.made in
     let pushed = c.in_ok-push-in-Ok.ensures.items ∙ ap₂ (λ (before : List (List Entry)) (lines : List Entry). before ++ lines ∷ []) c.self.view_is c.in_ok-new-in-Ok.ensures in
     subst (IsTableSoFar problem) (sym pushed) (IsTableSoFar-push problem table _ c.requires.table made)

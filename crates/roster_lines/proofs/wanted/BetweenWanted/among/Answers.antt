@@ -2,7 +2,8 @@ use Rattle.roster_lines.proofs.WantedLemmas.{held_between, within_both}
 use Rattle.roster_lines.proofs.wanted.BetweenWanted.among.Goals as goal
 
 pub returns-clause-within : goal.returns-clause-within
-returns-clause-within c p here = within_both c.args.alone.now c.joined.result c.and.result p c.and.ensures here
+returns-clause-within c p here =
+    within_both c.args.alone.now c.joined.result c.and.result p c.and.ensures here
 
 pub returns-clause-held : goal.returns-clause-held
 returns-clause-held c problem k set p between here single =

@@ -17,7 +17,9 @@ returns-then-least-self c is rest line cheap =
     let set : List ℕ = c.args.set.now ++ c.args.p ∷ rest in
     let same : problem ≡ c.args.problem.now = ap (λ v. v.problem) c.self.view_is ∙ cheap.same in
     let person : k ≡ c.args.k = ap (λ v. v.person) c.self.view_is ∙ cheap.person in
-    let own : IsLine problem k set = subst (λ p. IsLine p k set) (sym same) (subst (λ j. IsLine c.args.problem.now j set) (sym person) line) in
+    let own : IsLine problem k set =
+    subst (λ p. IsLine p k set) (sym same)
+    (subst (λ j. IsLine c.args.problem.now j set) (sym person) line) in
     let days = (home_of problem k).days in
     let adds : AddsFlight problem k set =
     let whole = c.flight_of_set.ensures problem days k set own.ascending in
@@ -38,7 +40,8 @@ returns-then-least-self c is rest line cheap =
     let least_told : to_z w64 (of_z w64 least) ≡ least = to_z-of_z w64 least least_fits in
     let most_fits : FitsSigned w64 inner.most = search rules in
     let most_told : to_z w64 (of_z w64 inner.most) ≡ inner.most = to_z-of_z w64 inner.most most_fits in
-    let values : chain_value network c.deref.result.now 0 set ≡ chain_value network inner.values.items 0 set = ap (λ vs. chain_value network vs 0 set) c.deref.ensures.value in
+    let values : chain_value network c.deref.result.now 0 set ≡ chain_value network inner.values.items 0 set =
+    ap (λ vs. chain_value network vs 0 set) c.deref.ensures.value in
     let above = c.if-least-self.true in
     omega (arith, ints, below, values, cost, most, limit, least_told, most_told, above)
 

@@ -37,7 +37,8 @@ returns-clause-look g c =
     let whole_told : to_z w64 (of_z w64 whole) ≡ whole = to_z-of_z w64 whole whole_fits in
     let below : EachHomeRoster problem c.args.base (λ places. terms ≤ℤ shares_behind problem prices 0 places) =
     subst (λ p. EachHomeRoster p c.args.base (λ places. terms ≤ℤ shares_behind p prices 0 places)) same c.sum_of_terms-terms.ensures.least in
-    let idle_is : idle ≡ cost_without_pairings problem = c.cost_without_pairings.ensures.value ∙ ap cost_without_pairings same in
+    let idle_is : idle ≡ cost_without_pairings problem =
+    c.cost_without_pairings.ensures.value ∙ ap cost_without_pairings same in
     let near = c.in_units.ensures.near in
     let look = look_is problem prices c.args.base leasts terms units c.in_ok-leasts.leasts.each.items
     (λ places roster. c.shares_add_up.ensures problem places)
@@ -45,5 +46,6 @@ returns-clause-look g c =
     c.in_ok-leasts.ensures.are below
     (λ more least. c.in_units.ensures.least more (omega (arith, ints, least, leasts_told, terms_told, sum_told)))
     (omega (arith, ints, near, leasts_told, terms_told, sum_told)) in
-    let bound : cost_without_pairings problem +ℤ units ≡ to_z w64 (of_z w64 whole) = omega (arith, ints, idle_is, idle_told, units_told, whole_told) in
+    let bound : cost_without_pairings problem +ℤ units ≡ to_z w64 (of_z w64 whole) =
+    omega (arith, ints, idle_is, idle_told, units_told, whole_told) in
     subst (λ z. IsLook problem prices c.args.base z c.in_ok-leasts.leasts.each.items) bound look

@@ -9,9 +9,13 @@ pub loop-k-preserved : goal.loop-k-preserved
 loop-k-preserved c =
     let inv = c.loop-k.invariant in
     let pushed = c.in_ok-push.ensures.items in
-    let here = subst (λ k. IsNetwork c.args.problem.now k c.in_ok-network_of.field-0) (sym inv.long) c.in_ok-network_of.ensures in
+    let here =
+    subst (λ k. IsNetwork c.args.problem.now k c.in_ok-network_of.field-0)
+    (sym inv.long) c.in_ok-network_of.ensures in
     record {
-      long = ap length pushed ∙ length_push c.loop-k.networks.items c.in_ok-network_of.field-0 ∙ ap (λ n. n + 1) inv.long;
+      long =
+          ap length pushed ∙ length_push c.loop-k.networks.items c.in_ok-network_of.field-0
+          ∙ ap (λ n. n + 1) inv.long;
       each = λ k network at. each-push (IsNetwork c.args.problem.now) c.loop-k.networks.items c.in_ok-network_of.field-0 inv.each here k network (ap (λ xs. slice_get xs k) (sym pushed) ∙ at);
     }
 

@@ -8,5 +8,6 @@ use Rattle.roster_pricing.proofs.pricing.Pricing.new.Given as goal
 abbrev pub invariant-loop-k : goal.invariant-loop-k
 invariant-loop-k l = record {
   long : length l.networks.items ≡ l.k;
-  each : (k : ℕ) (network : Network) → slice_get l.networks.items k ≡ Some network → IsNetwork l.problem k network;
+  each : (k : ℕ) (network : Network) → slice_get l.networks.items k ≡ Some network
+      → IsNetwork l.problem k network;
 }

@@ -15,7 +15,8 @@ invariant_of-self-2 c =
     let bound : ℤ = c.args.look.bound in
     let fits : FitsSigned w64 bound = search rules in
     let told : to_z w64 (of_z w64 bound) ≡ bound = to_z-of_z w64 bound fits in
-    let of_base : IsLook c.args.self.now.problem prices inner.base bound leasts = subst (λ (b : ℕ). IsLook c.args.self.now.problem prices b bound leasts) (sym base) c.requires.look in
+    let of_base : IsLook c.args.self.now.problem prices inner.base bound leasts =
+    subst (λ (b : ℕ). IsLook c.args.self.now.problem prices b bound leasts) (sym base) c.requires.look in
     let look = subst (λ (p : Problem). IsLook p prices inner.base bound leasts) (sym problem) of_base in
     record {
       home = c.self.invariant.home;

@@ -22,6 +22,8 @@ returns c =
     let n : ℕ = length c.self.inside.duties.now in
     let inside = c.self.invariant.within c.args.i c.index.result.now (omega arith) in
     let within : c.from.result < n = subst (λ p. p < n) (sym (c.from.ensures ∙ c.index.ensures)) inside in
-    let at : c.from.result ≡ get_or c.self.inside.positions.items c.args.i c.from.result = subst (λ r. r ≡ get_or c.self.inside.positions.items c.args.i r) (sym c.from.ensures) c.index.ensures in
+    let at : c.from.result ≡ get_or c.self.inside.positions.items c.args.i c.from.result =
+    subst (λ r. r ≡ get_or c.self.inside.positions.items c.args.i r)
+    (sym c.from.ensures) c.index.ensures in
     duty_in_list c.self.inside.duties.now c.args.self.now c.self.inside.positions.items c.args.i c.from.result c.self.view_is c.self.invariant (omega arith) at
     ∙ slice_get-get_or c.self.inside.duties.now c.from.result c.index-self-from.result within

@@ -14,12 +14,16 @@ use Rattle.roster_problem.proofs.problem.Problem.new.Goals as goal
 
 pub by_place-requires-clause-bound : goal.by_place-requires-clause-bound
 by_place-requires-clause-bound c =
-    let few = subst (λ (duties : List Duty). length duties ≤ MOST_DUTIES) (sym (c.deref.ensures.value ∙ c.in_ok-duties.ensures)) c.requires.sound.duties in
+    let few =
+    subst (λ (duties : List Duty). length duties ≤ MOST_DUTIES)
+    (sym (c.deref.ensures.value ∙ c.in_ok-duties.ensures)) c.requires.sound.duties in
     omega arith
 
 pub by_place-requires-2-clause-bound : goal.by_place-requires-2-clause-bound
 by_place-requires-2-clause-bound c =
-    let few = subst (λ (duties : List Duty). length duties ≤ MOST_DUTIES) (sym (c.deref-2.ensures.value ∙ c.in_ok-duties.ensures)) c.requires.sound.duties in
+    let few =
+    subst (λ (duties : List Duty). length duties ≤ MOST_DUTIES)
+    (sym (c.deref-2.ensures.value ∙ c.in_ok-duties.ensures)) c.requires.sound.duties in
     omega arith
 
 pub by_place-requires-clause-there : goal.by_place-requires-clause-there
@@ -27,7 +31,9 @@ by_place-requires-clause-there c k d inside p h =
     let holders = subst (All (λ duty. IsHolder (length c.args.tables.pairings.items) (length c.args.tables.persons.items) duty.holder)) (sym (c.deref.ensures.value ∙ c.in_ok-duties.ensures)) c.requires.sound.holders in
     let duty : Duty = get_or c.deref.result.now k d in
     let told : is_of_pairing p duty ≡ is_at p (Some p) = search rules in
-    let below = pairing_there (length c.args.tables.pairings.items) (length c.args.tables.persons.items) p duty (holders k d inside) told in
+    let below =
+    pairing_there (length c.args.tables.pairings.items) (length c.args.tables.persons.items) p duty
+    (holders k d inside) told in
     omega arith
 
 pub by_place-requires-2-clause-there : goal.by_place-requires-2-clause-there
@@ -35,7 +41,9 @@ by_place-requires-2-clause-there c k d inside p h =
     let holders = subst (All (λ duty. IsHolder (length c.args.tables.pairings.items) (length c.args.tables.persons.items) duty.holder)) (sym (c.deref-2.ensures.value ∙ c.in_ok-duties.ensures)) c.requires.sound.holders in
     let duty : Duty = get_or c.deref-2.result.now k d in
     let told : is_of_person p duty ≡ is_at p (Some p) = search rules in
-    let below = person_there (length c.args.tables.pairings.items) (length c.args.tables.persons.items) p duty (holders k d inside) told in
+    let below =
+    person_there (length c.args.tables.pairings.items) (length c.args.tables.persons.items) p duty
+    (holders k d inside) told in
     omega arith
 
 timed : (c : goal.In_ok-on_leave) → AreTimed c.deref.result.now
@@ -64,18 +72,23 @@ of_persons c =
 
 pub by_place-requires-3-clause-bound : goal.by_place-requires-3-clause-bound
 by_place-requires-3-clause-bound c =
-    let few = subst (λ (leaves : List Leave). length leaves ≤ MOST_LEAVES) (sym c.deref-3.ensures.value) c.requires.sound.leaves in
+    let few =
+    subst (λ (leaves : List Leave). length leaves ≤ MOST_LEAVES)
+    (sym c.deref-3.ensures.value) c.requires.sound.leaves in
     omega arith
 
 pub by_place-requires-3-clause-there : goal.by_place-requires-3-clause-there
 by_place-requires-3-clause-there c k d inside p h =
-    let absences = subst (All (λ leave. leave.person < length c.args.tables.persons.items)) (sym c.deref-3.ensures.value) c.requires.sound.absences in
+    let absences =
+    subst (All (λ leave. leave.person < length c.args.tables.persons.items))
+    (sym c.deref-3.ensures.value) c.requires.sound.absences in
     let leave : Leave = get_or c.deref-3.result.now k d in
     let told : is_leave_of p leave ≡ is_at p (Some p) = search rules in
     let below = leave_there (length c.args.tables.persons.items) p leave (absences k d inside) told in
     omega arith
 
-on_leave : (c : goal.In_ok-on_leave) → IsIndex is_leave_of (length c.args.tables.persons.items) c.deref-3.result.now c.in_ok-on_leave.on_leave
+on_leave : (c : goal.In_ok-on_leave)
+    → IsIndex is_leave_of (length c.args.tables.persons.items) c.deref-3.result.now c.in_ok-on_leave.on_leave
 on_leave c =
     let all : c.len-3.result ≡ length c.args.tables.persons.items = omega arith in
     subst (λ n. IsIndex is_leave_of n c.deref-3.result.now c.in_ok-on_leave.on_leave) all

@@ -27,7 +27,9 @@ returns-then-p-lt-MOST_PAIRINGS-clause-places c = within c.self.inside.words _ c
 
 pub returns-else-p-lt-MOST_PAIRINGS-clause-value : goal.returns-else-p-lt-MOST_PAIRINGS-clause-value
 returns-else-p-lt-MOST_PAIRINGS-clause-value c =
-    let same = subst (λ s. is_among s c.args.p ≡ has_bit c.self.inside.words c.args.p) c.self.view_is (is_among-places_in c.self.inside.words c.self.invariant c.args.p) in
+    let same =
+    subst (λ s. is_among s c.args.p ≡ has_bit c.self.inside.words c.args.p) c.self.view_is
+    (is_among-places_in c.self.inside.words c.self.invariant c.args.p) in
     let past : has_bit c.self.inside.words c.args.p ≡ false = false_from_ne_true _ (λ h. let l = c.self.invariant.within c.args.p h in omega arith) in
     le-ltb c.args.p MOST_PAIRINGS c.if-p-lt-MOST_PAIRINGS.false ∙ sym (same ∙ past)
 

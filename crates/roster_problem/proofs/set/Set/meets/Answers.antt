@@ -7,8 +7,10 @@ use Rattle.roster_problem.specs.Bits.{is_among-places_in}
 use Rattle.roster_problem.proofs.Words.{apart_in_word, meet_in_word}
 use Rattle.roster_problem.proofs.set.Set.meets.Goals as goal
 
-same_place : (words set : List ℕ) → places_in words ≡ set → IsSet words → (p : ℕ) → is_among set p ≡ has_bit words p
-same_place words set view is p = subst (λ s. is_among s p ≡ has_bit words p) view (is_among-places_in words is p)
+same_place : (words set : List ℕ) → places_in words ≡ set → IsSet words → (p : ℕ)
+    → is_among set p ≡ has_bit words p
+same_place words set view is p =
+    subst (λ s. is_among s p ≡ has_bit words p) view (is_among-places_in words is p)
 
 pub returns-then-self-i-ne0 : goal.returns-then-self-i-ne0
 returns-then-self-i-ne0 c =

@@ -4,4 +4,5 @@ use Rattle.roster_problem.proofs.set.Set.meets.Given as goal
 
 -- no bit of the words so far is set in both
 abbrev pub invariant-loop-i : goal.invariant-loop-i
-invariant-loop-i l = (p : ℕ) → p < l.i * 64 → (has_bit l.self-inside.words p && has_bit l.other-inside.words p) ≡ false
+invariant-loop-i l =
+    (p : ℕ) → p < l.i * 64 → (has_bit l.self-inside.words p && has_bit l.other-inside.words p) ≡ false

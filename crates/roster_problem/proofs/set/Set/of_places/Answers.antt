@@ -10,14 +10,17 @@ use Rattle.roster_problem.proofs.SetParts.{with_place-last}
 use Rattle.roster_problem.proofs.set.Set.of_places.Goals as goal
 use Rattle.roster_problem.proofs.set.Set.of_places.Goals.{then-from-number, else-from-number}
 
-one_more : (k i : ℕ) (places : List ℕ) → i < length places → get_or places i 0 ≡ k → with_place i (set_of k (take i places)) ≡ set_of k (take (i + 1) places)
+one_more : (k i : ℕ) (places : List ℕ) → i < length places → get_or places i 0 ≡ k
+    → with_place i (set_of k (take i places)) ≡ set_of k (take (i + 1) places)
 one_more k i places inside here =
     let front : length (take i places) ≡ i = length-take-le i places (omega arith) in
-    let below : All (λ q. q < i) (set_of k (take i places)) = subst (λ n. All (λ q. q < n) (set_of k (take i places))) front (places_of_number k (take i places)) in
+    let below : All (λ q. q < i) (set_of k (take i places)) =
+    subst (λ n. All (λ q. q < n) (set_of k (take i places))) front (places_of_number k (take i places)) in
     with_place-last i _ (Ascends-set_of k (take i places)) below
     ∙ sym (set_of-take_more k i places 0 inside ∙ ap (λ xs. set_of k (take i places) ++ xs) (cond-true _ (i ∷ []) [] (eq-eqb _ k here)))
 
-none_more : (k i : ℕ) (places : List ℕ) → i < length places → (get_or places i 0 ≡ k → ⊥) → set_of k (take i places) ≡ set_of k (take (i + 1) places)
+none_more : (k i : ℕ) (places : List ℕ) → i < length places → (get_or places i 0 ≡ k → ⊥)
+    → set_of k (take i places) ≡ set_of k (take (i + 1) places)
 none_more k i places inside other =
     sym (set_of-take_more k i places 0 inside ∙ ap (λ xs. set_of k (take i places) ++ xs) (cond-false _ (i ∷ []) [] (ne_eqb _ k other)) ∙ append-nil _)
 

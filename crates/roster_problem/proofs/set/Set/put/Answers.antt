@@ -36,7 +36,8 @@ pub returns-clause-value : goal.returns-clause-value
 returns-clause-value c = put_value c
 
 pub returns-clause-members : goal.returns-clause-members
-returns-clause-members c q = ap (λ set. is_among set q) (put_value c) ∙ is_among-with_place c.args.p c.args.self.now q
+returns-clause-members c q =
+    ap (λ set. is_among set q) (put_value c) ∙ is_among-with_place c.args.p c.args.self.now q
 
 pub returns-clause-last : goal.returns-clause-last
 returns-clause-last c last =

@@ -9,7 +9,8 @@ pub returns : goal.returns
 returns c =
     let duty = c.args.duty.now in
     let leaves = c.args.problem.now.leaves in
-    All-passed (is_leave_of c.args.k) (λ (leave : Leave). common duty.report duty.release leave.from leave.to ≡ 0) leaves (λ m leave at own.
+    All-passed (is_leave_of c.args.k)
+    (λ (leave : Leave). common duty.report duty.release leave.from leave.to ≡ 0) leaves (λ m leave at own.
     let inside = slice_get_within leaves m leave at in
     let long = ap length c.leaves-leaves.ensures.value in
     c.loop-place.invariant m leave (omega (arith, inside, long)) at own)

@@ -16,8 +16,10 @@ returns-in-Some c =
     record {
       a = c.duty-begun.result.now;
       b = c.duty-ended.result.now;
-      at_first = subst (λ i. slice_get list i ≡ Some c.duty-begun.result.now) (sym same.0) c.duty-begun.ensures;
-      at_last = subst (λ i. slice_get list i ≡ Some c.duty-ended.result.now) (sym same.1) c.duty-ended.ensures;
+      at_first =
+          subst (λ i. slice_get list i ≡ Some c.duty-begun.result.now) (sym same.0) c.duty-begun.ensures;
+      at_last =
+          subst (λ i. slice_get list i ≡ Some c.duty-ended.result.now) (sym same.1) c.duty-ended.ensures;
       block = subst (λ i. IsBlock days list i block.last) (sym same.0) (subst (λ i. IsBlock days list c.first_of_block-first.result i) (sym same.1) c.first_of_block-first.ensures);
       long = subst (λ start. IsLong start c.duty-begun.result.now c.duty-ended.result.now block.minutes) c.month_start-month_start.ensures same.2;
       first = λ j before. c.loop-i.invariant.kept j (omega (arith, before, same.1));
@@ -44,4 +46,5 @@ loop-i-preserved c =
 pub returns : goal.returns
 returns c i j a b order first second none late =
     let inside = slice_get_within c.args.list.now j b second in
-    c.loop-i.invariant.kept j (omega (arith, c.loop-i-test.false, c.len-i-end.ensures.value, inside)) i a b order first second none late
+    c.loop-i.invariant.kept j
+    (omega (arith, c.loop-i-test.false, c.len-i-end.ensures.value, inside)) i a b order first second none late

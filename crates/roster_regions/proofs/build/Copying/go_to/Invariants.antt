@@ -12,7 +12,8 @@ invariant-loop-p l = record {
   inside : l.depth ≤ length l.self.path;
   most : l.from ≤ MOST_PAIRINGS;
   begins : l.set ≡ take l.depth l.self.path ++ places_from l.from l.set;
-  writing : (lines : List AllowedLine) → IsWriting l.initial.self.writer l.initial.self.path lines → IsWriting l.self.writer l.self.path lines;
+  writing : (lines : List AllowedLine) → IsWriting l.initial.self.writer l.initial.self.path lines
+      → IsWriting l.self.writer l.self.path lines;
 }
 
 abbrev pub decreases-loop-p : goal.decreases-loop-p

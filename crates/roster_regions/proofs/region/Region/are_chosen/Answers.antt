@@ -24,4 +24,6 @@ pub loop-k-preserved : goal.loop-k-preserved
 loop-k-preserved c =
     let lines = lines_of c.args.self.now c.loop-k.k in
     let here = match_true c.in_ok-offers.field-0 (Offers lines c.of_places-set.result) (All (λ line. ¬ HasJust c.of_places-set.result line) lines) c.if-not-branch.false c.in_ok-offers.ensures in
-    below_more (λ j. Offers (lines_of c.args.self.now j) (set_of j c.args.places.now)) c.loop-k.k c.loop-k.invariant (subst (Offers lines) c.of_places-set.ensures here)
+    below_more
+    (λ j. Offers (lines_of c.args.self.now j) (set_of j c.args.places.now)) c.loop-k.k c.loop-k.invariant
+    (subst (Offers lines) c.of_places-set.ensures here)

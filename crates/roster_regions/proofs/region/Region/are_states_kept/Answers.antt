@@ -15,14 +15,16 @@ returns-then-is_same c =
     let left = ap (λ (r : Region). r.left_open) c.self.view_is in
     let flown = ap (λ (r : Region). r.flown) c.self.view_is in
     let is : (p : ℕ) → is_among free p ≡ is_among (set_of (open_number problem) places) p = λ p.
-    ap (λ s. is_among s p) (c.of_places-open.ensures ∙ ap (λ n. set_of n places) (c.from.ensures ∙ c.open_number.ensures.value)) in (
+    ap (λ s. is_among s p)
+    (c.of_places-open.ensures ∙ ap (λ n. set_of n places) (c.from.ensures ∙ c.open_number.ensures.value)) in (
       λ no. states_kept problem c.args.self.now places free c.and.result is
           (λ p. c.and.ensures p ∙ ap (λ set. is_among set p && is_among free p) left)
           (λ p. c.is_same.ensures.0 c.if-is_same.true p ∙ ap (λ set. is_among set p) left)
           (λ x. both_ways c.meets.result (false_from_not c.meets.result no) (c.meets.ensures.1 (x.0, ap (λ set. is_among set x.0) flown ∙ x.1, x.2))),
       λ kept. not_if c.meets.result (λ yes.
           let x = c.meets.ensures.0 yes in
-          states_apart problem c.args.self.now places free is kept (x.0, ap (λ set. is_among set x.0) (sym flown) ∙ x.1, x.2)),
+          states_apart problem c.args.self.now places free is kept
+          (x.0, ap (λ set. is_among set x.0) (sym flown) ∙ x.1, x.2)),
     )
 
 pub returns-else-is_same : goal.returns-else-is_same
@@ -32,9 +34,11 @@ returns-else-is_same c =
     let free = c.of_places-open.result in
     let left = ap (λ (r : Region). r.left_open) c.self.view_is in
     let is : (p : ℕ) → is_among free p ≡ is_among (set_of (open_number problem) places) p = λ p.
-    ap (λ s. is_among s p) (c.of_places-open.ensures ∙ ap (λ n. set_of n places) (c.from.ensures ∙ c.open_number.ensures.value)) in (
+    ap (λ s. is_among s p)
+    (c.of_places-open.ensures ∙ ap (λ n. set_of n places) (c.from.ensures ∙ c.open_number.ensures.value)) in (
       λ yes. absurd (both_ways c.is_same.result c.if-is_same.false yes),
       λ kept. c.is_same.ensures.1 (λ p.
-          states_same problem c.args.self.now places free c.and.result is (λ q. c.and.ensures q ∙ ap (λ set. is_among set q && is_among free q) left) kept p
+          states_same problem c.args.self.now places free c.and.result is
+          (λ q. c.and.ensures q ∙ ap (λ set. is_among set q && is_among free q) left) kept p
           ∙ ap (λ set. is_among set p) (sym left)),
     )

@@ -8,7 +8,8 @@ use Rattle.roster_regions.proofs.region.Region.bounds.Goals as goal
 pub returns-then-limit-bound : goal.returns-then-limit-bound
 returns-then-limit-bound c =
     let law : (places : List ℕ) → IsIn c.args.problem.now c.args.self.now places → IsPriced c.args.problem.now places = λ places there y. c.priced_shares_add_up.ensures c.args.problem.now y places there.legal.covers there.legal.numbers in
-    let bound = c.sum_of_both-bound.ensures.value ∙ ap₂ bound_of c.deref.ensures.value c.deref-2.ensures.value in
+    let bound =
+    c.sum_of_both-bound.ensures.value ∙ ap₂ bound_of c.deref.ensures.value c.deref-2.ensures.value in
     let most = to_z-of_z w64 c.args.limit c.ranges.limit in
     all_above c.args.problem.now c.args.self.now c.args.prices.now c.in_ok-values.values.items c.in_ok-terms.terms.items c.args.most c.args.limit c.requires.region c.in_ok-values.ensures.least c.in_ok-terms.ensures.terms law c.requires.limit
     (omega (arith, ints, most, c.if-limit-bound.true, bound, c.sum_of_both-bound.ensures.bound.0, c.sum_of_both-bound.ensures.bound.1))
@@ -16,7 +17,8 @@ returns-then-limit-bound c =
 pub returns : goal.returns
 returns c =
     let law : (places : List ℕ) → IsIn c.args.problem.now c.args.self.now places → IsPriced c.args.problem.now places = λ places there y. c.priced_shares_add_up.ensures c.args.problem.now y places there.legal.covers there.legal.numbers in
-    let bound = c.sum_of_both-bound.ensures.value ∙ ap₂ bound_of c.deref.ensures.value c.deref-2.ensures.value in
+    let bound =
+    c.sum_of_both-bound.ensures.value ∙ ap₂ bound_of c.deref.ensures.value c.deref-2.ensures.value in
     let most = to_z-of_z w64 c.args.limit c.ranges.limit in
     record {
       persons = c.in_ok-values.ensures.least.covers;

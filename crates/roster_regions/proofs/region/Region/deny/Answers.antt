@@ -17,9 +17,12 @@ pub returns-clause-all : goal.returns-clause-all
 returns-clause-all c places there =
     let k = c.args.k in
     let p = c.args.p in
-    let left = passes_after c.args.problem.now c.args.self.now k (λ line. not (is_among line.set p)) places (omega (arith, c.requires.region.covers, c.requires.person))
+    let left =
+    passes_after c.args.problem.now c.args.self.now k (λ line. not (is_among line.set p)) places
+    (omega (arith, c.requires.region.covers, c.requires.person))
     (subst (λ region. IsIn c.args.problem.now region places) c.in_ok-keep_having.ensures there) in
-    HasNot-from_among k p places (ap (λ set. is_among set p) (sym left.2) ∙ false_from_not (is_among left.0.set p) left.1)
+    HasNot-from_among k p places
+    (ap (λ set. is_among set p) (sym left.2) ∙ false_from_not (is_among left.0.set p) left.1)
 
 pub returns-clause-fewer : goal.returns-clause-fewer
 returns-clause-fewer c split =

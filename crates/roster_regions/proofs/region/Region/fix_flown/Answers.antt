@@ -11,6 +11,7 @@ pub returns-then-penalty-cut : goal.returns-then-penalty-cut
 returns-then-penalty-cut c =
     let problem = c.args.problem.now in
     let same = to_z-of_z w64 c.args.cut c.ranges.cut in
-    narrowed_by_more problem (HasNot (open_number problem) c.args.p) (CostsAtMost problem c.args.most) c.args.self.now c.fly.new.self c.fly.ensures.narrowed
+    narrowed_by_more problem (HasNot (open_number problem) c.args.p)
+    (CostsAtMost problem c.args.most) c.args.self.now c.fly.new.self c.fly.ensures.narrowed
     (flown_within problem c.args.self.now c.args.prices.now c.args.p c.args.most c.args.cut c.requires.within
     (omega (arith, ints, same, c.if-penalty-cut.true, c.penalty.ensures.value, c.penalty.ensures.bound.0, c.penalty.ensures.bound.1)))

@@ -9,6 +9,7 @@ pub returns-in_ok-keep_within : goal.returns-in_ok-keep_within
 returns-in_ok-keep_within c =
     let problem = c.args.problem.now in
     let same = to_z-of_z w64 c.args.cut c.ranges.cut in
-    subst (IsNarrowed problem (CostsAtMost problem c.args.most) c.args.self.now) (sym c.in_ok-keep_within.ensures)
+    subst (IsNarrowed problem (CostsAtMost problem c.args.most) c.args.self.now)
+    (sym c.in_ok-keep_within.ensures)
     (lines_within problem c.args.self.now c.args.prices.now c.args.k c.args.most (to_z w64 (of_z w64 c.args.cut)) c.requires.region c.requires.person
     (subst (λ cut. IsValueWithin problem c.args.self.now c.args.prices.now c.args.k c.args.most cut) (sym same) c.requires.within))

@@ -11,6 +11,7 @@ pub returns-then-price_of-cut : goal.returns-then-price_of-cut
 returns-then-price_of-cut c =
     let problem = c.args.problem.now in
     let same = to_z-of_z w64 c.args.cut c.ranges.cut in
-    narrowed_by_more problem (Has (open_number problem) c.args.p) (CostsAtMost problem c.args.most) c.args.self.now c.leave_open.new.self c.leave_open.ensures.narrowed
+    narrowed_by_more problem (Has (open_number problem) c.args.p)
+    (CostsAtMost problem c.args.most) c.args.self.now c.leave_open.new.self c.leave_open.ensures.narrowed
     (open_within problem c.args.self.now c.args.prices.now c.args.p c.args.most c.args.cut c.requires.pairing c.requires.within
     (omega (arith, ints, same, c.if-price_of-cut.true, c.price_of.ensures.value, c.price_of.ensures.bound.0, c.price_of.ensures.bound.1)))

@@ -16,7 +16,9 @@ pub returns-clause-all : goal.returns-clause-all
 returns-clause-all c places there =
     let k = c.args.k in
     let p = c.args.p in
-    let left = passes_after c.args.problem.now c.args.self.now k (λ line. is_among line.set p) places (omega (arith, c.requires.region.covers, c.requires.person))
+    let left =
+    passes_after c.args.problem.now c.args.self.now k (λ line. is_among line.set p) places
+    (omega (arith, c.requires.region.covers, c.requires.person))
     (subst (λ region. IsIn c.args.problem.now region places) c.in_ok-keep_having.ensures there) in
     Has-from_among k p places (ap (λ set. is_among set p) (sym left.2) ∙ left.1)
 

@@ -4,7 +4,8 @@ use Rattle.roster_regions.proofs.region.Region.is_in.Goals as goal
 
 pub returns : goal.returns
 returns c =
-    let covers : length c.args.places.now ≡ length c.args.problem.now.pairings = omega (arith, ap length c.pairings.ensures.value, c.if-places-pairings.false) in
+    let covers : length c.args.places.now ≡ length c.args.problem.now.pairings =
+    omega (arith, ap length c.pairings.ensures.value, c.if-places-pairings.false) in
     let numbers : c.are_numbers.result ≡ true = search rules in
     let states : c.are_states_kept.result ≡ true = search rules in (
       λ yes. inside_by_parts c.args.problem.now c.args.self.now c.args.places.now c.requires covers (c.are_numbers.ensures.0 numbers) (c.are_states_kept.ensures.0 states) (c.in_ok-chosen.ensures.0 yes),

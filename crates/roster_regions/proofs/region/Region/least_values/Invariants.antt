@@ -10,6 +10,7 @@ use Rattle.roster_regions.proofs.region.Region.least_values.Given as goal
 abbrev pub invariant-loop-k : goal.invariant-loop-k
 invariant-loop-k l = record {
   covers : length l.values.items ≡ l.k;
-  least : (j : ℕ) → j < l.k → All (λ line. get_or l.values.items j (pos 0) ≤ℤ value_of l.prices line) (lines_of l.self j);
+  least : (j : ℕ) → j < l.k
+      → All (λ line. get_or l.values.items j (pos 0) ≤ℤ value_of l.prices line) (lines_of l.self j);
   within : All (IsWithin MOST_VALUE) l.values.items;
 }

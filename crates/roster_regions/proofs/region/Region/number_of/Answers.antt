@@ -6,7 +6,8 @@ pub overflow_cast-result : goal.overflow_cast-result
 overflow_cast-result c = omega (arith, c.in-Some.ensures.person, c.is_sound.ensures.sound.persons)
 
 pub returns-in-Some : goal.returns-in-Some
-returns-in-Some c = number_of_owner c.args.problem.now c.args.self.now c.in-Some.k c.args.p c.in-Some.ensures.all
+returns-in-Some c =
+    number_of_owner c.args.problem.now c.args.self.now c.in-Some.k c.args.p c.in-Some.ensures.all
 
 pub returns-in-None : goal.returns-in-None
 returns-in-None c places there =

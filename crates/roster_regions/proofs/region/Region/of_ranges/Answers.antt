@@ -13,7 +13,8 @@ idle_is problem = refl
 
 pub tree_of-requires-clause-first : goal.tree_of-requires-clause-first
 tree_of-requires-clause-first c =
-    first_line c.args.problem.now c.args.table.now c.loop-k.k c.requires.table (omega (arith, ap length c.persons-k-end.ensures.value, c.loop-k-test.true))
+    first_line c.args.problem.now c.args.table.now c.loop-k.k c.requires.table
+    (omega (arith, ap length c.persons-k-end.ensures.value, c.loop-k-test.true))
 
 has : (c : goal.After-cost_without_pairings) → HasRanges c.args.problem.now c.args.table.now c.args.ranges.now (record { choices = c.loop-k.persons.items; left_open = c.empty.result; flown = c.empty-2.result; scale = c.scale_of-scale.result; idle = to_z w64 (of_z w64 c.cost_without_pairings.result) })
 has c =
@@ -23,7 +24,9 @@ has c =
       covers = omega (arith, persons, c.loop-k.invariant.covers);
       ranged = omega (arith, c.requires.ranges, c.requires.table.covers);
       each = λ k person. c.loop-k.invariant.each k (omega (arith, persons));
-      idle = to_z-of_z w64 c.cost_without_pairings.result (record { sfits = c.cost_without_pairings.type_inv }) ∙ c.cost_without_pairings.ensures.value ∙ idle_is c.args.problem.now;
+      idle =
+          to_z-of_z w64 c.cost_without_pairings.result (record { sfits = c.cost_without_pairings.type_inv })
+          ∙ c.cost_without_pairings.ensures.value ∙ idle_is c.args.problem.now;
       left_open = c.empty.ensures;
       flown = c.empty-2.ensures;
     }

@@ -10,9 +10,11 @@ returns-in-Some-clause-within c =
     (omega (arith, persons, c.loop-k-test.true), split_within c.args.problem.now c.args.self.now c.loop-k.k c.in-Some.p c.requires (omega (arith, persons, c.loop-k-test.true)) c.in-Some.ensures)
 
 pub loop-k-preserved : goal.loop-k-preserved
-loop-k-preserved c = below_more (λ j. AgreesOn (lines_of c.args.self.now j)) c.loop-k.k c.loop-k.invariant c.in_default.ensures
+loop-k-preserved c =
+    below_more (λ j. AgreesOn (lines_of c.args.self.now j)) c.loop-k.k c.loop-k.invariant c.in_default.ensures
 
 pub returns-clause-split : goal.returns-clause-split
 returns-clause-split c =
     let persons = ap length c.persons-k-end.ensures.value in
-    decided_by_each c.args.self.now c.loop-k.k (omega (arith, persons, c.requires.covers, c.loop-k-test.false, c.loop-k.auto.k-end)) c.loop-k.invariant
+    decided_by_each c.args.self.now c.loop-k.k
+    (omega (arith, persons, c.requires.covers, c.loop-k-test.false, c.loop-k.auto.k-end)) c.loop-k.invariant

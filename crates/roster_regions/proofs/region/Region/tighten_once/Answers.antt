@@ -22,7 +22,10 @@ returns-in_ok-fix_lines-in-Some-2 c =
     let Costs = CostsAtMost problem c.args.most in
     let most = to_z-of_z w64 c.args.most c.ranges.most in
     let yes : c.in_ok-propagate.field-0 ≡ true = search rules in
-    let first = match_true c.in_ok-propagate.field-0 (IsNarrowed problem Anything c.args.self.now c.propagate.new.self) (IsEmpty problem c.args.self.now) yes c.in_ok-propagate.ensures in
+    let first =
+    match_true c.in_ok-propagate.field-0
+    (IsNarrowed problem Anything c.args.self.now c.propagate.new.self)
+    (IsEmpty problem c.args.self.now) yes c.in_ok-propagate.ensures in
     let lines = subst (λ m. IsNarrowed problem (CostsAtMost problem m) c.propagate.new.self c.fix_lines.new.self) most c.in_ok-fix_lines-in-Some-2.ensures in
     let pairings = subst (λ m. IsNarrowed problem (CostsAtMost problem m) c.fix_lines.new.self c.fix_pairings.new.self) most c.fix_pairings.ensures in
     narrowed_then problem Costs c.args.self.now c.propagate.new.self c.fix_pairings.new.self

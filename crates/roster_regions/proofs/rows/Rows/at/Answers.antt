@@ -27,7 +27,8 @@ there c =
     slice_get-map read c.self.inside.rows.now c.args.i ∙ ap (option_map read) c.row_at-row.ensures
 
 -- and its numbers are within their limits
-limited : (c : After-row_at-row) → IsLimited (choice_of c.self.inside.scale c.self.inside.empty c.row_at-row.result)
+limited : (c : After-row_at-row)
+    → IsLimited (choice_of c.self.inside.scale c.self.inside.empty c.row_at-row.result)
 limited c =
     let marks = c.self.inside.marks.now in
     let choices = choices_of c.self.inside.scale c.self.inside.empty c.self.inside.rows.now in
@@ -39,14 +40,20 @@ limited c =
 
 pub times-requires : goal.times-requires
 times-requires c =
-    let apart = difference-words c.row_at-row.result.cost c.self.inside.empty c.above.result (search rules) (search rules) (record { sfits = c.above.type_inv }) c.above.ensures in
-    subst (λ (z : ℤ). IsWithin MOST_EXTRA (pos c.self.inside.scale *ℤ z)) (sym apart) (limited (goal.at.times-requires c).After-row_at-row).extra
+    let apart =
+    difference-words c.row_at-row.result.cost c.self.inside.empty c.above.result (search rules)
+    (search rules) (record { sfits = c.above.type_inv }) c.above.ensures in
+    subst (λ (z : ℤ). IsWithin MOST_EXTRA (pos c.self.inside.scale *ℤ z)) (sym apart)
+    (limited (goal.at.times-requires c).After-row_at-row).extra
 
 -- what is returned is that choice
 same : (c : After-times) → to_z w64 (of_z w64 c.times.result) ≡ pos c.self.inside.scale *ℤ (c.row_at-row.result.cost -ℤ c.self.inside.empty)
 same c =
-    let apart = difference-words c.row_at-row.result.cost c.self.inside.empty c.above.result (search rules) (search rules) (record { sfits = c.above.type_inv }) c.above.ensures in
-    to_z-of_z w64 c.times.result (record { sfits = c.times.type_inv }) ∙ c.times.ensures ∙ ap (λ (z : ℤ). pos c.self.inside.scale *ℤ z) apart
+    let apart =
+    difference-words c.row_at-row.result.cost c.self.inside.empty c.above.result (search rules)
+    (search rules) (record { sfits = c.above.type_inv }) c.above.ensures in
+    to_z-of_z w64 c.times.result (record { sfits = c.times.type_inv }) ∙ c.times.ensures
+    ∙ ap (λ (z : ℤ). pos c.self.inside.scale *ℤ z) apart
 
 with_extra : Bool → ℤ → Choice → Choice
 with_extra live extra choice = record { extra = extra; depth = choice.depth; last = choice.last; live = live }
@@ -68,5 +75,7 @@ returns-clause-limited c =
     record {
       depth = limits.depth;
       last = limits.last;
-      extra = subst (IsWithin MOST_EXTRA) (sym (same (goal.at.returns-clause-limited c).After-times)) limits.extra;
+      extra =
+          subst (IsWithin MOST_EXTRA)
+          (sym (same (goal.at.returns-clause-limited c).After-times)) limits.extra;
     }

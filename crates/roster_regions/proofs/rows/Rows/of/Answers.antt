@@ -11,7 +11,8 @@ use Rattle.roster_regions.proofs.rows.Rows.of.Goals as goal
 pub invariant_of-result : goal.invariant_of-result
 invariant_of-result c =
     let same = to_z-of_z w64 c.cost.result (record { sfits = c.cost.type_inv }) in
-    readable-rows c.args.scale _ c.args.marks.now c.rows.result.now c.args.lines.now c.rows.ensures.entries (c.cost.ensures ∙ ap Some (sym same)) c.rows.ensures.limits c.requires.counted c.requires.near
+    readable-rows c.args.scale _ c.args.marks.now c.rows.result.now c.args.lines.now c.rows.ensures.entries
+    (c.cost.ensures ∙ ap Some (sym same)) c.rows.ensures.limits c.requires.counted c.requires.near
 
 pub returns-clause-lines : goal.returns-clause-lines
 returns-clause-lines c =
@@ -23,7 +24,8 @@ pub returns-clause-others : goal.returns-clause-others
 returns-clause-others c others long =
     let same = to_z-of_z w64 c.cost.result (record { sfits = c.cost.type_inv }) in
     let choices = choices_of c.args.scale (to_z w64 (of_z w64 c.cost.result)) c.rows.result.now in
-    ap lines_in (remarked-again others c.args.marks.now choices (long ∙ length-remarked c.args.marks.now choices))
+    ap lines_in
+    (remarked-again others c.args.marks.now choices (long ∙ length-remarked c.args.marks.now choices))
     ∙ lines_in-remarked others c.args.scale _ c.rows.result.now
     ∙ ap (picked others) (lines_in-rows c.args.scale _ c.rows.result.now c.args.lines.now c.rows.ensures.entries (c.cost.ensures ∙ ap Some (sym same)))
 

@@ -14,8 +14,10 @@ overflow_add-self c =
     let low : c.if-self-at.at ≤ length path = elim c.if-self-at.branch [ then-self-at w ↦ omega (arith, known.whole) | else-self-at w ↦ omega (arith, known.whole) ] in
     let sum = sum-within c.args.prices.now c.args.self.now path c.if-self-at.at c.requires.prices known low in
     let price = price-within c.args.prices.now c.args.choice.now.last c.requires.prices in
-    let fits : SFits w64 (get_or c.args.self.now.sums c.if-self-at.at (pos 0)) = omega (arith, ints, sum.0, sum.1) in
-    let fits' : SFits w64 c.price_of.result = omega (arith, ints, c.price_of.ensures.bound.0, c.price_of.ensures.bound.1) in
+    let fits : SFits w64 (get_or c.args.self.now.sums c.if-self-at.at (pos 0)) =
+    omega (arith, ints, sum.0, sum.1) in
+    let fits' : SFits w64 c.price_of.result =
+    omega (arith, ints, c.price_of.ensures.bound.0, c.price_of.ensures.bound.1) in
     simp to_z-of_z (omega (arith, ints, sum.0, sum.1, c.price_of.ensures.bound.0, c.price_of.ensures.bound.1))
 
 pub returns : goal.returns
@@ -35,10 +37,13 @@ returns c path known =
     let sum = sum-within c.args.prices.now c.args.self.now path at c.requires.prices known low in
     let price = price-within c.args.prices.now c.args.choice.now.last c.requires.prices in
     let fits : SFits w64 (get_or c.args.self.now.sums at (pos 0)) = omega (arith, ints, sum.0, sum.1) in
-    let fits' : SFits w64 c.price_of.result = omega (arith, ints, c.price_of.ensures.bound.0, c.price_of.ensures.bound.1) in
-    let both : SFits w64 (get_or c.args.self.now.sums at (pos 0) +ℤ c.price_of.result) = omega (arith, ints, sum.0, sum.1, c.price_of.ensures.bound.0, c.price_of.ensures.bound.1) in
+    let fits' : SFits w64 c.price_of.result =
+    omega (arith, ints, c.price_of.ensures.bound.0, c.price_of.ensures.bound.1) in
+    let both : SFits w64 (get_or c.args.self.now.sums at (pos 0) +ℤ c.price_of.result) =
+    omega (arith, ints, sum.0, sum.1, c.price_of.ensures.bound.0, c.price_of.ensures.bound.1) in
     let value = c.price_of.ensures.value ∙ ap (price_at c.args.prices.now) c.from.ensures in
     simp to_z-of_z
     (rw (next_path-deep path c.args.choice.now (omega arith), cut)
     (AreSums-step c.args.prices.now c.args.self.now path c.args.choice.now.last at (get_or c.args.self.now.sums at (pos 0) +ℤ c.price_of.result) known low
-    (omega (arith, c.requires.limited.depth, known.few)) (omega arith) (ap (λ (y : ℤ). get_or c.args.self.now.sums at (pos 0) +ℤ y) value)))
+    (omega (arith, c.requires.limited.depth, known.few)) (omega arith)
+    (ap (λ (y : ℤ). get_or c.args.self.now.sums at (pos 0) +ℤ y) value)))

@@ -22,7 +22,9 @@ loop-i-preserved c =
     let item = c.at-choice.result in
     let now = read_on _ _ item _ _ _ _ c.in_ok-step.ensures c.loop-i.invariant.there c.pass.ensures c.loop-i.invariant.writing in
     record {
-      there = c.in_ok-step.ensures ∙ ap (λ path. next_path path item) c.loop-i.invariant.there ∙ sym (path_at choices c.loop-i.i item c.at-choice.ensures.value);
+      there =
+          c.in_ok-step.ensures ∙ ap (λ path. next_path path item) c.loop-i.invariant.there
+          ∙ sym (path_at choices c.loop-i.i item c.at-choice.ensures.value);
       writing =
           kept_at (λ line. true) choices c.loop-i.i item true _ _ _ _
           c.at-choice.ensures.value c.in_ok-step.ensures c.loop-i.invariant.there refl
@@ -34,7 +36,9 @@ of-requires c = (_, _, c.loop-i.invariant.writing)
 
 pub returns : goal.returns
 returns c =
-    let all = take_all c.loop-i.i c.choices-choices.result (omega (arith, c.loop-i-test.false, c.len-i-end.ensures)) in
+    let all =
+    take_all c.loop-i.i c.choices-choices.result
+    (omega (arith, c.loop-i-test.false, c.len-i-end.ensures)) in
     c.of.ensures
     ∙ c.loop-i.invariant.writing.written
     ∙ filter-all (lines_in (take c.loop-i.i c.choices-choices.result))

@@ -8,5 +8,6 @@ use Rattle.roster_regions.proofs.tree.Tree.copied.Given as goal
 abbrev pub invariant-loop-i : goal.invariant-loop-i
 invariant-loop-i l = record {
   there : l.path ≡ path_after [] (take l.i l.choices);
-  writing : IsWriting l.writer (path_after [] (take l.i l.choices)) (filter (λ line. true) (lines_in (take l.i l.choices)));
+  writing : IsWriting l.writer (path_after [] (take l.i l.choices))
+      (filter (λ line. true) (lines_in (take l.i l.choices)));
 }

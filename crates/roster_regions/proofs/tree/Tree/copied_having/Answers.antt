@@ -23,7 +23,9 @@ loop-i-preserved c =
     let item = c.at-choice.result in
     let now = read_on _ _ item _ _ _ _ c.in_ok-step.ensures c.loop-i.invariant.there c.pass.ensures c.loop-i.invariant.writing in
     record {
-      there = c.in_ok-step.ensures ∙ ap (λ path. next_path path item) c.loop-i.invariant.there ∙ sym (path_at choices c.loop-i.i item c.at-choice.ensures.value);
+      there =
+          c.in_ok-step.ensures ∙ ap (λ path. next_path path item) c.loop-i.invariant.there
+          ∙ sym (path_at choices c.loop-i.i item c.at-choice.ensures.value);
       writing =
           kept_at (λ line. agrees c.args.wanted (is_among line.set c.args.p)) choices c.loop-i.i item c.is_wanted.result _ _ _ _
           c.at-choice.ensures.value c.in_ok-step.ensures c.loop-i.invariant.there
@@ -36,7 +38,9 @@ of-requires c = (_, _, c.loop-i.invariant.writing)
 
 pub returns : goal.returns
 returns c =
-    let all = take_all c.loop-i.i c.choices-choices.result (omega (arith, c.loop-i-test.false, c.len-i-end.ensures)) in
+    let all =
+    take_all c.loop-i.i c.choices-choices.result
+    (omega (arith, c.loop-i-test.false, c.len-i-end.ensures)) in
     c.of.ensures
     ∙ c.loop-i.invariant.writing.written
     ∙ ap (λ cs. filter (λ line. agrees c.args.wanted (is_among line.set c.args.p)) (lines_in cs)) all

@@ -25,12 +25,19 @@ loop-i-preserved c =
     let item = c.at-choice.result in
     let there = c.in_ok-step.ensures ∙ ap (λ path. next_path path item) c.loop-i.invariant.there in
     let now = read_on _ _ item _ _ _ _ c.in_ok-step.ensures c.loop-i.invariant.there c.pass.ensures c.loop-i.invariant.writing in
-    let sums = c.step-in-loop-i.ensures (path_after [] (take c.loop-i.i c.choices-choices.result)) c.loop-i.invariant.sums in
-    let value = c.value.ensures.value c.args.prices.now (next_path (path_after [] (take c.loop-i.i c.choices-choices.result)) item) sums in
-    let fits : SFits w64 c.value.result = omega (arith, ints, c.value.ensures.bound.0, c.value.ensures.bound.1) in
+    let sums =
+    c.step-in-loop-i.ensures
+    (path_after [] (take c.loop-i.i c.choices-choices.result)) c.loop-i.invariant.sums in
+    let value =
+    c.value.ensures.value c.args.prices.now
+    (next_path (path_after [] (take c.loop-i.i c.choices-choices.result)) item) sums in
+    let fits : SFits w64 c.value.result =
+    omega (arith, ints, c.value.ensures.bound.0, c.value.ensures.bound.1) in
     record {
       there = there ∙ sym (path_at c.choices-choices.result c.loop-i.i item c.at-choice.ensures.value);
-      sums = subst (AreSums c.args.prices.now c.step-in-loop-i.new.self) (sym (path_at c.choices-choices.result c.loop-i.i item c.at-choice.ensures.value)) sums;
+      sums =
+          subst (AreSums c.args.prices.now c.step-in-loop-i.new.self)
+          (sym (path_at c.choices-choices.result c.loop-i.i item c.at-choice.ensures.value)) sums;
       writing =
           kept_at (λ line. int_le (value_of c.args.prices.now line) (to_z w64 (of_z w64 c.args.most))) c.choices-choices.result c.loop-i.i item _ _ _ _ _
           c.at-choice.ensures.value c.in_ok-step.ensures c.loop-i.invariant.there
@@ -41,7 +48,9 @@ loop-i-preserved c =
 pub returns : goal.returns
 returns c =
     let prices = c.args.prices.now in
-    let all = take_all c.loop-i.i c.choices-choices.result (omega (arith, c.loop-i-test.false, c.len-i-end.ensures)) in
+    let all =
+    take_all c.loop-i.i c.choices-choices.result
+    (omega (arith, c.loop-i-test.false, c.len-i-end.ensures)) in
     c.of.ensures
     ∙ c.loop-i.invariant.writing.written
     ∙ ap (λ z. filter (λ line. int_le (value_of prices line) z) (lines_in (take c.loop-i.i c.choices-choices.result))) (to_z-of_z w64 c.args.most c.ranges.most)

@@ -10,5 +10,6 @@ abbrev pub invariant-loop-i : goal.invariant-loop-i
 invariant-loop-i l = record {
   there : l.path ≡ path_after [] (take l.i l.choices);
   sums : AreSums l.prices l.sums (path_after [] (take l.i l.choices));
-  writing : IsWriting l.writer (path_after [] (take l.i l.choices)) (filter (λ line. int_le (value_of l.prices line) l.most) (lines_in (take l.i l.choices)));
+  writing : IsWriting l.writer (path_after [] (take l.i l.choices))
+      (filter (λ line. int_le (value_of l.prices line) l.most) (lines_in (take l.i l.choices)));
 }

@@ -17,5 +17,6 @@ value-value-requires-clause-known c = (c.args.prices.now, _, c.requires, c.step.
 pub loop-i-preserved : goal.loop-i-preserved
 loop-i-preserved c =
     let choices = c.choices-choices.result in
-    subst (AreSums c.args.prices.now c.step.new.self) (sym (path_at choices c.loop-i.i c.at-choice.result c.at-choice.ensures.value))
+    subst (AreSums c.args.prices.now c.step.new.self)
+    (sym (path_at choices c.loop-i.i c.at-choice.result c.at-choice.ensures.value))
     (c.step.ensures (path_after [] (take c.loop-i.i choices)) c.loop-i.invariant)

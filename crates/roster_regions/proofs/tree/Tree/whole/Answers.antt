@@ -13,10 +13,13 @@ pub invariant_of-result : goal.invariant_of-result
 invariant_of-result c =
     let lines = c.new-all.result in
     let is : picked lines.marks lines.all ≡ map (allowed_in c.args.scale c.args.lines) c.args.lines =
-    ap (λ marks. picked marks lines.all) c.new-all.ensures.marks ∙ picked-all lines.all ∙ c.new-all.ensures.all in
+    ap (λ marks. picked marks lines.all) c.new-all.ensures.marks ∙ picked-all lines.all
+    ∙ c.new-all.ensures.all in
     record {
       limited = tt;
-      some = subst (λ ls. ArePossible ls c.possible-possible.result) c.rows.ensures.lines c.possible-possible.ensures;
+      some =
+          subst
+          (λ ls. ArePossible ls c.possible-possible.result) c.rows.ensures.lines c.possible-possible.ensures;
       all = λ some p.
           ap (λ set. is_among set p) c.empty-certain.ensures
           ∙ sym (ap (list_all (λ line. is_among line.set p)) is ∙ nothing-certain c.args.scale c.args.lines c.args.lines p c.requires.first);
@@ -26,4 +29,5 @@ invariant_of-result c =
 pub returns : goal.returns
 returns c =
     let lines = c.new-all.result in
-    ap (λ marks. picked marks lines.all) c.new-all.ensures.marks ∙ picked-all lines.all ∙ c.new-all.ensures.all
+    ap (λ marks. picked marks lines.all) c.new-all.ensures.marks ∙ picked-all lines.all
+    ∙ c.new-all.ensures.all

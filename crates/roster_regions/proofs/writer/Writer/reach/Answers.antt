@@ -5,7 +5,8 @@ use Rattle.roster_regions.proofs.writer.Writer.reach.Goals as goal
 
 pub loop-self-preserved : goal.loop-self-preserved
 loop-self-preserved c lines is =
-    IsWriting-dead c.loop-self.self _ c.args.path.now lines _ (c.loop-self.invariant lines is) c.in_ok-push.ensures.items refl refl refl refl
+    IsWriting-dead c.loop-self.self _ c.args.path.now lines _
+    (c.loop-self.invariant lines is) c.in_ok-push.ensures.items refl refl refl refl
     (record {
       depth = omega (arith, c.length.ensures.bound);
       last = c.last.ensures.bound;

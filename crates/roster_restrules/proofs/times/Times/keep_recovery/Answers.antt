@@ -16,7 +16,8 @@ loop-i-preserved c =
     let list = picked timed.duties c.args.positions.now in
     let i = c.loop-i.i in
     let block = c.first_of_block-first.ensures in
-    let start : c.self.inside.month_start ≡ month_start timed.days = c.self.invariant.begins ∙ ap (λ (t : Timed). month_start t.days) c.self.view_is in
+    let start : c.self.inside.month_start ≡ month_start timed.days =
+    c.self.invariant.begins ∙ ap (λ (t : Timed). month_start t.days) c.self.view_is in
     let next : i ≡ i + 1 - 1 = omega arith in
     let here = in_time timed c.args.positions.now c.requires.within c.self.inside.month_start c.first_of_block-first.result i c.at-begun.result c.at-ended.result c.loop-i-test.true start c.requires.ordered block c.at-begun.ensures c.at-ended.ensures (c.ends_in_time.ensures.0 c.if-not-ends_in_time.false) in
     record {
@@ -33,7 +34,8 @@ returns-then-not-ends_in_time c = (
   λ h. absurd (false≢true h),
   λ keeps.
       let timed = c.args.self.now in
-      let start : c.self.inside.month_start ≡ month_start timed.days = c.self.invariant.begins ∙ ap (λ (t : Timed). month_start t.days) c.self.view_is in
+      let start : c.self.inside.month_start ≡ month_start timed.days =
+      c.self.invariant.begins ∙ ap (λ (t : Timed). month_start t.days) c.self.view_is in
       absurd (both_ways _ c.if-not-ends_in_time.true (c.ends_in_time.ensures.1 (not_in_time timed c.args.positions.now c.requires.within c.self.inside.month_start c.first_of_block-first.result c.loop-i.i c.at-begun.result c.at-ended.result c.loop-i-test.true start c.first_of_block-first.ensures c.at-begun.ensures c.at-ended.ensures keeps))),
 )
 
@@ -42,6 +44,7 @@ returns c = (
   λ _ i j a b order first second none late.
       let inside = slice_get_within (picked c.args.self.now.duties c.args.positions.now) j b second in
       let long = length-picked c.args.self.now.duties c.args.positions.now c.requires.within in
-      c.loop-i.invariant.kept j (omega (arith, c.loop-i-test.false, inside, long)) i a b order first second none late,
+      c.loop-i.invariant.kept j
+      (omega (arith, c.loop-i-test.false, inside, long)) i a b order first second none late,
   λ _. refl,
 )

@@ -14,7 +14,8 @@ loop-i-preserved c =
     let i = c.loop-i.i in
     let known = λ (k : ℕ) (at : DutyTimes). (duty : Duty) → slice_get duties k ≡ Some duty → AreTimesOf days duty at in
     let here : known i c.times_of.result = λ duty is.
-    let same : c.index-duties-i.result ≡ duty = c.index-duties-i.is ∙ get_or_from_slice_get duties i duty c.index-duties-i.result is in
+    let same : c.index-duties-i.result ≡ duty =
+    c.index-duties-i.is ∙ get_or_from_slice_get duties i duty c.index-duties-i.result is in
     subst (λ d. AreTimesOf days d c.times_of.result) same c.times_of.ensures in
     let next = each-next known i c.loop-i.times.items c.push.new.self.items c.times_of.result c.in_ok-push.ensures.items c.loop-i.invariant.long c.loop-i.invariant.each here in
     record { long = next.0; each = next.1 }

@@ -9,5 +9,6 @@ use Rattle.roster_restrules.proofs.times.Times.new.Given as goal
 abbrev pub invariant-loop-i : goal.invariant-loop-i
 invariant-loop-i l = record {
   long : length l.times.items ≡ l.i;
-  each : (k : ℕ) (at : DutyTimes) → slice_get l.times.items k ≡ Some at → (duty : Duty) → slice_get l.duties k ≡ Some duty → AreTimesOf l.days duty at;
+  each : (k : ℕ) (at : DutyTimes) → slice_get l.times.items k ≡ Some at → (duty : Duty)
+      → slice_get l.duties k ≡ Some duty → AreTimesOf l.days duty at;
 }

@@ -8,5 +8,8 @@ pub loop-preserved : goal.loop-preserved
 loop-preserved g c =
     let problem = c.args.problem.now in
     let most : ℤ = to_z w64 (of_z w64 c.args.most) in
-    let left = subst (IsExplored problem (IsInSome problem c.loop.nodes.items) most) c.in-Open.is c.in_ok-roster.ensures in
-    open_then problem (IsIn problem c.args.node) most c.loop.nodes.items c.in-Open.left.items c.loop.invariant left
+    let left =
+    subst
+    (IsExplored problem (IsInSome problem c.loop.nodes.items) most) c.in-Open.is c.in_ok-roster.ensures in
+    open_then problem
+    (IsIn problem c.args.node) most c.loop.nodes.items c.in-Open.left.items c.loop.invariant left

@@ -21,7 +21,8 @@ returns-in-Some-clause-found c =
     let problem = c.args.problem.now in
     let most : ℤ = to_z w64 (of_z w64 c.args.most) in
     let found = MatchOption-at_some _ _ _ c.in-Some.is c.in_ok-roster.ensures in
-    subst (λ most. IsWithinCost problem (IsIn problem c.args.region) most c.in-Some.roster) (to_z-of_z w64 c.args.most c.ranges.most)
+    subst (λ most. IsWithinCost problem (IsIn problem c.args.region) most c.in-Some.roster)
+    (to_z-of_z w64 c.args.most c.ranges.most)
     (found_then problem (IsIn problem c.args.region) most c.loop.nodes.items c.in-Some.roster c.loop.invariant found)
 
 pub loop-preserved : goal.loop-preserved
@@ -29,4 +30,5 @@ loop-preserved c =
     let problem = c.args.problem.now in
     let most : ℤ = to_z w64 (of_z w64 c.args.most) in
     let left = MatchOption-at_none _ _ c.in_default.is c.in_ok-roster.ensures in
-    open_then problem (IsIn problem c.args.region) most c.loop.nodes.items c.visit_last.new.nodes.items c.loop.invariant left
+    open_then problem
+    (IsIn problem c.args.region) most c.loop.nodes.items c.visit_last.new.nodes.items c.loop.invariant left

@@ -4,7 +4,8 @@ use Rattle.roster_subtreepool.proofs.LiesLemmas.{end-times, finds}
 use Rattle.roster_subtreepool.proofs.closed.Closed.finished.Goals as goal
 
 pub returns-clause-once : goal.returns-clause-once
-returns-clause-once c numbers box = end-times c.args.self.now numbers (subst IsEnd c.self.view_is c.self.invariant) box
+returns-clause-once c numbers box =
+    end-times c.args.self.now numbers (subst IsEnd c.self.view_is c.self.invariant) box
 
 pub returns-clause-found : goal.returns-clause-found
 returns-clause-found c numbers box =

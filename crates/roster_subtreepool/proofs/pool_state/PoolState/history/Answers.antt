@@ -6,5 +6,7 @@ use Rattle.roster_subtreepool.proofs.pool_state.PoolState.history.Goals as goal
 pub returns-clause-finishes : goal.returns-clause-finishes
 returns-clause-finishes g c =
     let inside = c.self.inside in
-    let finished = after-finished inside.board.widths (length inside.board.hands) inside.history.items inside.board c.self.invariant.replay in
+    let finished =
+    after-finished inside.board.widths
+    (length inside.board.hands) inside.history.items inside.board c.self.invariant.replay in
     subst (λ (pool : Played). length pool.state.finished ≡ finishes pool.events) c.self.view_is finished

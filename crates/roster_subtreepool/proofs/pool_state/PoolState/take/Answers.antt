@@ -7,4 +7,5 @@ pub invariant_of-self-2 : goal.invariant_of-self-2
 invariant_of-self-2 g c =
     let inside = c.self.inside in
     pool-more inside.board c.take.new.self inside.history.items c.reserve.new.self.items c.push_reserved.new.self.items (Take c.args.worker c.args.place) inside.book.total inside.book.total
-    c.self.invariant c.in_ok-piece.ensures.step c.reserve.ensures.items c.push_reserved.ensures.items (omega arith)
+    c.self.invariant c.in_ok-piece.ensures.step c.reserve.ensures.items c.push_reserved.ensures.items
+    (omega arith)
