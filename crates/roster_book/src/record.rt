@@ -1,7 +1,7 @@
 //! The kinds of records, and a file for each: what a record of it adds to the tables, or what is wrong with
 //! it. A record is taken by its kind. `window` and `busy` tell of the times that several kinds have.
 
-ghost use Rattle.std.specs.Prelude.{◌≡◌, ℕ, List, option_map};
+ghost use Rattle.std.specs.Prelude.{◌≡◌, List, option_map};
 ghost use Rattle.csv.specs.Records.{fields_of};
 ghost use Rattle.roster_model.specs.Record.{Record, PeriodRecord, is_of};
 ghost use Rattle.roster_model.specs.Faults.{kind_in};

@@ -6,41 +6,29 @@ use Rattle.std.proofs.lemmas.Int.{ints, to_z-of_z}
 use Rattle.std.specs.Int.{w128}
 use Rattle.std.specs.Int.Signed.{mag}
 use Rattle.std.proofs.lemmas.List.{length-map, length-append, get_or_past, get_or_push}
-use Rattle.std.proofs.lemmas.Option.{same_Some, slice_get_cases, slice_get_within, slice_get-get_or, slice_get-map, get_or_from_slice_get}
+use Rattle.std.proofs.lemmas.Option.{same_Some, slice_get_cases, slice_get_within, slice_get-map, get_or_from_slice_get}
 use Rattle.roster_model.specs.declared.limits.TheConstants.{MOST_PERSONS}
 use Rattle.roster_model.specs.Problem.{Problem}
 use Rattle.roster_model.specs.Costs.{line_cost, total}
-use Rattle.roster_model.specs.Lines.{AreLines, IsLine}
+use Rattle.roster_model.specs.Lines.{IsLine}
 use Rattle.roster_model.proofs.SetLemmas.{length_within}
 use Rattle.roster_problem.specs.Sound.{IsSound}
 use Rattle.roster_cost.specs.Amounts.{IsWithin, most_units}
 use Rattle.roster_cost.proofs.Fits.{total-within, within_more}
-use Rattle.roster_lines.specs.Entries.{Entry, costs_of, sets_of}
-use Rattle.roster_lines.specs.Person.{lines_at, IsTableOf}
+use Rattle.roster_linetable.specs.Entries.{Entry, costs_of, sets_of}
+use Rattle.roster_linetable.specs.Person.{lines_at, IsTableOf}
+use Rattle.roster_linetable.proofs.TableLemmas.{all_lines_in_table, whole_table-at}
 use Rattle.roster_bounds.specs.declared.prices.TheConstants.{MOST_PRICE}
 use Rattle.roster_bounds.specs.Amounts.{AreReduced, most_prices}
 use Rattle.roster_bounds.specs.Chosen.{line_set, price_at}
 
 -- ---- lines of a table
 
-there : (problem : Problem) (table : List (List Entry)) (k : ℕ) → IsTableOf problem table
-    → k < length problem.persons → slice_get table k ≡ Some (lines_at table k)
-there problem table k is person =
-    let none : List Entry = [] in
-    let inside : k < length table = omega (arith, is.sets.covers, length-map table sets_of) in
-    slice_get-get_or table k none inside
-
-pub lines_of_person : (problem : Problem) (table : List (List Entry)) (k : ℕ) → IsTableOf problem table
-    → k < length problem.persons → AreLines problem k (sets_of (lines_at table k))
-lines_of_person problem table k is person =
-    is.sets.each k (sets_of (lines_at table k))
-    (slice_get-map sets_of table k ∙ rw (there problem table k is person) refl)
-
 -- each number below the width is that of a line
 pub line_is : (problem : Problem) (table : List (List Entry)) (k i : ℕ) → IsTableOf problem table
     → k < length problem.persons → i < length (lines_at table k) → IsLine problem k (line_set table k i)
 line_is problem table k i is person inside =
-    (lines_of_person problem table k is person).some.lines i []
+    (all_lines_in_table problem table k is person).some.lines i []
     (omega (arith, length-map (lines_at table k) (λ entry. entry.set)))
 
 -- and each line has a number
@@ -48,7 +36,7 @@ pub number_of_line : (problem : Problem) (table : List (List Entry)) (k : ℕ) (
     → IsTableOf problem table → k < length problem.persons → IsLine problem k set
     → (i : ℕ) × (i < length (lines_at table k)) × (slice_get (sets_of (lines_at table k)) i ≡ Some set)
 number_of_line problem table k set is person line =
-    let found = (lines_of_person problem table k is person).every set line in
+    let found = (all_lines_in_table problem table k is person).every set line in
     (found.0, omega (arith, slice_get_within _ found.0 set found.1, length-map (lines_at table k) (λ entry. entry.set)), found.1)
 
 pub line_set-at : (table : List (List Entry)) (k i : ℕ) (set : List ℕ)
@@ -61,7 +49,7 @@ pub cost_of_line : (problem : Problem) (table : List (List Entry)) (k i : ℕ) (
     → slice_get (costs_of (lines_at table k)) i ≡ Some cost → cost ≡ line_cost problem k (line_set table k i)
 cost_of_line problem table k i cost is person at =
     let lines = lines_at table k in
-    let costed = is.costs k lines (there problem table k is person) in
+    let costed = is.costs k lines (whole_table-at problem table k is person) in
     let inside : i < length lines =
     omega (arith, slice_get_within (costs_of lines) i cost at, length-map lines (λ entry. entry.cost)) in
     elim (slice_get_cases lines i).1 [

@@ -9,8 +9,8 @@ use Rattle.roster_model.specs.Places.{set_of}
 use Rattle.roster_model.specs.Rules.{IsLegal}
 use Rattle.roster_model.specs.Lines.{IsLine}
 use Rattle.roster_model.proofs.SetLemmas.{Ascends-set_of, places_of_number, rising_from_Ascends}
-use Rattle.roster_lines.specs.Entries.{Entry, sets_of}
-use Rattle.roster_lines.specs.Person.{lines_at, IsTableOf}
+use Rattle.roster_linetable.specs.Entries.{Entry, sets_of}
+use Rattle.roster_linetable.specs.Person.{lines_at, IsTableOf}
 use Rattle.roster_bounds.proofs.PricedLines.{line_is, line_set-at, number_of_line}
 
 -- what a table finds

@@ -9,13 +9,13 @@ use Rattle.roster_model.specs.Places.{set_of}
 use Rattle.roster_model.specs.Rosters.{IsLegalRoster, Key}
 use Rattle.roster_model.specs.Settled.{Settles}
 use Rattle.roster_model.proofs.SettledLemmas.{Settles-wider, Settles-within}
-use Rattle.roster_lines.specs.Entries.{Entry, sets_of}
-use Rattle.roster_lines.specs.Person.{lines_at, IsTableOf}
+use Rattle.roster_linetable.specs.Entries.{Entry, sets_of}
+use Rattle.roster_linetable.specs.Person.{lines_at, IsTableOf}
 use Rattle.roster_bounds.specs.Chosen.{line_set, HasLines, Meets}
-use Rattle.roster_lines.proofs.Cuts.{one_place}
-use Rattle.roster_lines.proofs.Numbers.{AreNumbersOf-exist}
+use Rattle.roster_linetable.proofs.Cuts.{one_place}
+use Rattle.roster_linetable.proofs.Numbers.{AreNumbersOf-exist}
 use Rattle.roster_regions.specs.Regions.{IsInRanges}
-use Rattle.roster_bounds.proofs.PricedLines.{lines_of_person}
+use Rattle.roster_linetable.proofs.TableLemmas.{all_lines_in_table}
 use Rattle.roster_bounds.proofs.OfNode.{has_line, later_is_apart}
 use Rattle.roster_branchtree.specs.Spans.{range_at, range_or, AreRangesOf, IsInSpan}
 use Rattle.roster_spans.specs.Spans.{Span}
@@ -144,7 +144,7 @@ in_span problem table span ranges places is legal short are inside =
     let number = slice_get-get_or numbers k 0 (omega (arith, long)) in
     let also =
     found.1.sets k (get_or numbers k 0) (sets_of (lines_at table k)) number (sets_at table k few) in
-    let ordered = (lines_of_person problem table k is (omega (arith, many))).some.ordered in
+    let ordered = (all_lines_in_table problem table k is (omega (arith, many))).some.ordered in
     number ∙ ap (λ (n : ℕ). Some n) (one_place (sets_of (lines_at table k)) ordered (get_or numbers k 0) i (set_of k places) also at) in
     let front : (k i : ℕ) → slice_get span.path k ≡ Some i → slice_get numbers k ≡ Some i = λ k i at.
     let few : k < length table = omega (arith, slice_get_within span.path k i at, many, short) in

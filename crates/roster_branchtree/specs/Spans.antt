@@ -1,8 +1,8 @@
 -- The rosters of a span, and its range of lines for each person.
 use Rattle.std.specs.Prelude.{◌≡◌, ℕ, ◌<◌, ◌+◌, ◌==◌, if◌then◌else◌, List, Option, Some, None, length, map, slice_get}
 use Rattle.roster_model.specs.Lines.{AreNumbersOf}
-use Rattle.roster_lines.specs.Entries.{Entry, sets_of}
-use Rattle.roster_lines.specs.Person.{lines_at}
+use Rattle.roster_linetable.specs.Entries.{Entry, sets_of}
+use Rattle.roster_linetable.specs.Person.{lines_at}
 use Rattle.roster_spans.specs.Spans.{LiesIn, Span}
 
 -- the places have a list of line numbers that lies in the span

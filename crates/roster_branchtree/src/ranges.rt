@@ -2,12 +2,12 @@
 
 ghost use Rattle.std.specs.Prelude.{◌≡◌, ◌<◌, ◌≤◌, ℕ, IfOk, List, MatchOption, length};
 ghost use Rattle.roster_model.specs.Rosters.{IsLegalRoster};
-ghost use Rattle.roster_lines.specs.Person.{IsTableOf};
+ghost use Rattle.roster_linetable.specs.Person.{IsTableOf};
 ghost use Rattle.roster_bounds.specs.Chosen.{HasLines};
 ghost use Rattle.roster_branchtree.specs.Spans.{range_at, AreLineNumbers, AreRangesOf};
 
 use roster_bounds::{Node, Tables};
-use roster_lines::Table;
+use roster_linetable::Table;
 use roster_problem::Problem;
 use roster_spans::Span;
 use std::alloc::{AllocError, Global};

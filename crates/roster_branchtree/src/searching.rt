@@ -2,7 +2,7 @@
 
 ghost use Rattle.std.specs.Prelude.{◌≡◌, ◌<◌, ℕ, true, IfErr, IfOk, List, MatchBool, Some, length, unwrap_or};
 ghost use Rattle.std.specs.Arc.{arc_value};
-ghost use Rattle.roster_lines.specs.Person.{IsTableOf};
+ghost use Rattle.roster_linetable.specs.Person.{IsTableOf};
 ghost use Rattle.roster_model.specs.Rosters.{key_le, key_of, IsLegalRoster};
 ghost use Rattle.roster_model.specs.Settled.{IsHeld, IsNotAfter, Settles};
 ghost use Rattle.roster_bounds.specs.Chosen.{priced_table};
@@ -13,7 +13,7 @@ use crate::sight::Sight;
 use crate::watch::{Watch, earlier_if};
 use roster_bounds::Tables;
 use roster_cost::Key;
-use roster_lines::{Table, all_lines_are_some};
+use roster_linetable::{Table, all_lines_are_some};
 use roster_problem::{Problem, Roster};
 use roster_search::{Nodes, least_of_box};
 use roster_spans::{Done, Piece, Span};

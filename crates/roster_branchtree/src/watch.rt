@@ -2,7 +2,7 @@
 
 ghost use Rattle.std.specs.Prelude.{◌≡◌, ◌<◌, true, not, IfOk, IfSome, IsTrue, MatchOption};
 ghost use Rattle.std.specs.Arc.{arc_value};
-ghost use Rattle.roster_lines.specs.Person.{IsTableOf};
+ghost use Rattle.roster_linetable.specs.Person.{IsTableOf};
 ghost use Rattle.roster_model.specs.Rosters.{key_le};
 ghost use Rattle.roster_model.specs.Settled.{IsHeld};
 ghost use Rattle.roster_branchtree.specs.Shown.{IsEarlierOf};
@@ -10,7 +10,7 @@ ghost use Rattle.roster_branchtree.specs.Shown.{IsEarlierOf};
 use crate::checked::is_held;
 use crate::sight::Sight;
 use roster_cost::{comes_before, keys_are_in_order};
-use roster_lines::Table;
+use roster_linetable::Table;
 use roster_problem::{Problem, Roster};
 use roster_search::Nodes;
 use std::alloc::{AllocError, Global};
@@ -33,7 +33,7 @@ pub(crate) struct Watch<'a, S> {
 impl<'a, S> Model for Watch<'a, S> {
     ghost use Rattle.std.specs.Prelude.{◌≤◌};
     ghost use Rattle.std.specs.Arc.{arc_value};
-    ghost use Rattle.roster_lines.specs.Person.{IsTableOf};
+    ghost use Rattle.roster_linetable.specs.Person.{IsTableOf};
     ghost use Rattle.roster_branchtree.specs.Shown.{Watched};
 
     ghost Value = { Watched };

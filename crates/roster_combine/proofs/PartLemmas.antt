@@ -11,9 +11,9 @@ use Rattle.roster_model.specs.Settled.{IsHeld}
 use Rattle.roster_model.specs.Lines.{AreNumbersOf}
 use Rattle.roster_model.proofs.KeyLemmas.{key_le-trans}
 use Rattle.roster_model.proofs.SettledLemmas.{held-key}
-use Rattle.roster_lines.specs.Entries.{Entry, sets_of}
-use Rattle.roster_lines.specs.Person.{IsTableOf, lines_at}
-use Rattle.roster_lines.proofs.Numbers.{AreNumbersOf-exist}
+use Rattle.roster_linetable.specs.Entries.{Entry, sets_of}
+use Rattle.roster_linetable.specs.Person.{IsTableOf, lines_at}
+use Rattle.roster_linetable.proofs.Numbers.{AreNumbersOf-exist}
 use Rattle.roster_spans.specs.Spans.{LiesIn, Span}
 use Rattle.roster_branchtree.proofs.SpanLemmas.{sets_at}
 use Rattle.roster_subtreepool.specs.Coverage.{IsInWidths}

@@ -9,9 +9,9 @@ use Rattle.roster_model.specs.Rosters.{IsLegalRoster, key_of, key_le}
 use Rattle.roster_model.specs.Settled.{IsBest}
 use Rattle.roster_model.proofs.KeyLemmas.{key_le-refl}
 use Rattle.roster_model.proofs.RosterLemmas.{all_open_legal}
-use Rattle.roster_lines.specs.Entries.{Entry, sets_of}
-use Rattle.roster_lines.specs.Person.{lines_at, IsTableOf}
-use Rattle.roster_lines.proofs.Numbers.{AreNumbersOf-exist}
+use Rattle.roster_linetable.specs.Entries.{Entry, sets_of}
+use Rattle.roster_linetable.specs.Person.{lines_at, IsTableOf}
+use Rattle.roster_linetable.proofs.Numbers.{AreNumbersOf-exist}
 use Rattle.roster_branchtree.specs.Spans.{IsInSpan}
 use Rattle.roster_spans.specs.Spans.{Span}
 use Rattle.roster_branchtree.proofs.SpanLemmas.{sets_at}

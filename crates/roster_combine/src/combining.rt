@@ -3,7 +3,7 @@
 ghost use Rattle.std.specs.Prelude.{◌≡◌, ◌<◌, ◌≤◌, ◌↔◌, [], ℕ, All, IfOk, IsTrue, length, map};
 ghost use Rattle.std.specs.Prelude.{slice_index_or};
 ghost use Rattle.std.specs.Arc.{arc_value};
-ghost use Rattle.roster_lines.specs.Person.{IsTableOf};
+ghost use Rattle.roster_linetable.specs.Person.{IsTableOf};
 ghost use Rattle.roster_branchtree.specs.Shown.{IsEarlierOf};
 ghost use Rattle.roster_spans.specs.Spans.{Span as PlainSpan};
 ghost use Rattle.roster_combine.specs.Parts.{Agree, AreSettled, IsBestKey, IsLeastOf, IsLeastOfAll, span_of};
@@ -12,7 +12,7 @@ ghost use Rattle.roster_combine.specs.Parts.{spans_by};
 use crate::root::{first_known, search_root, widths_of};
 use roster_branchtree::Span;
 use roster_cost::{comes_before, keys_are_in_order};
-use roster_lines::Table;
+use roster_linetable::Table;
 use roster_problem::{Problem, Roster};
 use roster_subtreepool::{Closed, Settled};
 use std::alloc::{AllocError, Global};

@@ -4,8 +4,8 @@ ghost use Rattle.std.specs.Prelude.{◌≡◌, ℕ, All, List, length, map, repl
 ghost use Rattle.roster_model.specs.Problem.{Problem};
 ghost use Rattle.roster_model.specs.Rosters.{IsLegalRoster, Key};
 ghost use Rattle.roster_model.specs.Settled.{IsBest, IsHeld};
-ghost use Rattle.roster_lines.specs.Entries.{Entry};
-ghost use Rattle.roster_lines.specs.Person.{IsTableOf};
+ghost use Rattle.roster_linetable.specs.Entries.{Entry};
+ghost use Rattle.roster_linetable.specs.Person.{IsTableOf};
 ghost use Rattle.roster_subtreepool.specs.States.{Part};
 ghost use Rattle.roster_combine.specs.Parts.{Agree, AreSettled, IsBestKey, IsLeastOfAll};
 

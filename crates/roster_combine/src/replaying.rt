@@ -2,7 +2,7 @@
 
 ghost use Rattle.std.specs.Prelude.{◌≡◌, ◌<◌, ℕ, IfErr, IfOk, length};
 ghost use Rattle.std.specs.Arc.{arc_value};
-ghost use Rattle.roster_lines.specs.Person.{IsTableOf};
+ghost use Rattle.roster_linetable.specs.Person.{IsTableOf};
 ghost use Rattle.roster_model.specs.Lines.{IsCrowded};
 ghost use Rattle.roster_bounds.specs.Chosen.{priced_table};
 ghost use Rattle.roster_combine.specs.Parts.{IsBestKey};
@@ -13,7 +13,8 @@ use crate::root::search_root;
 use crate::search::SolveFault;
 use crate::stage::Stage;
 use roster_bounds::{Tables, choose_tables};
-use roster_lines::{Table, nobody_is_crowded, table_of};
+use roster_lines::table_of;
+use roster_linetable::{Table, nobody_is_crowded};
 use roster_model::limits::MOST_WORKERS;
 use roster_problem::{Problem, Step};
 use std::alloc::{AllocError, Global};

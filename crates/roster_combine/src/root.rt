@@ -2,7 +2,7 @@
 
 ghost use Rattle.std.specs.Prelude.{◌≡◌, ◌<◌, ℕ, IfOk, List, Ok, length, map, replicate};
 ghost use Rattle.std.specs.Arc.{arc_value};
-ghost use Rattle.roster_lines.specs.Person.{IsTableOf};
+ghost use Rattle.roster_linetable.specs.Person.{IsTableOf};
 ghost use Rattle.roster_model.specs.Rosters.{IsLegalRoster, key_of};
 ghost use Rattle.roster_model.specs.Settled.{IsHeld};
 ghost use Rattle.roster_branchtree.specs.Spans.{IsInSpan};
@@ -10,7 +10,7 @@ ghost use Rattle.roster_combine.specs.Parts.{IsBestKey};
 
 use roster_bounds::choose_tables;
 use roster_branchtree::{Done, Path, Piece, Sight, Span, all_left, search};
-use roster_lines::Table;
+use roster_linetable::Table;
 use roster_problem::{Problem, Roster};
 use std::alloc::{AllocError, Global};
 use std::sync::Arc;

@@ -3,7 +3,7 @@
 ghost use Rattle.std.specs.Prelude.{◌≡◌, ◌+◌, ◌<◌, ◌≤◌, [], ℕ, IfOk, None, OnOk, Some, length, map};
 ghost use Rattle.std.specs.Prelude.{replicate, vec_capacity, vec_len};
 ghost use Rattle.std.specs.Arc.{arc_value};
-ghost use Rattle.roster_lines.specs.Person.{IsTableOf};
+ghost use Rattle.roster_linetable.specs.Person.{IsTableOf};
 ghost use Rattle.roster_bounds.specs.Chosen.{priced_table};
 ghost use Rattle.roster_subtreepool.specs.States.{held, step};
 ghost use Rattle.roster_combine.specs.Parts.{IsBestKey, IsSettled};
@@ -15,7 +15,7 @@ use crate::working::forgo;
 use roster_bounds::Tables;
 use roster_branchtree::{Done, Piece, Sight, search};
 use roster_incumbent::keep_less;
-use roster_lines::Table;
+use roster_linetable::Table;
 use roster_model::limits::MOST_WORKERS;
 use roster_problem::{Problem, Roster, Step};
 use roster_subtreepool::{Event, PoolFault, PoolState, Settled, Share};
@@ -53,7 +53,7 @@ pub(crate) struct Stage<'a, L: Ledger> {
 impl<'a, L: Ledger> Model for Stage<'a, L> {
     ghost use Rattle.std.specs.Prelude.{◌≡◌, ◌<◌, length, map, vec_len};
     ghost use Rattle.std.specs.Arc.{arc_value};
-    ghost use Rattle.roster_lines.specs.Person.{IsTableOf};
+    ghost use Rattle.roster_linetable.specs.Person.{IsTableOf};
     ghost use Rattle.roster_bounds.specs.Chosen.{priced_table};
     ghost use Rattle.roster_combine.specs.Replays.{IsReplaying, Replay};
 

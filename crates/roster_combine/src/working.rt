@@ -3,7 +3,7 @@
 ghost use Rattle.std.specs.Prelude.{◌≡◌, ◌+◌, ◌≤◌, IfErr, IfOk, IfSome, MatchOption, OnErr, vec_capacity};
 ghost use Rattle.std.specs.Prelude.{vec_len};
 ghost use Rattle.std.specs.Arc.{arc_value};
-ghost use Rattle.roster_lines.specs.Person.{IsTableOf};
+ghost use Rattle.roster_linetable.specs.Person.{IsTableOf};
 ghost use Rattle.roster_model.specs.Settled.{IsHeld};
 ghost use Rattle.roster_bounds.specs.Chosen.{priced_table};
 ghost use Rattle.roster_combine.specs.Parts.{AreSettled, IsSettled};
@@ -13,7 +13,7 @@ use crate::root::{first_known, found};
 use roster_bounds::Tables;
 use roster_branchtree::{Done, Piece, search};
 use roster_incumbent::Incumbent;
-use roster_lines::Table;
+use roster_linetable::Table;
 use roster_problem::{Problem, Roster};
 use roster_subtreepool::{Pool, PoolFault, Settled, Share};
 use std::alloc::{AllocError, Global};
@@ -80,7 +80,7 @@ struct Worker<'a, R, L: Ledger, G> {
 
 impl<'a, R, L: Ledger, G> Model for Worker<'a, R, L, G> {
     ghost use Rattle.std.specs.Prelude.{◌≡◌};
-    ghost use Rattle.roster_lines.specs.Person.{IsTableOf};
+    ghost use Rattle.roster_linetable.specs.Person.{IsTableOf};
     ghost use Rattle.roster_bounds.specs.Chosen.{priced_table};
     ghost use Rattle.roster_combine.specs.Parts.{Task};
 

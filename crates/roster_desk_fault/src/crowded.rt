@@ -3,7 +3,8 @@
 ghost use Rattle.std.specs.Prelude.{◌<◌, ◌↔◌, ℕ, IfOk, IsTrue, MatchOption, length};
 ghost use Rattle.roster_model.specs.Lines.{IsCrowded, IsFirstCrowded};
 
-use roster_lines::{LinesFault, few_are_not_crowded, lines_of};
+use roster_lines::{LinesFault, lines_of};
+use roster_linetable::few_are_not_crowded;
 use roster_problem::Problem;
 use std::alloc::{AllocError, Global};
 

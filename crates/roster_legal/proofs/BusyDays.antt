@@ -82,12 +82,12 @@ busy-next problem k p set old more are brought i inside =
 pub busy-stepped : (loads : Loaded) (judged : Stepped) (p depth busy more : ℕ) (positions rooms : List ℕ)
     → loads ≡ judged.loads
     → IsStepped judged.loads judged.set depth positions rooms busy
-    → (is_among loads.alone p ≡ true → AreBusyDays (home_of loads.problem loads.person).days (filter (is_of_pairing p) loads.problem.duties) more)
-    → is_among judged.loads.alone p ≡ true
+    → (is_among loads.among p ≡ true → AreBusyDays (home_of loads.problem loads.person).days (filter (is_of_pairing p) loads.problem.duties) more)
+    → is_among judged.loads.among p ≡ true
     → AreBusyDaysOf judged.loads.problem judged.loads.person (judged.set ++ p ∷ []) (bit_or busy more)
 busy-stepped loads judged p depth busy more positions rooms same known brought alone =
     let is = subst (λ (l : Loaded). AreBusyDays (home_of l.problem l.person).days (filter (is_of_pairing p) l.problem.duties) more) same
-    (brought (ap (λ (l : Loaded). is_among l.alone p) same ∙ alone)) in
+    (brought (ap (λ (l : Loaded). is_among l.among p) same ∙ alone)) in
     busy-next judged.loads.problem judged.loads.person p judged.set busy more known.busy is
 
 -- whether a word leaves days off to a person is told by the days of the person's home

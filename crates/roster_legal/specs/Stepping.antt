@@ -14,7 +14,7 @@ use Rattle.roster_legal.specs.declared.loads.Load.{Load}
 pub record Loaded : Type 0 where
   pub problem : Problem
   pub person : ℕ
-  pub alone : List ℕ
+  pub among : List ℕ
 
 -- what pairing p takes of the judged sums of person k
 abbrev pub IsLoadOf : Problem → ℕ → ℕ → List ℕ → Type 0
@@ -29,7 +29,7 @@ pub record IsLoad (problem : Problem) (k p : ℕ) (load : Load) : Type 0 where
 -- what each of these pairings takes; of others nothing is said
 pub record AreLoads (loaded : Loaded) (loads : List Load) : Type 0 where
   pub covers : length loads ≡ length loaded.problem.pairings
-  pub each : (p : ℕ) (load : Load) → slice_get loads p ≡ Some load → is_among loaded.alone p ≡ true
+  pub each : (p : ℕ) (load : Load) → slice_get loads p ≡ Some load → is_among loaded.among p ≡ true
       → IsLoad loaded.problem loaded.person p load
 
 -- the person is one of a problem's, whose duties are in order
@@ -79,7 +79,7 @@ pub record IsStepped (loaded : Loaded) (set : List ℕ) (pairings : ℕ) (positi
 -- The pairing comes behind those of the set, and is known to be legal alone and with each of them.
 pub record IsNext (stepped : Stepped) (p : ℕ) : Type 0 where
   pub place : p < length stepped.loads.problem.pairings
-  pub alone : is_among stepped.loads.alone p ≡ true
+  pub alone : is_among stepped.loads.among p ≡ true
   pub behind : All (λ q. q < p) stepped.set
   pub single : IsLegal stepped.loads.problem stepped.loads.person (p ∷ [])
   pub pairs : (q : ℕ) → is_among stepped.set q ≡ true

@@ -29,7 +29,7 @@ pub(crate) struct Load {
 pub struct Loads<'a> {
     problem: &'a Problem,
     person: usize,
-    alone: Set,
+    among: Set,
     times: Times<'a>,
     loads: Vec<Load>,
 }
@@ -39,10 +39,10 @@ impl<'a> Model for Loads<'a> {
 
     ghost Value = { Loaded };
 
-    ghost view = { λ l. record { problem = l.problem.now; person = l.person; alone = l.alone } };
+    ghost view = { λ l. record { problem = l.problem.now; person = l.person; among = l.among } };
 
     ghost invariant = { λ l. IsLoaded
-        (record { problem = l.problem.now; person = l.person; alone = l.alone })
+        (record { problem = l.problem.now; person = l.person; among = l.among })
         l.times l.loads.items };
 }
 
@@ -52,19 +52,19 @@ impl<'a> Loads<'a> {
         alloc: Global,
         problem: &'a Problem,
         k: usize,
-        alone: Set,
+        among: Set,
     ) -> Result<Loads<'a>, AllocError>
         requires { k < length problem.now.persons }
         ensures { IfOk result
-            (λ loads. loads ≡ record { problem = problem.now; person = k; alone = alone }) }
+            (λ loads. loads ≡ record { problem = problem.now; person = k; among = among }) }
     {
         let times = Times::new(alloc, problem.days_of(k), problem.duties())?;
-        let loads = all_loads(alloc, problem, k, &alone)?;
+        let loads = all_loads(alloc, problem, k, &among)?;
         prove!(problem.pairings().len() <= MOST_PAIRINGS);
         Ok(Loads {
             problem,
             person: k,
-            alone,
+            among,
             times,
             loads,
         })
@@ -88,7 +88,7 @@ impl<'a> Loads<'a> {
     /// What a pairing takes, if it is one of these.
     pub(crate) fn load(&self, p: usize) -> &[u16]
         requires { p < length self.now.problem.pairings }
-        ensures { is_among self.now.alone p ≡ true
+        ensures { is_among self.now.among p ≡ true
             → IsLoadOf self.now.problem self.now.person p result.now }
     {
         self.loads[p].minutes.as_slice()
@@ -97,7 +97,7 @@ impl<'a> Loads<'a> {
     /// The days of the month that a pairing makes busy, if it is one of these.
     pub(crate) fn busy(&self, p: usize) -> u32
         requires { p < length self.now.problem.pairings }
-        ensures { is_among self.now.alone p ≡ true
+        ensures { is_among self.now.among p ≡ true
             → AreBusyDays (home_of self.now.problem self.now.person).days
             (filter (is_of_pairing p) self.now.problem.duties) result }
     {
@@ -121,15 +121,15 @@ fn all_loads(
     alloc: Global,
     problem: &Problem,
     k: usize,
-    alone: &Set,
+    among: &Set,
 ) -> Result<Vec<Load>, AllocError>
     requires { k < length problem.now.persons }
     ensures { IfOk result (λ loads. AreLoads
-        (record { problem = problem.now; person = k; alone = alone.now }) loads.items) }
+        (record { problem = problem.now; person = k; among = among.now }) loads.items) }
 {
     let mut loads = Vec::new(alloc);
     for p in 0..problem.pairings().len() {
-        let load = load_if(alloc, problem, k, p, alone.has(p))?;
+        let load = load_if(alloc, problem, k, p, among.has(p))?;
         loads.push(load)?;
     }
     Ok(loads)

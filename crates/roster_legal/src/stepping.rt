@@ -91,9 +91,9 @@ impl<'a> JudgedSet<'a> {
         })
     }
 
-    /// The set with the pairing at place `p` behind, if that is legal. The rules that speak of one duty
-    /// or of two are known, since each two pairings are legal together; so it judges no more than what
-    /// counts days or minutes, and Recovery, and these of three pairings or more.
+    /// The set with the pairing at place `p` behind, if that is legal. Each two pairings are legal together,
+    /// so the rules that speak of one duty or of two hold. Only Recovery and the rules that count days or
+    /// minutes are judged, and only of three pairings or more.
     pub fn with(&self, p: usize, spare: &mut Spare) -> Result<Option<JudgedSet<'a>>, AllocError>
         requires { IsNext self.now p }
         ensures { IfOk result (λ judged. MatchOption judged (¬ IsLegalNext self.now p)

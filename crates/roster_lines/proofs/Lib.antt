@@ -1,13 +1,7 @@
-pub mod Preorder
-pub mod TreeLemmas
 pub mod Listed
 pub mod Marks
 pub mod WantedLemmas
 pub mod Stems
-pub mod Walk
 pub mod Judged
-pub mod Cuts
-pub mod Lists
 pub mod Made
-pub mod Numbers
 pub mod WantedTables

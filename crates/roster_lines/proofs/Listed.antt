@@ -1,24 +1,20 @@
 -- The stems of a listing: what may stand behind a line.
-use Rattle.std.proofs.Common.{◌≡◌, ℕ, ◌<◌, true, false, ◌⊎◌, ◌&&◌, List, [], ◌∷◌, ◌++◌, length, pos, refl, sym, ◌∙◌, subst, inl, inr, arith}
+use Rattle.std.proofs.Common.{◌≡◌, ℕ, ◌<◌, true, false, ◌⊎◌, ◌&&◌, List, [], ◌∷◌, ◌++◌, length, pos, sym, ◌∙◌, subst, inl, inr, arith}
 use Rattle.std.specs.Prelude.{All}
-use Rattle.std.proofs.lemmas.Bool.{and_from, and_parts, eqb-true, or_cases, or_left, or_right, false≢true, false_from_ne_true}
-use Rattle.std.proofs.lemmas.List.Elements.{All-nil, All-cons, All-push}
+use Rattle.std.proofs.lemmas.Bool.{and_from, and_parts, eqb-true, or_cases, false≢true, false_from_ne_true}
+use Rattle.std.proofs.lemmas.List.Elements.{All-nil, All-push}
 use Rattle.roster_model.specs.Costs.{flight_of, total}
 use Rattle.roster_model.specs.Lines.{IsLine}
 use Rattle.roster_model.specs.Problem.{Problem, units_of}
 use Rattle.roster_model.specs.Rules.{is_among, IsLegal}
 use Rattle.roster_model.proofs.CostLemmas.{total-nil}
 use Rattle.roster_model.proofs.SetLemmas.{Ascends, Ascends-from_rising, Ascends-push, rising_from_Ascends, is_among-append, is_among-here, All-is_among, All-from_is_among}
+use Rattle.roster_linetable.proofs.Fronts.{among_behind, among_front, Ascends-parts}
+use Rattle.roster_linetable.proofs.Lists.{IsLine-empty}
 use Rattle.roster_lines.specs.declared.stem.Stem.{Stem}
 use Rattle.roster_lines.specs.Listing.{AreAlone, AreLegalAlone, ArePartsLegal, AreTogether, IsStem, IsRow}
 
--- ---- the front of a set, and what is behind
-
-among_front : (front more : List ℕ) (p : ℕ) → is_among front p ≡ true → is_among (front ++ more) p ≡ true
-among_front front more p h = is_among-append front more p ∙ or_left _ _ h
-
-pub among_behind : (front more : List ℕ) (p : ℕ) → is_among more p ≡ true → is_among (front ++ more) p ≡ true
-among_behind front more p h = is_among-append front more p ∙ or_right _ _ h
+-- ---- what is behind the front of a set
 
 pub among_cases : (front more : List ℕ) (p : ℕ) → is_among (front ++ more) p ≡ true
     → (is_among front p ≡ true) ⊎ (is_among more p ≡ true)
@@ -27,27 +23,6 @@ among_cases front more p h = or_cases _ _ (sym (is_among-append front more p) �
 pub among_single : (p q : ℕ) → is_among (p ∷ []) q ≡ true → p ≡ q
 among_single p q h =
     elim (or_cases _ _ h) [ inl same ↦ eqb-true p q same | inr none ↦ absurd (false≢true none) ]
-
-pub Ascends-parts : (front : List ℕ) (p : ℕ) (rest : List ℕ) → Ascends (front ++ p ∷ rest)
-    → Ascends front × All (λ q. q < p) front × Ascends (p ∷ rest)
-Ascends-parts [] p rest up = (tt, All-nil (λ q. q < p), up)
-Ascends-parts (r ∷ front) p rest up =
-    let parts = Ascends-parts front p rest up.1 in
-    let here : r < p =
-    All-is_among (λ q. r < q) (front ++ p ∷ rest) p up.0
-    (among_behind front (p ∷ rest) p (is_among-here p rest)) in
-    let above : All (λ q. r < q) front =
-    All-from_is_among (λ q. r < q) front
-    (λ q h. All-is_among (λ q. r < q) (front ++ p ∷ rest) q up.0 (among_front front (p ∷ rest) q h)) in
-    ((above, parts.0), All-cons (λ q. q < p) r front here parts.1, parts.2)
-
--- the empty set is a line
-pub IsLine-empty : (problem : Problem) (k : ℕ) → IsLine problem k []
-IsLine-empty problem k = record {
-  ascending = rising_from_Ascends [] tt;
-  places = All-nil (λ p. p < length problem.pairings);
-  legal = inl refl;
-}
 
 -- what is behind the pairings of a set isn't one of them
 pub none_behind : (p : ℕ) (set : List ℕ) → All (λ q. q < p) set → is_among set p ≡ false

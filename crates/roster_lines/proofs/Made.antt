@@ -7,13 +7,13 @@ use Rattle.roster_model.specs.declared.limits.TheConstants.{MOST_LINES}
 use Rattle.roster_model.specs.Lines.{AreLines, IsCrowded, IsFirstCrowded}
 use Rattle.roster_model.specs.Problem.{Problem}
 use Rattle.roster_model.proofs.PushLemmas.{each-push}
+use Rattle.roster_linetable.specs.Entries.{Entry, sets_of}
+use Rattle.roster_linetable.specs.Person.{AreCosted, IsTableOf}
+use Rattle.roster_linetable.proofs.Lists.{not_crowded}
+use Rattle.roster_linetable.proofs.TreeLemmas.{length-sets_of}
 use Rattle.roster_lines.specs.declared.extend.LinesFault.{LinesFault}
-use Rattle.roster_lines.specs.Entries.{Entry, sets_of}
 use Rattle.roster_lines.specs.SomeLines.{IsFaultOf}
 use Rattle.roster_lines.specs.Made.{AreMade, IsMadeOf, IsTableSoFar}
-use Rattle.roster_lines.specs.Person.{AreCosted, IsTableOf}
-use Rattle.roster_lines.proofs.Lists.{not_crowded}
-use Rattle.roster_lines.proofs.TreeLemmas.{length-sets_of}
 
 -- the clauses of `lines_of` in one
 pub IsMadeOf-from_clauses : (problem : Problem) (k : ℕ) (made : Result (List Entry) LinesFault)

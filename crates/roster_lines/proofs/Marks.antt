@@ -1,19 +1,21 @@
 -- The lines before a mark, as the mark moves on.
 use Rattle.std.proofs.Common.{◌≡◌, ℕ, ◌+◌, ◌<◌, ◌≤◌, true, false, List, [], ◌∷◌, ◌++◌, length, Some, refl, sym, ap, ◌∙◌, subst, inl, inr, arith}
 use Rattle.std.specs.Prelude.{All, slice_get}
-use Rattle.std.proofs.lemmas.Bool.{both_ways, cases_Bool, false_from_ne_true}
+use Rattle.std.proofs.lemmas.Bool.{both_ways, cases_Bool}
 use Rattle.std.proofs.lemmas.List.{append_assoc, length_push, get_or_append_left, get_or_push}
-use Rattle.std.proofs.lemmas.List.Elements.{All-nil, All-cons, All-head, All-tail, All-push, All-weaker}
+use Rattle.std.proofs.lemmas.List.Elements.{All-nil, All-cons, All-push, All-weaker}
 use Rattle.std.proofs.lemmas.List.Kept.{AllPairs-cons}
 use Rattle.std.proofs.lemmas.Option.{slice_get_within, slice_get-get_or, get_or_from_slice_get}
 use Rattle.roster_model.specs.Lines.{AreSomeLines, IsLine}
 use Rattle.roster_model.specs.Problem.{Problem}
 use Rattle.roster_model.specs.Places.{places_le}
-use Rattle.roster_model.proofs.PlacesOrder.{before-trans_right, between_marks, front_at_most, front_before, marks_at_most, nothing_between, places_le-append, places_le-trans, first_at_most, by_less}
+use Rattle.roster_model.proofs.PlacesOrder.{before-trans_right, between_marks, front_at_most, front_before, marks_at_most, nothing_between, places_le-append, places_le-trans, by_less}
+use Rattle.roster_linetable.proofs.Cuts.{before_count}
+use Rattle.roster_linetable.proofs.Fronts.{All-behind}
+use Rattle.roster_linetable.proofs.Lists.{IsLine-empty}
+use Rattle.roster_linetable.proofs.TreeLemmas.{AreOrdered-push}
 use Rattle.roster_lines.specs.Listing.{IsUpTo}
 use Rattle.roster_lines.specs.SomeLines.{AreWantedLines, HasMoreLines}
-use Rattle.roster_lines.proofs.Listed.{IsLine-empty}
-use Rattle.roster_lines.proofs.TreeLemmas.{AreOrdered-push}
 
 -- ---- one set more
 
@@ -29,17 +31,6 @@ pub get_push_new : (sets : List (List ℕ)) (set : List ℕ)
 get_push_new sets set =
     slice_get-get_or (sets ++ set ∷ []) (length sets) [] (omega (arith, length_push sets set))
     ∙ ap Some (get_or_push sets set [] (length sets) refl)
-
-pub All-behind : (P : ℕ → Type 0) (front rest : List ℕ) → All P (front ++ rest) → All P rest
-All-behind P [] rest all = all
-All-behind P (x ∷ front) rest all = All-behind P front rest (All-tail P x (front ++ rest) all)
-
--- places below a number stand before it
-pub before_count : (count : ℕ) (set : List ℕ) → All (λ p. p < count) set → places_le (count ∷ []) set ≡ false
-before_count count [] below = refl
-before_count count (p ∷ set) below =
-    let first : p < count = All-head (λ q. q < count) p set below in
-    false_from_ne_true _ (λ h. let least = first_at_most count p set h in omega arith)
 
 module _ (problem : Problem) (k : ℕ) (wants : List ℕ → Type 0) where
   some-push : (sets : List (List ℕ)) (set : List ℕ) → IsUpTo problem k wants set sets → IsLine problem k set

@@ -11,13 +11,14 @@ use Rattle.roster_model.specs.Rules.{is_among}
 use Rattle.roster_model.proofs.SetLemmas.{is_among-here}
 use Rattle.roster_legal.specs.Stepping.{IsLegalNext, IsNext, Stepped, with_next}
 use Rattle.roster_cost.specs.Amounts.{minutes_of_pairing}
+use Rattle.roster_linetable.specs.Entries.{Entry, entry_of, longer, sets_of}
+use Rattle.roster_linetable.specs.Person.{AreCosted}
+use Rattle.roster_linetable.proofs.Fronts.{among_behind}
+use Rattle.roster_linetable.proofs.TreeLemmas.{sets_of-push}
 use Rattle.roster_lines.specs.declared.stem.Stem.{Stem}
-use Rattle.roster_lines.specs.Entries.{Entry, entry_of, longer, sets_of}
 use Rattle.roster_lines.specs.Listing.{AreFlights, ArePartsLegal, HoldOnly, IsStem, IsUpTo, LineWith, NoneBehind, judged_as}
-use Rattle.roster_lines.specs.Person.{AreCosted}
-use Rattle.roster_lines.proofs.Listed.{IsLine-with, among_behind, no_line_behind, none_behind}
+use Rattle.roster_lines.proofs.Listed.{IsLine-with, no_line_behind, none_behind}
 use Rattle.roster_lines.proofs.Marks.{IsUpTo-skip}
-use Rattle.roster_lines.proofs.TreeLemmas.{sets_of-push}
 
 pub line_there : (problem : Problem) (k : ℕ) (wants : List ℕ → Type 0) (stem : Stem) (p : ℕ) (found : Option Stepped) (longer : Stepped) → found ≡ Some longer → LineWith problem k wants stem p found → (longer ≡ judged_as problem k stem.among (stem.set ++ p ∷ [])) × IsLine problem k (stem.set ++ p ∷ [])
 line_there problem k wants stem p found longer is line = subst (LineWith problem k wants stem p) is line

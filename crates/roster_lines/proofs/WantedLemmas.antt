@@ -1,18 +1,19 @@
 -- Which lines are wanted: all, or those between two sets.
-use Rattle.std.proofs.Common.{◌≡◌, ℕ, ◌+◌, ◌<◌, ◌≤◌, true, false, ◌&&◌, ◌||◌, ◌==◌, List, ◌∷◌, ◌++◌, Ok, Err, Result, Bool, refl, sym, ◌∙◌, subst, inl, inr, arith}
+use Rattle.std.proofs.Common.{◌≡◌, ℕ, true, false, ◌&&◌, ◌||◌, List, ◌∷◌, ◌++◌, Ok, Err, Result, Bool, sym, ◌∙◌, inl, inr, arith}
 use Rattle.std.specs.Prelude.{◌↔◌, IfErr, IfOk, IsTrue}
-use Rattle.std.proofs.lemmas.Bool.{and_from, and_parts, both_ways, cases_lt, eq-eqb, eqb-true, or_cases, or_left, or_right}
+use Rattle.std.proofs.lemmas.Bool.{and_from, and_parts, both_ways, eqb-true, or_cases}
 use Rattle.roster_model.specs.declared.limits.TheConstants.{MOST_LINES}
 use Rattle.roster_model.specs.Lines.{AreLines, IsLine}
 use Rattle.roster_model.specs.Problem.{Problem}
 use Rattle.roster_model.specs.Rules.{is_among}
 use Rattle.roster_model.proofs.SetLemmas.{Ascends-from_rising, is_among-before, is_among-here}
+use Rattle.roster_linetable.specs.Entries.{Entry, sets_of}
+use Rattle.roster_linetable.proofs.Fronts.{Ascends-parts, among_behind}
 use Rattle.roster_lines.specs.declared.extend.LinesFault.{LinesFault}
 use Rattle.roster_lines.specs.declared.extend.LinesFault.TheVariants.{TooMany, Memory}
 use Rattle.roster_lines.specs.Between.{HasBefore, IsBetween}
-use Rattle.roster_lines.specs.Entries.{Entry, sets_of}
 use Rattle.roster_lines.specs.SomeLines.{AreWantedLines, IsFaultOf, IsFaultWithin}
-use Rattle.roster_lines.proofs.Listed.{Ascends-parts, among_behind, among_cases}
+use Rattle.roster_lines.proofs.Listed.{among_cases}
 
 -- ---- all are wanted
 
@@ -74,55 +75,3 @@ held_between must may both among alone set p either each between here single =
 pub not_before : (set must : List ℕ) (p : ℕ) (answer : Bool) → answer ≡ false
     → IsTrue answer ↔ HasBefore set must p → HasBefore set must p → ⊥
 not_before set must p answer refused is has = both_ways answer refused (is.1 has)
-
--- ---- what is in one of two sets
-
-same_answer : (a b : Bool) → (a ≡ true → b ≡ true) → (b ≡ true → a ≡ true) → a ≡ b
-same_answer true b there back = sym (there refl)
-same_answer false true there back = back refl
-same_answer false false there back = refl
-
--- those of the first, and those of the second before a place
-pub record AreJoined (must may : List ℕ) (from : ℕ) (both : List ℕ) : Type 0 where
-  pub within : (q : ℕ) → is_among both q ≡ true → (is_among must q || is_among may q) ≡ true
-  pub first : (q : ℕ) → is_among must q ≡ true → is_among both q ≡ true
-  pub second : (q : ℕ) → q < from → is_among may q ≡ true → is_among both q ≡ true
-
-pub AreJoined-start : (must may : List ℕ) → AreJoined must may 0 must
-AreJoined-start must may = record {
-  within = λ q h. or_left _ _ h;
-  first = λ q h. h;
-  second = λ q before h. absurd (omega arith);
-}
-
--- the next one with them
-pub AreJoined-next : (must may both more : List ℕ) (from p : ℕ) → AreJoined must may from both
-    → is_among may p ≡ true → ((q : ℕ) → from ≤ q → q < p → is_among may q ≡ false)
-    → ((q : ℕ) → is_among more q ≡ (is_among both q || p == q)) → AreJoined must may (p + 1) more
-AreJoined-next must may both more from p are here none each = record {
-  within = λ q h. elim (or_cases _ _ (sym (each q) ∙ h)) [
-    | inl old ↦ are.within q old
-    | inr new ↦ or_right _ _ (subst (λ r. is_among may r ≡ true) (eqb-true p q new) here)
-  ];
-  first = λ q h. each q ∙ or_left _ _ (are.first q h);
-  second = λ q before h. elim (cases_lt q from) [
-    | inl less ↦ each q ∙ or_left _ _ (are.second q less h)
-    | inr later ↦ elim (cases_lt q p) [
-      | inl less ↦ absurd (both_ways _ (none q later less) h)
-      | inr past ↦ each q ∙ or_right _ _ (eq-eqb p q (omega arith))
-    ]
-  ];
-}
-
--- all of both
-pub AreJoined-all : (must may both : List ℕ) (from : ℕ) → AreJoined must may from both
-    → ((q : ℕ) → from ≤ q → is_among may q ≡ false) → (p : ℕ)
-    → is_among both p ≡ (is_among must p || is_among may p)
-AreJoined-all must may both from are none p =
-    same_answer _ _ (are.within p) (λ either. elim (or_cases _ _ either) [
-      | inl first ↦ are.first p first
-      | inr second ↦ elim (cases_lt p from) [
-        | inl before ↦ are.second p before second
-        | inr later ↦ absurd (both_ways _ (none p later) second)
-      ]
-    ])

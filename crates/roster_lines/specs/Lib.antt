@@ -1,10 +1,6 @@
-pub mod Entries
-pub mod Rows
-pub mod Tree
 pub mod Between
 pub mod SomeLines
 pub mod Listing
-pub mod Person
 pub mod Made
 pub mod TableFaults
 pub mod WantedTables

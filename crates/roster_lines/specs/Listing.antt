@@ -88,7 +88,7 @@ pub record IsStem (problem : Problem) (k : ℕ) (stem : Stem) : Type 0 where
 -- what a judge of sets of person k knows of one, if it has looked at these pairings
 abbrev pub judged_as : Problem → ℕ → List ℕ → List ℕ → Stepped
 judged_as problem k among set =
-    record { loads = record { problem = problem; person = k; alone = among }; set = set }
+    record { loads = record { problem = problem; person = k; among = among }; set = set }
 
 -- no line of person k that begins with the set and p behind it is wanted
 abbrev pub NoneBehind : Problem → ℕ → (List ℕ → Type 0) → List ℕ → ℕ → Type 0

@@ -3,10 +3,10 @@ use Rattle.std.specs.Prelude.{◌≡◌, ℕ, ◌<◌, ◌≤◌, All, List, Som
 use Rattle.roster_model.specs.declared.limits.TheConstants.{MOST_LINES}
 use Rattle.roster_model.specs.Lines.{AreLines}
 use Rattle.roster_model.specs.Problem.{Problem}
+use Rattle.roster_linetable.specs.Entries.{Entry, sets_of}
+use Rattle.roster_linetable.specs.Person.{AreCosted}
 use Rattle.roster_lines.specs.declared.extend.LinesFault.{LinesFault}
-use Rattle.roster_lines.specs.Entries.{Entry, sets_of}
 use Rattle.roster_lines.specs.SomeLines.{IsFaultOf}
-use Rattle.roster_lines.specs.Person.{AreCosted}
 
 -- the lines of person k with what they cost, no more than there may be
 pub record AreMade (problem : Problem) (k : ℕ) (lines : List Entry) : Type 0 where

@@ -4,18 +4,18 @@ ghost use Rattle.std.specs.Prelude.{◌≡◌, ◌<◌, ◌≤◌, ◌++◌, ◌
 ghost use Rattle.std.specs.Prelude.{length, slice_get};
 ghost use Rattle.roster_model.specs.Lines.{AreLines};
 ghost use Rattle.roster_model.specs.Rules.{is_among};
+ghost use Rattle.roster_linetable.specs.Entries.{sets_of};
+ghost use Rattle.roster_linetable.specs.Person.{AreCosted};
 ghost use Rattle.roster_lines.specs.Between.{IsBetween};
-ghost use Rattle.roster_lines.specs.Entries.{sets_of};
 ghost use Rattle.roster_lines.specs.Listing.{ArePairs, ArePartsLegal, HoldOnly, IsFlightWithin, IsStem};
 ghost use Rattle.roster_lines.specs.Listing.{IsUpTo, LineWith, judged_as};
-ghost use Rattle.roster_lines.specs.Person.{AreCosted};
 ghost use Rattle.roster_lines.specs.SomeLines.{AreWantedLines, IsFaultOf, IsFaultWithin};
 
-use crate::lines::Lines;
 use crate::pairs::{Pairs, pairs_of};
 use crate::stem::Stem;
 use crate::wanted::{Between, Everything, Wanted};
 use roster_legal::{Judge, JudgedSet, Loads, Spare, part_of_legal_is_legal};
+use roster_linetable::Lines;
 use roster_model::limits::MOST_LINES;
 use roster_problem::{Problem, Set};
 use std::alloc::{AllocError, Global};

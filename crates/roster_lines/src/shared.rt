@@ -1,13 +1,13 @@
 //! The lines of all persons, by several threads.
 
 ghost use Rattle.std.specs.Prelude.{◌≡◌, ◌<◌, All, IfErr, IfOk, length};
+ghost use Rattle.roster_linetable.specs.Person.{IsTableOf};
 ghost use Rattle.roster_lines.specs.Made.{AreMadeFor, AreMadeOf};
-ghost use Rattle.roster_lines.specs.Person.{IsTableOf};
 ghost use Rattle.roster_lines.specs.TableFaults.{IsTableFaultOf};
 
 use crate::extend::{LinesFault, lines_of};
-use crate::lines::Lines;
-use crate::table::{Table, TableFault};
+use crate::table::{TableFault, add};
+use roster_linetable::{Lines, Table};
 use roster_problem::Problem;
 use std::alloc::{AllocError, Global};
 use std::sync::atomic::{AtomicUsize, Ordering};
@@ -115,7 +115,7 @@ fn gathered(
 {
     let mut table = Table::empty(alloc);
     for made in slots {
-        table.add(alloc, problem, made)?;
+        add(&mut table, alloc, problem, made)?;
     }
     Ok(table)
 }

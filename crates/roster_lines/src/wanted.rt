@@ -14,7 +14,7 @@ pub trait Wanted {
     /// Whether the person at this place is to have the line.
     ghost wants: { Self → Problem → ℕ → List ℕ → Type 0 };
 
-    /// Those of the pairings that a line which is wanted may hold: no other is looked at.
+    /// Of the pairings that are legal alone, those that a line which is wanted may hold: no other is looked at.
     fn among(&self, alone: &Set) -> Set
         ensures within { (p : ℕ) → is_among result p ≡ true → is_among alone.now p ≡ true }
         ensures held { (problem : Problem) (k : ℕ) (set : List ℕ) (p : ℕ)
@@ -73,7 +73,7 @@ impl Wanted for Between {
     ghost wants = { λ between problem k set. IsBetween between.must between.may set };
 
     fn among(&self, alone: &Set) -> Set {
-        alone.and(&joined(&self.must, &self.may))
+        alone.and(&self.must.or(&self.may))
     }
 
     fn goes_on(&self, _: &Problem, _: usize, set: &Set, p: usize, _: i64, _: u64) -> bool {
@@ -82,19 +82,6 @@ impl Wanted for Between {
         }
         has_before(set, &self.must, p)
     }
-}
-
-/// The pairings that are in one of the sets.
-fn joined(must: &Set, may: &Set) -> Set
-    ensures { (p : ℕ) → is_among result p ≡ (is_among must.now p || is_among may.now p) }
-{
-    let mut both = *must;
-    let mut from = 0;
-    while let Some(p) = may.first_from(from) {
-        both.put(p);
-        from = p + 1;
-    }
-    both
 }
 
 /// Whether pairing `p` is in one of the sets.

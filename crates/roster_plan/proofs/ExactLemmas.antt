@@ -6,8 +6,8 @@ use Rattle.roster_model.specs.Problem.{Problem}
 use Rattle.roster_model.specs.Rosters.{Key, key_le, key_of}
 use Rattle.roster_model.specs.Settled.{Anywhere, IsBest, IsHeld, IsLowerBound, IsNotAfter}
 use Rattle.roster_model.proofs.SettledLemmas.{held-key}
-use Rattle.roster_lines.specs.Entries.{Entry}
-use Rattle.roster_lines.specs.Person.{IsOfTable}
+use Rattle.roster_linetable.specs.Entries.{Entry}
+use Rattle.roster_linetable.specs.Person.{IsOfTable}
 use Rattle.roster_pricing.specs.Homes.{EachHomeRoster, IsHome, IsHomeBound}
 use Rattle.roster_search.specs.Least.{CostsAtLeast, IsLeast}
 use Rattle.roster_search.proofs.FindLemmas.{cost_cases}

@@ -9,10 +9,10 @@ use Rattle.roster_model.specs.Rosters.{IsLegalRoster}
 use Rattle.roster_model.specs.Rules.{is_among}
 use Rattle.roster_model.proofs.LineLemmas.{given_line}
 use Rattle.roster_model.proofs.PlacesLemmas.{is_among-set_of_past}
+use Rattle.roster_linetable.specs.Entries.{Entry}
+use Rattle.roster_linetable.specs.Person.{lines_at, AreListed}
 use Rattle.roster_lines.specs.declared.wanted.Between.{Between}
 use Rattle.roster_lines.specs.Between.{IsBetween}
-use Rattle.roster_lines.specs.Entries.{Entry}
-use Rattle.roster_lines.specs.Person.{lines_at, AreListed}
 use Rattle.roster_lines.specs.WantedTables.{AreAllWanted}
 use Rattle.roster_pricing.specs.Homes.{IsHome}
 use Rattle.roster_search.specs.Parts.{base_of_person}

@@ -3,10 +3,10 @@ use Rattle.std.specs.Prelude.{◌≡◌, ℕ, List, Some, slice_get}
 use Rattle.roster_model.specs.Places.{set_of}
 use Rattle.roster_model.specs.Problem.{Problem}
 use Rattle.roster_model.specs.Rosters.{IsLegalRoster}
+use Rattle.roster_linetable.specs.Entries.{Entry}
+use Rattle.roster_linetable.specs.Person.{IsOfTable}
 use Rattle.roster_lines.specs.Between.{IsBetween}
 use Rattle.roster_lines.specs.declared.wanted.Between.{Between}
-use Rattle.roster_lines.specs.Entries.{Entry}
-use Rattle.roster_lines.specs.Person.{IsOfTable}
 
 -- each person keeps what they must, and has nothing but that and what they may have beside
 abbrev pub IsNear : List Between → List ℕ → Type 0

@@ -1,7 +1,7 @@
 //! Which change is tried next.
 
 use crate::search::Search;
-use crate::sets::{joined, only, without};
+use crate::sets::{only, without};
 use roster_problem::Set;
 use std::alloc::AllocError;
 
@@ -80,8 +80,7 @@ impl<'a> Search<'a> {
         }
         let had = self.set(k);
         let loose = had.and(&self.tables.rivals(p));
-        self.changes
-            .put(k, joined(&without(&had, &loose), &only(p)))?;
+        self.changes.put(k, without(&had, &loose).or(&only(p)))?;
         let mut from = 0;
         while let Some(q) = loose.first_from(from) {
             self.place(q)?;
@@ -100,7 +99,7 @@ impl<'a> Search<'a> {
             if !self.tables.able(k).has(p) || had.meets(&rivals) {
                 continue;
             }
-            let with = joined(&had, &only(p));
+            let with = had.or(&only(p));
             let extra = self
                 .tables
                 .line(k, &with)
@@ -131,17 +130,18 @@ impl<'a> Search<'a> {
             from_second = self.tables.between(&second, begin, last);
         }
         for _ in 0..MOST_ROUNDS {
-            from_second = joined(&from_second, &self.tables.meeting(&second, &from_first));
-            from_first = joined(&from_first, &self.tables.meeting(&first, &from_second));
+            from_second = from_second.or(&self.tables.meeting(&second, &from_first));
+            from_first = from_first.or(&self.tables.meeting(&first, &from_second));
         }
         if !without(&from_first, &self.tables.able(k)).is_empty()
             || !without(&from_second, &self.tables.able(holder)).is_empty()
         {
             return Ok(());
         }
-        self.changes.put(holder, joined(&without(&first, &from_first), &from_second))?;
         self.changes
-            .put(k, joined(&without(&second, &from_second), &from_first))
+            .put(holder, without(&first, &from_first).or(&from_second))?;
+        self.changes
+            .put(k, without(&second, &from_second).or(&from_first))
     }
 
     // How many days two persons exchange; 0 for a single pairing.

@@ -5,8 +5,8 @@
 //! that neighbourhood nobody keeps anything, persons of the base may have all, and nobody else has anything.
 
 ghost use Rattle.std.specs.Prelude.{◌≡◌, ◌<◌, ◌≤◌, false, true, IfOk, IfSome, length};
+ghost use Rattle.roster_linetable.specs.Person.{AreListed};
 ghost use Rattle.roster_lines.specs.Listing.{AreAllPairs};
-ghost use Rattle.roster_lines.specs.Person.{AreListed};
 ghost use Rattle.roster_model.specs.Rosters.{key_le};
 ghost use Rattle.roster_model.specs.Settled.{IsHeld, IsNotAfter};
 ghost use Rattle.roster_pricing.specs.Homes.{EachHomeRoster, IsHome};
@@ -16,7 +16,8 @@ use crate::known::earlier;
 use crate::sets::all_of;
 use crate::tables::penalties;
 use roster_cost::{comes_before, keys_are_in_order};
-use roster_lines::{Between, Pairs, Table, TableFault, wanted_table};
+use roster_lines::{Between, Pairs, TableFault, wanted_table};
+use roster_linetable::Table;
 use roster_model::limits::MOST_LINES;
 use roster_problem::{Problem, Roster, Set};
 use roster_search::{Searched, least_within};

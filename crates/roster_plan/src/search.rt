@@ -3,7 +3,7 @@
 use crate::changes::Changes;
 use crate::parts::{Part, is_open};
 use crate::random::Random;
-use crate::sets::{add, amount_at, joined, set_at, without};
+use crate::sets::{add, amount_at, set_at, without};
 use crate::tables::Tables;
 use roster_problem::{Problem, Set, open_number};
 use std::alloc::{AllocError, Global};
@@ -99,8 +99,8 @@ impl<'a> Search<'a> {
         let mut old = Set::empty();
         let mut new = Set::empty();
         for change in self.changes.as_slice() {
-            old = joined(&old, &set_at(&self.sets, change.person));
-            new = joined(&new, &change.set);
+            old = old.or(&set_at(&self.sets, change.person));
+            new = new.or(&change.set);
         }
         (without(&old, &new), without(&new, &old))
     }
@@ -121,7 +121,7 @@ impl<'a> Search<'a> {
     /// Takes the changes, which cost so much more. Whether nothing was as cheap so far.
     pub(crate) fn take(&mut self, extra: i64) -> bool {
         let (lost, gained) = self.traded();
-        self.open = without(&joined(&self.open, &lost), &gained);
+        self.open = without(&self.open.or(&lost), &gained);
         for change in self.changes.as_slice() {
             let k = change.person;
             if k < self.sets.len() && k < self.lines.len() {

@@ -55,17 +55,6 @@ pub(crate) fn without(set: &Set, other: &Set) -> Set {
     rest
 }
 
-/// What is in one of them.
-pub(crate) fn joined(set: &Set, other: &Set) -> Set {
-    let mut both = *set;
-    let mut from = 0;
-    while let Some(p) = other.first_from(from) {
-        add(&mut both, p);
-        from = p + 1;
-    }
-    both
-}
-
 /// The set at a place of a list, or none.
 pub(crate) fn set_at(sets: &[Set], i: usize) -> Set {
     match sets.get(i) {

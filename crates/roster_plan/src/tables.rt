@@ -3,7 +3,7 @@
 
 ghost use Rattle.std.specs.Prelude.{◌≡◌, ◌<◌, length};
 
-use crate::sets::{amount_at, is_within, joined, only, set_at};
+use crate::sets::{add, amount_at, is_within, only, set_at};
 use roster_cost::{fixed_flight, pairing_flight};
 use roster_legal::Judge;
 use roster_problem::{Problem, Set};
@@ -112,7 +112,7 @@ impl<'a> Tables<'a> {
         let mut from = 0;
         while let Some(p) = set.first_from(from) {
             if self.rivals(p).meets(others) {
-                found = joined(&found, &only(p));
+                add(&mut found, p);
             }
             from = p + 1;
         }
@@ -126,7 +126,7 @@ impl<'a> Tables<'a> {
         while let Some(p) = set.first_from(from) {
             let begin = self.begin(p);
             if begin >= first && begin <= last {
-                found = joined(&found, &only(p));
+                add(&mut found, p);
             }
             from = p + 1;
         }
@@ -153,7 +153,7 @@ fn able_of(alloc: Global, problem: &Problem, k: usize) -> Result<Set, AllocError
     let mut able = Set::empty();
     for p in 0..problem.pairings().len() {
         if fits(&mut judge, problem, k, &only(p))? {
-            able = joined(&able, &only(p));
+            add(&mut able, p);
         }
     }
     Ok(able)
@@ -230,9 +230,9 @@ fn rivals_of(
         if q == p || after > FAR || before > FAR {
             continue;
         }
-        let both = joined(&only(p), &only(q));
+        let both = only(p).or(&only(q));
         if !go_together(&mut judge, problem, able, &both, p, q)? {
-            rivals = joined(&rivals, &only(q));
+            add(&mut rivals, q);
         }
     }
     Ok(rivals)

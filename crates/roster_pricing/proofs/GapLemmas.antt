@@ -14,8 +14,8 @@ use Rattle.roster_model.specs.records.Crew.{Person}
 use Rattle.roster_model.proofs.CostLemmas.{total-nil}
 use Rattle.roster_model.proofs.LineLemmas.{given_line}
 use Rattle.roster_cost.specs.Amounts.{cost_without_pairings, IsWithin}
-use Rattle.roster_lines.specs.Entries.{Entry, sets_of}
-use Rattle.roster_lines.specs.Person.{lines_at, IsOfTable}
+use Rattle.roster_linetable.specs.Entries.{Entry, sets_of}
+use Rattle.roster_linetable.specs.Person.{lines_at, IsOfTable}
 use Rattle.roster_pricing.specs.declared.network.Network.{Network}
 use Rattle.roster_pricing.specs.Chains.{followers_of, next_state, value_at, IsChain}
 use Rattle.roster_pricing.specs.Gaps.{AreCheapOf, IsAlong, IsLeastBehind}

@@ -11,8 +11,8 @@ use Rattle.roster_model.specs.Costs.{line_cost}
 use Rattle.roster_model.specs.Lines.{IsLine}
 use Rattle.roster_model.specs.Problem.{Problem}
 use Rattle.roster_cost.specs.Amounts.{IsWithin}
-use Rattle.roster_lines.specs.Entries.{Entry, costs_of, set_at, sets_of}
-use Rattle.roster_lines.specs.Person.{AreCosted, AreListedOf}
+use Rattle.roster_linetable.specs.Entries.{Entry, costs_of, set_at, sets_of}
+use Rattle.roster_linetable.specs.Person.{AreCosted, AreListedOf}
 use Rattle.roster_lines.specs.SomeLines.{AreWantedLines}
 use Rattle.roster_pricing.specs.declared.parts.TheConstants.{MOST_LEAST}
 use Rattle.roster_pricing.specs.Gaps.{Cheap, IsCheap}

@@ -7,7 +7,7 @@
 ghost use Rattle.std.specs.Prelude.{◌≡◌, ◌<◌, ◌≤◌, ◌*◌, ◌+ℤ◌, ◌*ℤ◌, ◌≤ℤ◌, ℕ, pos, All, IfOk, List, length};
 ghost use Rattle.roster_model.specs.Costs.{cost_of};
 ghost use Rattle.roster_cost.specs.Amounts.{IsWithin};
-ghost use Rattle.roster_lines.specs.Person.{AreListed, IsOfTable};
+ghost use Rattle.roster_linetable.specs.Person.{AreListed, IsOfTable};
 ghost use Rattle.roster_pricing.specs.Gaps.{AreCheapOf, IsAlong, IsLeastBehind, IsTabled};
 ghost use Rattle.roster_pricing.specs.Homes.{EachHomeRoster, IsHome};
 ghost use Rattle.roster_pricing.specs.Looks.{IsLook};
@@ -20,7 +20,8 @@ use crate::pricing::{Pricing, values_of};
 use crate::rows::{Row, led, next_state, rows_of};
 use roster_cumulative::flight_of_set;
 use roster_legal::part_of_legal_is_legal;
-use roster_lines::{Between, Lines, LinesFault, Table, TableFault, Wanted, lines_of_pairs};
+use roster_lines::{Between, LinesFault, TableFault, Wanted, lines_of_pairs};
+use roster_linetable::{Lines, Table};
 use roster_model::limits::{MOST_LINES, MOST_PAIRINGS};
 use roster_problem::{Problem, Set};
 use std::alloc::{AllocError, Global};

@@ -3,7 +3,7 @@
 ghost use Rattle.std.specs.Prelude.{◌≡◌, ◌<◌, ◌≤◌, ◌≤ℤ◌, ◌+ℤ◌, ℕ, pos, IfOk, List};
 ghost use Rattle.roster_model.specs.Costs.{cost_of};
 ghost use Rattle.roster_cost.specs.Amounts.{IsWithin};
-ghost use Rattle.roster_lines.specs.Person.{AreListed, IsOfTable};
+ghost use Rattle.roster_linetable.specs.Person.{AreListed, IsOfTable};
 ghost use Rattle.roster_pricing.specs.Homes.{EachHomeRoster, IsHome, IsHomeBound};
 ghost use Rattle.roster_pricing.specs.Looks.{IsLook};
 ghost use Rattle.roster_pricing.specs.Reduced.{ArePrices};
@@ -16,7 +16,8 @@ use crate::persons::{Seen, persons_of, unseen};
 use crate::pricing::{Look, Pricing};
 use crate::sets::turn_to_sets;
 use crate::tuning::{FIRST_STRIDE, LEAST_STRIDE, MOST_IDLE, MOST_STRIDE};
-use roster_lines::{Table, TableFault};
+use roster_lines::TableFault;
+use roster_linetable::Table;
 use roster_model::limits::MOST_LINES;
 use roster_problem::Problem;
 use std::alloc::{AllocError, Global};

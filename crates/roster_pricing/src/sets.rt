@@ -8,9 +8,9 @@ ghost use Rattle.std.specs.Prelude.{◌≡◌, ◌<◌, ◌*◌, ◌-ℤ◌, ◌
 ghost use Rattle.std.specs.Prelude.{MatchOption, Some, length, slice_get};
 ghost use Rattle.roster_model.specs.Costs.{line_cost, total};
 ghost use Rattle.roster_cost.specs.Amounts.{IsWithin};
-ghost use Rattle.roster_lines.specs.Entries.{set_at, sets_of};
+ghost use Rattle.roster_linetable.specs.Entries.{set_at, sets_of};
+ghost use Rattle.roster_linetable.specs.Person.{AreListedOf};
 ghost use Rattle.roster_lines.specs.Listing.{ArePairs};
-ghost use Rattle.roster_lines.specs.Person.{AreListedOf};
 ghost use Rattle.roster_pricing.specs.Gaps.{IsOf};
 ghost use Rattle.roster_pricing.specs.Reduced.{price_at, reduced, ArePrices, IsLeastListed, IsLeastOf};
 
@@ -23,7 +23,8 @@ use crate::tuning::{
     MOST_REACH,
 };
 use roster_cost::lines_are_near;
-use roster_lines::{Lines, LinesFault, Pairs, lines_of_pairs};
+use roster_lines::{LinesFault, Pairs, lines_of_pairs};
+use roster_linetable::Lines;
 use roster_model::limits::MOST_PAIRINGS;
 use roster_problem::{Problem, Set};
 use std::alloc::{AllocError, Global};

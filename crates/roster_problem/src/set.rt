@@ -130,6 +130,19 @@ impl Set {
         Set { words }
     }
 
+    /// The pairings that are in one of them.
+    pub fn or(&self, other: &Set) -> Set
+        ensures { (p : ℕ) → is_among result p ≡ (is_among self.now p || is_among other.now p) }
+    {
+        let mut both = *self;
+        let mut from = 0;
+        while let Some(p) = other.first_from(from) {
+            both.put(p);
+            from = p + 1;
+        }
+        both
+    }
+
     /// The least place at or after `from` whose pairing is in it. To go over all places in ascending
     /// order, begin from 0, and go on from one after each place.
     pub fn first_from(&self, from: usize) -> Option<usize>

@@ -3,8 +3,7 @@
 use Rattle.std.proofs.Common.{◌≡◌, ℕ, ◌+◌, ◌<◌, ◌⊎◌, true, List, [], length, get_or, Some, refl, sym, ◌∙◌, subst, inl, inr, arith}
 use Rattle.std.specs.Prelude.{slice_get}
 use Rattle.std.proofs.lemmas.Bool.{cases_lt}
-use Rattle.std.proofs.lemmas.List.{length-map}
-use Rattle.std.proofs.lemmas.Option.{same_Some, slice_get_within, slice_get-get_or, slice_get-map, get_or_from_slice_get}
+use Rattle.std.proofs.lemmas.Option.{same_Some, slice_get_within, get_or_from_slice_get}
 use Rattle.roster_model.specs.Problem.{Problem}
 use Rattle.roster_model.specs.Rules.{is_among}
 use Rattle.roster_model.specs.Places.{set_of, open_number}
@@ -12,8 +11,9 @@ use Rattle.roster_model.specs.Lines.{AreLines, IsLine}
 use Rattle.roster_model.specs.Rosters.{IsLegalRoster, Key}
 use Rattle.roster_model.proofs.PlacesParts.{number_from_set_of, same_number, same_places}
 use Rattle.roster_model.proofs.SetLemmas.{All-from_is_among, All-is_among}
-use Rattle.roster_lines.specs.Entries.{Entry, sets_of}
-use Rattle.roster_lines.specs.Person.{lines_at, IsTableOf}
+use Rattle.roster_linetable.specs.Entries.{Entry, sets_of}
+use Rattle.roster_linetable.specs.Person.{lines_at, IsTableOf}
+use Rattle.roster_linetable.proofs.TableLemmas.{all_lines_in_table}
 use Rattle.roster_model.specs.Settled.{Anywhere, IsHeld, Settles}
 use Rattle.roster_reference.specs.Walk.{AgreeBefore, IsWalkedTo}
 use Rattle.roster_model.proofs.SettledLemmas.{Settles-nothing, Settles-then, Settles-within}
@@ -46,20 +46,12 @@ settled_at_end problem places old new walked settled =
 
 -- ---- the lines of a person
 
-pub lines_in_table : (problem : Problem) (table : List (List Entry)) (k : ℕ) → IsTableOf problem table
-    → k < length problem.persons → AreLines problem k (sets_of (lines_at table k))
-lines_in_table problem table k is person =
-    let none : List Entry = [] in
-    let inside : k < length table = omega (arith, is.sets.covers, length-map table sets_of) in
-    let there = slice_get-get_or table k none inside in
-    is.sets.each k (sets_of (get_or table k none)) (slice_get-map sets_of table k ∙ rw there refl)
-
 pub line_in_table : (problem : Problem) (table : List (List Entry)) (k i : ℕ) (set : List ℕ)
     → IsTableOf problem table → k < length problem.persons
     → slice_get (sets_of (lines_at table k)) i ≡ Some set → IsLine problem k set
 line_in_table problem table k i set is person at =
     let lines : List (List ℕ) = sets_of (lines_at table k) in
-    let all = (lines_in_table problem table k is person).some.lines in
+    let all = (all_lines_in_table problem table k is person).some.lines in
     subst (IsLine problem k) (get_or_from_slice_get lines i set set at)
     (all i set (slice_get_within lines i set at))
 

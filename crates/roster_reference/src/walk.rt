@@ -3,11 +3,11 @@
 ghost use Rattle.std.specs.Prelude.{◌≡◌, ◌≤◌, IfOk, Some, length};
 ghost use Rattle.roster_model.specs.Costs.{cost_of};
 ghost use Rattle.roster_model.specs.Settled.{Anywhere, IsBest, IsHeld, Settles};
-ghost use Rattle.roster_lines.specs.Person.{IsTableOf};
+ghost use Rattle.roster_linetable.specs.Person.{IsTableOf};
 ghost use Rattle.roster_reference.specs.Walk.{AgreeBefore, IsWalkedTo};
 
 use crate::best::{all_open, take_earlier};
-use roster_lines::Table;
+use roster_linetable::Table;
 use roster_problem::{Problem, Roster, has_throughout, open_number, put};
 use std::alloc::{AllocError, Global};
 

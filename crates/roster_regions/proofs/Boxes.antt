@@ -10,8 +10,8 @@ use Rattle.roster_model.specs.Places.{set_of}
 use Rattle.roster_model.specs.Problem.{Problem}
 use Rattle.roster_model.specs.Rosters.{IsLegalRoster}
 use Rattle.roster_model.specs.Rules.{is_among}
-use Rattle.roster_lines.specs.Entries.{Entry, sets_of as sets_in}
-use Rattle.roster_lines.specs.Person.{lines_at, AreListed}
+use Rattle.roster_linetable.specs.Entries.{Entry, sets_of as sets_in}
+use Rattle.roster_linetable.specs.Person.{lines_at, AreListed}
 use Rattle.roster_regions.specs.Building.{allowed_between, allowed_in}
 use Rattle.roster_regions.specs.Regions.{AllowedLine, Region, sets_of, idle_cost, IsAllowedLine, IsIn, IsInRanges, IsRegion}
 use Rattle.roster_regions.proofs.Copied.{no_entry}

@@ -5,7 +5,7 @@ use Rattle.std.proofs.lemmas.Bool.{cases_lt}
 use Rattle.std.proofs.lemmas.Int.{to_z-of_z}
 use Rattle.std.proofs.lemmas.Option.{slice_get-get_or, slice_get-map, get_or_from_slice_get}
 use Rattle.std.specs.Prelude.{slice_get, option_map, Some}
-use Rattle.roster_lines.specs.Entries.{Entry, costs_of, sets_of}
+use Rattle.roster_linetable.specs.Entries.{Entry, costs_of, sets_of}
 use Rattle.roster_regions.specs.Building.{allowed_between, allowed_in, extra_in}
 use Rattle.std.proofs.lemmas.List.{append_assoc, drop_all, drop-append-le, length-take, length-take-le, length_push, map-append, take_all, take_more}
 use Rattle.roster_problem.specs.Set.{places_from}

@@ -5,7 +5,7 @@ use Rattle.std.proofs.lemmas.List.{get_or_past, length_push, nil_from_length, ta
 use Rattle.std.proofs.lemmas.List.Elements.{All-cons, All-head, All-nil, All-tail}
 use Rattle.std.proofs.lemmas.Option.{get_or_from_slice_get, slice_get-get_or, slice_get_within}
 use Rattle.roster_model.specs.Rules.{is_among}
-use Rattle.roster_lines.specs.declared.lines.Row.{Row}
+use Rattle.roster_linetable.specs.declared.lines.Row.{Row}
 use Rattle.roster_regions.specs.declared.choice.Choice.{Choice}
 use Rattle.roster_regions.specs.declared.marker.Marker.{Marker}
 use Rattle.roster_regions.specs.Marks.{picked, remarked, with_live, AreAllLive, IsMarking}

@@ -10,9 +10,9 @@ use Rattle.std.proofs.lemmas.Option.{get_or_from_slice_get, none-some, same_Some
 use Rattle.roster_model.specs.Rules.{is_among}
 use Rattle.roster_model.proofs.SetLemmas.{is_among-append}
 use Rattle.roster_cost.specs.Amounts.{IsWithin, most_extra}
-use Rattle.roster_lines.specs.declared.lines.Row.{Row}
-use Rattle.roster_lines.specs.Entries.{Entry, costs_of, sets_of}
-use Rattle.roster_lines.specs.Rows.{entries_after, set_after, IsWithinLimits}
+use Rattle.roster_linetable.specs.declared.lines.Row.{Row}
+use Rattle.roster_linetable.specs.Entries.{Entry, costs_of, sets_of}
+use Rattle.roster_linetable.specs.Rows.{entries_after, set_after, IsWithinLimits}
 use Rattle.roster_regions.specs.declared.choice.Choice.{Choice}
 use Rattle.roster_regions.specs.declared.choice.TheConstants.{MOST_EXTRA}
 use Rattle.roster_regions.specs.Building.{allowed_in, extra_in, AreCounted}

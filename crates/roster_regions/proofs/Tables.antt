@@ -1,4 +1,4 @@
--- A table of lines, person by person.
+-- What lines of a table cost.
 use Rattle.std.proofs.Common.{◌≡◌, ℕ, ◌<◌, List, [], length, get_or, ℤ, pos, ◌-ℤ◌, sym, ap, ap₂, ◌∙◌, subst, arith}
 use Rattle.std.specs.Prelude.{All, Some, slice_get, option_map}
 use Rattle.std.proofs.lemmas.List.{length-map}
@@ -7,30 +7,12 @@ use Rattle.roster_model.specs.Costs.{line_cost}
 use Rattle.roster_model.specs.Lines.{IsLine}
 use Rattle.roster_model.specs.Problem.{Problem}
 use Rattle.roster_cost.specs.Amounts.{IsWithin, most_extra}
-use Rattle.roster_lines.specs.Entries.{Entry, costs_of, sets_of}
-use Rattle.roster_lines.specs.Person.{lines_at, AreListed, AreListedOf}
+use Rattle.roster_linetable.specs.Entries.{Entry, costs_of, sets_of}
+use Rattle.roster_linetable.specs.Person.{lines_at, AreListed}
 use Rattle.roster_regions.specs.Building.{extra_in}
 use Rattle.roster_regions.specs.Regions.{extra_of}
+use Rattle.roster_linetable.proofs.TableLemmas.{first_line, lines_in_table}
 use Rattle.roster_regions.proofs.Copied.{no_entry}
-
--- each person has lines
-pub table-at : (problem : Problem) (table : List (List Entry)) (k : ℕ) → AreListed problem table
-    → k < length problem.persons → slice_get table k ≡ Some (lines_at table k)
-table-at problem table k is person =
-    let none : List Entry = [] in
-    slice_get-get_or table k none (omega (arith, is.covers))
-
--- the lines of a person in the table
-pub lines_in_table : (problem : Problem) (table : List (List Entry)) (k : ℕ) → AreListed problem table
-    → k < length problem.persons → AreListedOf problem k (lines_at table k)
-lines_in_table problem table k is person = is.each k (lines_at table k) (table-at problem table k is person)
-
--- the first line is the empty one
-pub first_line : (problem : Problem) (table : List (List Entry)) (k : ℕ) → AreListed problem table
-    → k < length problem.persons → slice_get (sets_of (lines_at table k)) 0 ≡ Some []
-first_line problem table k is person = (lines_in_table problem table k is person).first
-
--- ---- what lines cost
 
 -- a person's entry is a line, and costs what its set does
 pub entry-costs : (problem : Problem) (table : List (List Entry)) (k i : ℕ) (entry : Entry)

@@ -1,7 +1,7 @@
 -- The lines of a table as those of a region.
 use Rattle.std.specs.Prelude.{ℕ, List, map, take, drop, get_or, length, slice_index_or, ◌<◌, ℤ, pos, ◌-ℤ◌, ◌*ℤ◌, All}
 use Rattle.roster_cost.specs.Amounts.{IsWithin}
-use Rattle.roster_lines.specs.Entries.{Entry, costs_of}
+use Rattle.roster_linetable.specs.Entries.{Entry, costs_of}
 use Rattle.roster_regions.specs.declared.choice.TheConstants.{MOST_EXTRA}
 use Rattle.roster_regions.specs.Regions.{AllowedLine, allowed}
 

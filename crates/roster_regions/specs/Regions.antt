@@ -7,8 +7,8 @@ use Rattle.roster_model.specs.Lines.{IsLine}
 use Rattle.roster_model.specs.Places.{open_number, set_of}
 use Rattle.roster_model.specs.Rosters.{IsLegalRoster}
 use Rattle.roster_model.specs.Rules.{is_among}
-use Rattle.roster_lines.specs.Entries.{Entry, sets_of as sets_in}
-use Rattle.roster_lines.specs.Person.{lines_at}
+use Rattle.roster_linetable.specs.Entries.{Entry, sets_of as sets_in}
+use Rattle.roster_linetable.specs.Person.{lines_at}
 
 -- a line that a person may still have, and what it costs more than the empty one, in parts of a cost unit
 pub record AllowedLine : Type 0 where

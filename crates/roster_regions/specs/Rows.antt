@@ -1,7 +1,7 @@
 -- The rows of a person's lines in the table, as choices of a region.
 use Rattle.std.specs.Prelude.{ℕ, Bool, List, true, map, ℤ, pos, ◌-ℤ◌, ◌*ℤ◌, All}
 use Rattle.roster_cost.specs.Amounts.{IsWithin, most_extra}
-use Rattle.roster_lines.specs.declared.lines.Row.{Row}
+use Rattle.roster_linetable.specs.declared.lines.Row.{Row}
 use Rattle.roster_regions.specs.declared.choice.Choice.{Choice}
 use Rattle.roster_regions.specs.Marks.{remarked}
 use Rattle.roster_regions.specs.Trees.{IsLimited}

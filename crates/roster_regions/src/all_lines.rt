@@ -7,7 +7,7 @@ ghost use Rattle.roster_regions.specs.Marks.{picked, remarked, AreAllLive};
 ghost use Rattle.roster_regions.specs.Trees.{lines_in};
 
 use crate::rows::Rows;
-use roster_lines::SharedLines;
+use roster_linetable::SharedLines;
 use std::alloc::{AllocError, Global};
 use std::marker::Model;
 

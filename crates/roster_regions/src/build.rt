@@ -3,8 +3,8 @@
 ghost use Rattle.std.specs.Prelude.{[], ◌≡◌, ◌<◌, ◌≤◌, ◌+◌, ◌^◌, ◌*◌, ◌*ℤ◌, ℕ, pos, IsTrue, ◌↔◌, List, OnOk};
 ghost use Rattle.std.specs.Prelude.{IfOk, All, get_or, length, slice_get, slice_index, max, take, Some, ◌-ℤ◌};
 ghost use Rattle.roster_cost.specs.Amounts.{IsWithin, most_extra};
-ghost use Rattle.roster_lines.specs.Entries.{Entry, sets_of};
-ghost use Rattle.roster_lines.specs.Person.{lines_at, AreListed};
+ghost use Rattle.roster_linetable.specs.Entries.{Entry, sets_of};
+ghost use Rattle.roster_linetable.specs.Person.{lines_at, AreListed};
 ghost use Rattle.roster_regions.specs.Building.{allowed_between, extra_in, AreCountedBefore, AreNearBefore};
 ghost use Rattle.roster_model.specs.Rosters.{IsLegalRoster};
 ghost use Rattle.roster_regions.specs.Regions.{AllowedLine, IsIn, IsInRanges, IsRegion};
@@ -19,7 +19,7 @@ use crate::shared::Shared;
 use crate::tree::Tree;
 use crate::writer::Writer;
 use roster_cost::{cost_without_pairings, lines_are_near};
-use roster_lines::{Lines, Table};
+use roster_linetable::{Lines, Table};
 use roster_problem::{Problem, Set};
 use std::alloc::{AllocError, Global};
 

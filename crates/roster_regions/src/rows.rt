@@ -10,7 +10,7 @@ ghost use Rattle.roster_regions.specs.Trees.{has_last, lines_in, ArePossible, Is
 
 use crate::choice::Choice;
 use crate::parts::{above, times};
-use roster_lines::{Lines, Row};
+use roster_linetable::{Lines, Row};
 use roster_problem::Set;
 use std::marker::Model;
 

@@ -4,7 +4,7 @@ ghost use Rattle.std.specs.Prelude.{◌≡◌, ◌⊎◌, ℕ, true, List, [], A
 ghost use Rattle.std.specs.Prelude.{map, slice_get, ◌≤ℤ◌, int_le};
 ghost use Rattle.roster_model.specs.Rules.{is_among};
 ghost use Rattle.roster_cost.specs.Amounts.{IsWithin, most_extra};
-ghost use Rattle.roster_lines.specs.Entries.{sets_of};
+ghost use Rattle.roster_linetable.specs.Entries.{sets_of};
 ghost use Rattle.roster_regions.specs.Building.{allowed_in, extra_in, AreCounted};
 ghost use Rattle.roster_regions.specs.Marks.{picked, IsMarking};
 ghost use Rattle.roster_regions.specs.declared.choice.Choice.{Choice as PlainChoice};
@@ -20,7 +20,7 @@ use crate::marking::{is_wanted, marks_having, marks_within};
 use crate::path::Path;
 use crate::sums::Sums;
 use crate::writer::Writer;
-use roster_lines::SharedLines;
+use roster_linetable::SharedLines;
 use roster_problem::Set;
 use std::alloc::{AllocError, Global};
 use std::marker::Model;

@@ -15,7 +15,7 @@ use Rattle.roster_model.proofs.KeyLemmas.{key_le-other, key_le-refl, key_le-tran
 use Rattle.roster_model.proofs.PlacesParts.{same_places}
 use Rattle.roster_model.proofs.RosterLemmas.{all_open_legal}
 use Rattle.roster_problem.specs.Sound.{IsSound}
-use Rattle.roster_lines.specs.Entries.{Entry}
+use Rattle.roster_linetable.specs.Entries.{Entry}
 use Rattle.roster_regions.specs.Regions.{IsInRanges}
 use Rattle.roster_search.specs.Least.{CostsAtLeast, IsLeast}
 use Rattle.roster_search.specs.Parts.{base_of_person, before, merge, IsInPart, IsNumbered}

@@ -7,7 +7,7 @@ use Rattle.roster_model.specs.Rosters.{IsLegalRoster, Key, key_of, key_le}
 use Rattle.roster_model.proofs.KeyLemmas.{key_le-trans}
 use Rattle.roster_model.proofs.SettledLemmas.{held-key}
 use Rattle.roster_model.specs.Settled.{IsHeld}
-use Rattle.roster_lines.specs.Entries.{Entry}
+use Rattle.roster_linetable.specs.Entries.{Entry}
 use Rattle.roster_search.specs.Least.{IsLeast}
 use Rattle.roster_search.specs.Parts.{base_of_person, base_of_pairing, merge, IsInPart, IsNumbered}
 use Rattle.roster_search.proofs.Merges.{SharesAddUp, exchange, exchange_others, legal-merge, set_of-merge, set_of-merge_other}

@@ -1,40 +1,22 @@
 -- Parts of a box by ranges of lines.
-use Rattle.std.proofs.Common.{◌≡◌, ℕ, ◌<◌, true, false, cond, eqb, List, [], length, get_or, Some, ℤ, Option, None, refl, sym, ap, ◌∙◌, subst, inl, inr, arith}
+use Rattle.std.proofs.Common.{◌≡◌, ℕ, ◌<◌, true, false, cond, eqb, List, [], length, Some, ℤ, Option, None, sym, ap, ◌∙◌, subst, inl, inr, arith}
 use Rattle.std.specs.Prelude.{slice_get}
 use Rattle.std.proofs.lemmas.Bool.{cases_Bool}
 use Rattle.std.proofs.lemmas.List.{length-map}
-use Rattle.std.proofs.lemmas.Option.{same_Some, slice_get-get_or, slice_get-map, slice_get_within}
-use Rattle.roster_model.specs.Lines.{AreLines}
+use Rattle.std.proofs.lemmas.Option.{same_Some, slice_get_within}
 use Rattle.roster_model.specs.Places.{set_of}
 use Rattle.roster_model.specs.Problem.{Problem}
 use Rattle.roster_model.specs.Rosters.{IsLegalRoster, Key}
 use Rattle.roster_model.specs.Settled.{Anywhere, Settles}
 use Rattle.roster_model.proofs.SettledLemmas.{Settles-wider, Settles-within}
 use Rattle.roster_model.proofs.LineLemmas.{given_line}
-use Rattle.roster_lines.specs.Entries.{Entry, sets_of}
-use Rattle.roster_lines.specs.Person.{IsOfTable, lines_at, AreListed, IsTableOf}
+use Rattle.roster_linetable.specs.Entries.{Entry, sets_of}
+use Rattle.roster_linetable.specs.Person.{IsOfTable, lines_at, AreListed, IsTableOf}
+use Rattle.roster_linetable.proofs.TableLemmas.{all_lines_in_table, first_line}
 use Rattle.roster_regions.specs.Regions.{IsInRanges}
 use Rattle.roster_search.specs.Least.{IsLeastBelow}
 use Rattle.roster_search.specs.Parts.{base_of_person, AreOwnRanges, AreWhole, IsInPart, IsNumbered}
 use Rattle.roster_search.proofs.Bases.{found_at}
-
--- ---- the lines of a person
-
--- if they are all lines,
-lines_in_table : (problem : Problem) (table : List (List Entry)) (k : ℕ) → IsTableOf problem table
-    → k < length problem.persons → AreLines problem k (sets_of (lines_at table k))
-lines_in_table problem table k is person =
-    let none : List Entry = [] in
-    let inside : k < length table = omega (arith, is.sets.covers, length-map table sets_of) in
-    let there = slice_get-get_or table k none inside in
-    is.sets.each k (sets_of (get_or table k none)) (slice_get-map sets_of table k ∙ rw there refl)
-
--- and the first line, which is the empty one
-first_line : (problem : Problem) (table : List (List Entry)) (k : ℕ) → AreListed problem table
-    → k < length problem.persons → slice_get (sets_of (lines_at table k)) 0 ≡ Some []
-first_line problem table k is person =
-    let none : List Entry = [] in
-    (is.each k (lines_at table k) (slice_get-get_or table k none (omega (arith, is.covers)))).first
 
 -- ---- the ranges of a base
 
@@ -132,7 +114,7 @@ in_whole problem table ranges places is are legal =
     (λ k inside.
     let person : k < length problem.persons =
     omega (arith, inside, is.sets.covers, length-map table sets_of) in
-    (lines_in_table problem table k is person).every (set_of k places)
+    (all_lines_in_table problem table k is person).every (set_of k places)
     (given_line problem k places legal person))
 
 -- so what settles those settles all

@@ -1,8 +1,8 @@
 -- Searches that may be given up.
 use Rattle.std.specs.Prelude.{List, ℤ}
 use Rattle.roster_model.specs.Problem.{Problem}
-use Rattle.roster_lines.specs.Entries.{Entry}
-use Rattle.roster_lines.specs.Person.{IsOfTable}
+use Rattle.roster_linetable.specs.Entries.{Entry}
+use Rattle.roster_linetable.specs.Person.{IsOfTable}
 use Rattle.roster_search.specs.declared.limited.Searched.{Searched}
 use Rattle.roster_search.specs.declared.limited.Searched.TheVariants.{Settled, GivenUp}
 use Rattle.roster_search.specs.Least.{IsLeastBelow}

@@ -4,8 +4,8 @@ use Rattle.std.specs.Prelude.{◌≡◌, ℕ, ◌+◌, ◌-◌, ◌^◌, ◌<◌
 use Rattle.roster_model.specs.Places.{set_of}
 use Rattle.roster_model.specs.Problem.{Problem}
 use Rattle.roster_model.specs.Rosters.{IsLegalRoster, Key}
-use Rattle.roster_lines.specs.Entries.{Entry, sets_of}
-use Rattle.roster_lines.specs.Person.{lines_at}
+use Rattle.roster_linetable.specs.Entries.{Entry, sets_of}
+use Rattle.roster_linetable.specs.Person.{lines_at}
 use Rattle.roster_regions.specs.Regions.{IsIn, IsRegion, Region}
 use Rattle.roster_search.specs.Least.{IsLeastBelow}
 

@@ -2,7 +2,7 @@
 
 ghost use Rattle.std.specs.Prelude.{◌≡◌, ◌+◌, ◌<◌, false, true, not};
 ghost use Rattle.std.specs.Prelude.{IfOk, MatchOption, Some, length, unwrap_or};
-ghost use Rattle.roster_lines.specs.Person.{AreListed, IsTableOf};
+ghost use Rattle.roster_linetable.specs.Person.{AreListed, IsTableOf};
 ghost use Rattle.roster_model.specs.Rosters.{key_le, key_of};
 ghost use Rattle.roster_model.specs.Settled.{Anywhere, IsHeld, Settles};
 ghost use Rattle.roster_regions.specs.Regions.{IsInRanges};
@@ -15,7 +15,7 @@ use crate::nodes::{Nodes, Unseen};
 use crate::parts::{all_open, merged};
 use crate::shared::{Part, least_at, parts_by_threads};
 use roster_cost::{Key, order_of_keys, roster_cost, shares_add_up};
-use roster_lines::{Table, all_lines_are_some};
+use roster_linetable::{Table, all_lines_are_some};
 use roster_model::limits::MOST_BASES;
 use roster_problem::{Places, Problem, Roster};
 use std::alloc::{AllocError, Global};

@@ -1,7 +1,7 @@
 //! A search that is given up once it has done so much work.
 
 ghost use Rattle.std.specs.Prelude.{IfOk};
-ghost use Rattle.roster_lines.specs.Person.{AreListed};
+ghost use Rattle.roster_linetable.specs.Person.{AreListed};
 ghost use Rattle.roster_search.specs.Limited.{IsSearched};
 
 use crate::boxes::whole;
@@ -10,7 +10,7 @@ use crate::finder::Finder;
 use crate::least::least;
 use crate::root::root_prices;
 use crate::visiting::OpenNode;
-use roster_lines::Table;
+use roster_linetable::Table;
 use roster_prices::DualPrices;
 use roster_problem::{Problem, Roster};
 use roster_regions::Region;

@@ -1,7 +1,7 @@
 //! The parts of a box: the persons of one base each.
 
 ghost use Rattle.std.specs.Prelude.{◌≡◌, ◌<◌, ◌<ℤ◌, ◌^◌, ◌-◌, ◌==◌, IfOk, length, pos, replicate};
-ghost use Rattle.roster_lines.specs.Person.{AreListed};
+ghost use Rattle.roster_linetable.specs.Person.{AreListed};
 ghost use Rattle.roster_search.specs.Least.{IsLeastBelow};
 ghost use Rattle.roster_search.specs.Parts.{merge, AreOwnRanges, IsInPart, IsRegionOfPart};
 
@@ -9,7 +9,7 @@ use crate::crew::Crew;
 use crate::finder::Finder;
 use crate::least::least;
 use crate::root::{RootPrices, root_prices, root_prices_by_threads};
-use roster_lines::Table;
+use roster_linetable::Table;
 use roster_prices::DualPrices;
 use roster_problem::{Problem, Roster, open_number};
 use roster_regions::Region;

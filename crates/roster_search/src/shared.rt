@@ -2,13 +2,13 @@
 
 ghost use Rattle.std.specs.Prelude.{◌≡◌, ◌<◌, ◌^◌, ◌-◌, ◌==◌, All, IfOk, length, pos};
 ghost use Rattle.std.specs.Thread.{IsSync};
-ghost use Rattle.roster_lines.specs.Person.{AreListed};
+ghost use Rattle.roster_linetable.specs.Person.{AreListed};
 ghost use Rattle.roster_search.specs.Least.{IsLeastBelow};
 ghost use Rattle.roster_search.specs.Parts.{AreBaseParts, IsInPart};
 
 use crate::finder::Finder;
 use crate::parts::{least_of_base, least_of_base_by_threads};
-use roster_lines::Table;
+use roster_linetable::Table;
 use roster_model::limits::MOST_BASES;
 use roster_problem::{Problem, Roster};
 use std::alloc::{AllocError, Global};

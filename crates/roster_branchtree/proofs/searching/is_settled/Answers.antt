@@ -3,7 +3,7 @@ use Rattle.std.specs.Prelude.{MatchOption}
 use Rattle.std.proofs.lemmas.List.{length-map}
 use Rattle.roster_model.specs.Problem.{Problem}
 use Rattle.roster_model.specs.Rosters.{key_le, key_of, IsLegalRoster, Key}
-use Rattle.roster_lines.specs.Entries.{sets_of}
+use Rattle.roster_linetable.specs.Entries.{sets_of}
 use Rattle.roster_bounds.specs.Chosen.{ChosenLines, HasLines, IsOfNode}
 use Rattle.roster_branchtree.specs.Spans.{AreLineNumbers}
 use Rattle.roster_spans.specs.Spans.{Span}

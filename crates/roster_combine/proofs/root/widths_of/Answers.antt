@@ -1,6 +1,6 @@
 use Rattle.std.proofs.Common.{◌<◌, ◌∷◌, ◌++◌, [], length, map, sym, ap, ap₂, ◌∙◌, arith}
 use Rattle.std.proofs.lemmas.List.{get_or-map, length-map, take_more}
-use Rattle.roster_lines.specs.Entries.{sets_of}
+use Rattle.roster_linetable.specs.Entries.{sets_of}
 use Rattle.roster_combine.proofs.root.widths_of.Goals as goal
 
 pub loop-k-preserved : goal.loop-k-preserved

@@ -1,7 +1,7 @@
 use Rattle.std.proofs.Common.{◌≡◌, ◌+◌, List, map, vec_len}
 use Rattle.std.specs.Prelude.{All, IfOk}
 use Rattle.roster_model.specs.Problem.{Problem}
-use Rattle.roster_lines.specs.Entries.{Entry}
+use Rattle.roster_linetable.specs.Entries.{Entry}
 use Rattle.roster_combine.specs.Parts.{AreSettled}
 use Rattle.roster_combine.proofs.threads.handed_in.Given as goal
 

@@ -9,6 +9,6 @@ use Rattle.roster_legal.proofs.loads.all_loads.Given as goal
 abbrev pub invariant-loop-p : goal.invariant-loop-p
 invariant-loop-p l = record {
   long : length l.loads.items ≡ l.p;
-  each : (q : ℕ) (load : Load) → slice_get l.loads.items q ≡ Some load → is_among l.alone q ≡ true
+  each : (q : ℕ) (load : Load) → slice_get l.loads.items q ≡ Some load → is_among l.among q ≡ true
       → IsLoad l.problem l.k q load;
 }

@@ -7,12 +7,12 @@ use Rattle.roster_model.specs.Costs.{line_cost}
 use Rattle.roster_model.specs.Lines.{IsLine}
 use Rattle.roster_model.specs.Places.{places_le}
 use Rattle.roster_model.proofs.SetLemmas.{length_within}
-use Rattle.roster_lines.specs.Entries.{Entry, sets_of}
+use Rattle.roster_linetable.specs.Entries.{Entry, sets_of}
+use Rattle.roster_linetable.specs.Person.{AreCosted}
+use Rattle.roster_linetable.proofs.TreeLemmas.{length-sets_of}
 use Rattle.roster_lines.specs.Listing.{HoldOnly, IsUpTo, judged_as}
-use Rattle.roster_lines.specs.Person.{AreCosted}
 use Rattle.roster_lines.proofs.Marks.{get_push_new, get_push_old, HasMoreLines-push, IsUpTo-push, IsUpTo-return}
 use Rattle.roster_lines.proofs.Stems.{costs_pushed, line_there, no_line_there, longer_set, past_candidate, sets_pushed, up_to_candidate}
-use Rattle.roster_lines.proofs.TreeLemmas.{length-sets_of}
 use Rattle.roster_lines.proofs.extend.+extend.Given as given
 use Rattle.roster_lines.proofs.extend.+extend.Goals.{In-Some, In-Some-2, in-Some-2+else-width-most+in_ok-push+in_ok-extend, in_default-2}
 use Rattle.roster_lines.proofs.extend.+extend.Goals as goal

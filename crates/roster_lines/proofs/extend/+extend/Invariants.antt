@@ -1,9 +1,9 @@
 use Rattle.std.proofs.Common.{◌≡◌, ℕ, ◌-◌, ◌≤◌, ◌++◌, ◌∷◌, List, [], length, Some}
 use Rattle.std.specs.Prelude.{slice_get}
 use Rattle.roster_model.specs.declared.limits.TheConstants.{MOST_PAIRINGS}
-use Rattle.roster_lines.specs.Entries.{sets_of}
+use Rattle.roster_linetable.specs.Entries.{sets_of}
+use Rattle.roster_linetable.specs.Person.{AreCosted}
 use Rattle.roster_lines.specs.Listing.{IsUpTo}
-use Rattle.roster_lines.specs.Person.{AreCosted}
 use Rattle.roster_lines.proofs.extend.+extend.Given as goal
 
 abbrev pub decreases-extend : goal.decreases-extend

@@ -4,9 +4,9 @@ use Rattle.std.proofs.lemmas.Int.{to_z-of_z}
 use Rattle.std.proofs.lemmas.List.Elements.{All-cons, All-nil}
 use Rattle.roster_model.specs.Costs.{line_cost}
 use Rattle.roster_model.specs.Rules.{is_among}
-use Rattle.roster_lines.specs.Entries.{Entry, sets_of}
+use Rattle.roster_linetable.specs.Entries.{Entry, sets_of}
+use Rattle.roster_linetable.specs.Person.{AreCosted}
 use Rattle.roster_lines.specs.Listing.{IsUpTo}
-use Rattle.roster_lines.specs.Person.{AreCosted}
 use Rattle.roster_lines.proofs.Listed.{alone_of_line}
 use Rattle.roster_lines.proofs.Marks.{AreWantedLines-up_to, IsUpTo-empty}
 use Rattle.roster_lines.proofs.extend.lines_of_pairs.Goals as goal

@@ -1,8 +1,8 @@
 use Rattle.std.proofs.Common.{List, Result, Err}
 use Rattle.roster_model.proofs.PushLemmas.{each-next}
+use Rattle.roster_linetable.specs.Entries.{Entry}
 use Rattle.roster_lines.specs.declared.extend.LinesFault.{LinesFault}
 use Rattle.roster_lines.specs.declared.extend.LinesFault.TheVariants.{Memory}
-use Rattle.roster_lines.specs.Entries.{Entry}
 use Rattle.roster_lines.specs.Made.{IsMadeOf}
 use Rattle.roster_lines.proofs.shared.empty_slots.Goals as goal
 

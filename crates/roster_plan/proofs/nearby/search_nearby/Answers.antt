@@ -4,7 +4,7 @@ use Rattle.std.proofs.lemmas.Int.{ints, to_z-of_z}
 use Rattle.roster_model.specs.Rosters.{Key, key_of}
 use Rattle.roster_model.specs.Settled.{IsHeld}
 use Rattle.roster_model.proofs.KeyLemmas.{key_le-trans}
-use Rattle.roster_lines.specs.Person.{IsOfTable}
+use Rattle.roster_linetable.specs.Person.{IsOfTable}
 use Rattle.roster_search.specs.Least.{IsLeastBelow}
 use Rattle.roster_search.specs.Limited.{IsSearched}
 use Rattle.roster_search.proofs.Keys.{by_cost}

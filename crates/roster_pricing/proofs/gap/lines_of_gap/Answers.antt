@@ -7,8 +7,8 @@ use Rattle.roster_model.specs.Places.{set_of}
 use Rattle.roster_model.specs.records.Crew.{Person}
 use Rattle.roster_model.proofs.PushLemmas.{each-push}
 use Rattle.roster_cost.specs.Amounts.{IsWithin}
-use Rattle.roster_lines.specs.Entries.{sets_of}
-use Rattle.roster_lines.specs.Person.{AreListedOf}
+use Rattle.roster_linetable.specs.Entries.{sets_of}
+use Rattle.roster_linetable.specs.Person.{AreListedOf}
 use Rattle.roster_lines.specs.WantedTables.{AreListedSoFar}
 use Rattle.roster_pricing.specs.declared.parts.TheConstants.{MOST_LEAST, PARTS}
 use Rattle.roster_pricing.specs.Chains.{value_at}

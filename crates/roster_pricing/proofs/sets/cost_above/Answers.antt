@@ -3,7 +3,7 @@ use Rattle.std.proofs.lemmas.Int.{ints, to_z-of_z}
 use Rattle.std.proofs.lemmas.Option.{get_or_from_slice_get}
 use Rattle.roster_model.specs.Costs.{line_cost}
 use Rattle.roster_cost.specs.Amounts.{IsWithin, most_extra}
-use Rattle.roster_lines.specs.Entries.{set_at, sets_of}
+use Rattle.roster_linetable.specs.Entries.{set_at, sets_of}
 use Rattle.roster_pricing.proofs.ListedLemmas.{cost_is, line_is, same_word}
 use Rattle.roster_pricing.proofs.sets.cost_above.Goals as goal
 

@@ -5,7 +5,7 @@ use Rattle.std.proofs.lemmas.List.{length-map}
 use Rattle.std.proofs.lemmas.Option.{same_Some, slice_get_within}
 use Rattle.std.specs.Prelude.{slice_get}
 use Rattle.roster_cost.specs.Amounts.{IsWithin}
-use Rattle.roster_lines.specs.Entries.{sets_of}
+use Rattle.roster_linetable.specs.Entries.{sets_of}
 use Rattle.roster_pricing.specs.declared.parts.TheConstants.{MOST_LEAST}
 use Rattle.roster_pricing.specs.Reduced.{reduced}
 use Rattle.roster_pricing.proofs.ListedLemmas.{same_word}

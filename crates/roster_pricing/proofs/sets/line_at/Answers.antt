@@ -2,7 +2,7 @@ use Rattle.std.proofs.Common.{◌≡◌, [], ap, arith, ℤ, ◌-ℤ◌, w64, to
 use Rattle.std.proofs.lemmas.Int.{ints, to_z-of_z}
 use Rattle.std.proofs.lemmas.Option.{get_or_from_slice_get}
 use Rattle.roster_model.specs.Costs.{line_cost}
-use Rattle.roster_lines.specs.Entries.{set_at, sets_of}
+use Rattle.roster_linetable.specs.Entries.{set_at, sets_of}
 use Rattle.roster_pricing.proofs.sets.line_at.Goals as goal
 
 pub returns-clause-value : goal.returns-clause-value

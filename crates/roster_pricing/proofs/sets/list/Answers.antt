@@ -1,5 +1,5 @@
 use Rattle.std.proofs.Common.{◌∙◌, ap, ℤ, w64, to_z, of_z}
-use Rattle.roster_lines.specs.Entries.{sets_of}
+use Rattle.roster_linetable.specs.Entries.{sets_of}
 use Rattle.roster_pricing.proofs.ListedLemmas.{least_of_listed, least_word}
 use Rattle.roster_pricing.proofs.sets.list.Goals as goal
 

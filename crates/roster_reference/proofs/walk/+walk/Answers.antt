@@ -3,14 +3,15 @@ use Rattle.std.proofs.lemmas.Bool.{both_ways}
 use Rattle.std.proofs.lemmas.List.{length-map}
 use Rattle.std.specs.Prelude.{All}
 use Rattle.roster_model.specs.Places.{open_number}
-use Rattle.roster_lines.specs.Entries.{sets_of}
-use Rattle.roster_lines.specs.Person.{lines_at}
+use Rattle.roster_linetable.specs.Entries.{sets_of}
+use Rattle.roster_linetable.specs.Person.{lines_at}
 use Rattle.roster_model.specs.Settled.{Anywhere, Settles}
 use Rattle.roster_problem.specs.Placing.{IsPut}
 use Rattle.roster_problem.proofs.PutLemmas.{Throughout, put_back}
 use Rattle.roster_reference.specs.Walk.{AgreeBefore, IsWalkedTo}
 use Rattle.roster_reference.proofs.GivenLine.{given_again, walked_on}
-use Rattle.roster_reference.proofs.WalkLemmas.{Tried, line_in_table, lines_in_table, settled_at_end, tried_all, tried_given, tried_left, tried_none}
+use Rattle.roster_linetable.proofs.TableLemmas.{all_lines_in_table}
+use Rattle.roster_reference.proofs.WalkLemmas.{Tried, line_in_table, settled_at_end, tried_all, tried_given, tried_left, tried_none}
 use Rattle.roster_reference.proofs.walk.+walk.Goals as goal
 use Rattle.roster_reference.proofs.walk.+walk.Goals.{then-has_throughout, else-has_throughout}
 
@@ -89,5 +90,5 @@ returns-clause-settled t c =
     let problem = c.args.problem.now in
     let lines = sets_of (lines_at c.args.table.now c.args.k) in
     let all : c.loop-i.i ≡ length lines = omega (arith, c.loop-i-test.false, c.loop-i.auto.i-end, c.width-i-end.ensures, length-map (lines_at c.args.table.now c.args.k) (λ entry. entry.set)) in
-    tried_all problem lines c.args.k c.args.places.now c.args.best.now c.loop-i.best (lines_in_table problem c.args.table.now c.args.k c.requires.table c.loop-i.invariant.person) c.loop-i.invariant.person
+    tried_all problem lines c.args.k c.args.places.now c.args.best.now c.loop-i.best (all_lines_in_table problem c.args.table.now c.args.k c.requires.table c.loop-i.invariant.person) c.loop-i.invariant.person
     (subst (λ n. Settles problem (Tried lines n c.args.k c.args.places.now) Anywhere (Some c.args.best.now) c.loop-i.best) all c.loop-i.invariant.settled)

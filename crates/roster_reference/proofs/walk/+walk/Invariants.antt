@@ -1,6 +1,6 @@
 use Rattle.std.proofs.Common.{◌≡◌, ◌-◌, ◌<◌, Some, length}
-use Rattle.roster_lines.specs.Entries.{sets_of}
-use Rattle.roster_lines.specs.Person.{lines_at}
+use Rattle.roster_linetable.specs.Entries.{sets_of}
+use Rattle.roster_linetable.specs.Person.{lines_at}
 use Rattle.roster_model.specs.Settled.{Anywhere, Settles}
 use Rattle.roster_reference.proofs.WalkLemmas.{Tried}
 use Rattle.roster_reference.proofs.walk.+walk.Given as goal

@@ -2,7 +2,7 @@ use Rattle.std.proofs.Common.{w64, get_or, sym, subst, ◌∙◌}
 use Rattle.std.proofs.lemmas.Int.{to_z-of_z}
 use Rattle.std.proofs.lemmas.Option.{slice_get-get_or}
 use Rattle.roster_cost.specs.Amounts.{IsWithin, most_extra}
-use Rattle.roster_lines.specs.Entries.{Entry}
+use Rattle.roster_linetable.specs.Entries.{Entry}
 use Rattle.roster_regions.proofs.Copied.{extra_in_words, no_entry}
 use Rattle.roster_regions.proofs.build.above_first.Goals as goal
 

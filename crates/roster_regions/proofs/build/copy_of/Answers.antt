@@ -1,7 +1,7 @@
 use Rattle.std.proofs.Common.{◌≡◌, ◌<◌, length, ◌++◌, ◌∷◌, [], List, w64, get_or, sym, subst, ap₂, ◌∙◌, arith}
 use Rattle.std.proofs.lemmas.Int.{to_z-of_z}
 use Rattle.std.proofs.lemmas.Option.{slice_get-get_or, get_or_from_slice_get}
-use Rattle.roster_lines.specs.Entries.{Entry}
+use Rattle.roster_linetable.specs.Entries.{Entry}
 use Rattle.roster_regions.specs.Building.{allowed_between, allowed_in}
 use Rattle.roster_regions.specs.Regions.{AllowedLine, allowed}
 use Rattle.roster_regions.specs.Writing.{IsWriting}

@@ -2,7 +2,7 @@ use Rattle.std.proofs.Common.{ℕ, ℤ, ◌≡◌, ◌<◌, ◌≤◌, length, w
 use Rattle.std.proofs.lemmas.Int.{to_z-of_z}
 use Rattle.std.proofs.lemmas.Option.{slice_get-get_or}
 use Rattle.roster_cost.specs.Amounts.{IsWithin, most_extra}
-use Rattle.roster_lines.specs.Entries.{Entry}
+use Rattle.roster_linetable.specs.Entries.{Entry}
 use Rattle.roster_regions.specs.Building.{extra_in}
 use Rattle.roster_regions.proofs.Copied.{no_entry, one_entry}
 use Rattle.roster_regions.proofs.Counted.{abs_from_within, greatest-more}

@@ -1,6 +1,6 @@
 use Rattle.std.proofs.Common.{ℕ, ◌<◌, ◌≤◌, get_or}
 use Rattle.roster_cost.specs.Amounts.{IsWithin, most_extra}
-use Rattle.roster_lines.specs.Entries.{Entry}
+use Rattle.roster_linetable.specs.Entries.{Entry}
 use Rattle.roster_regions.specs.Building.{extra_in}
 use Rattle.roster_regions.proofs.build.greatest_extra.Given as goal
 

@@ -1,8 +1,8 @@
 use Rattle.std.proofs.Common.{◌<◌, ◌*◌, List, length, get_or, pos, ◌*ℤ◌, ap, sym, subst, arith}
 use Rattle.std.specs.Prelude.{All}
 use Rattle.roster_cost.specs.Amounts.{IsWithin, most_extra}
-use Rattle.roster_lines.specs.Entries.{Entry}
-use Rattle.roster_lines.specs.Person.{lines_at}
+use Rattle.roster_linetable.specs.Entries.{Entry}
+use Rattle.roster_linetable.specs.Person.{lines_at}
 use Rattle.roster_regions.specs.declared.choice.TheConstants.{MOST_EXTRA}
 use Rattle.roster_regions.specs.Building.{extra_in}
 use Rattle.roster_regions.proofs.Counted.{within_more, within_times}

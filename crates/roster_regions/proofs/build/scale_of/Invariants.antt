@@ -1,6 +1,6 @@
 use Rattle.std.proofs.Common.{ℕ, ◌<◌, ◌≤◌, get_or}
 use Rattle.roster_cost.specs.Amounts.{most_extra}
-use Rattle.roster_lines.specs.Person.{lines_at}
+use Rattle.roster_linetable.specs.Person.{lines_at}
 use Rattle.roster_regions.specs.Building.{AreNearBefore}
 use Rattle.roster_regions.proofs.build.scale_of.Given as goal
 

@@ -1,6 +1,6 @@
 use Rattle.std.proofs.Common.{w64, subst, sym}
 use Rattle.std.proofs.lemmas.Int.{to_z-of_z}
-use Rattle.roster_lines.specs.Person.{IsOfTable}
+use Rattle.roster_linetable.specs.Person.{IsOfTable}
 use Rattle.roster_regions.specs.Regions.{IsIn}
 use Rattle.roster_search.specs.Least.{IsLeastBelow}
 use Rattle.roster_search.specs.Parts.{AreWhole}

@@ -14,7 +14,7 @@ returns-else-self-lt2-clause-yes c = λ h many.
     let known = subst (λ (j : Stepped). IsStepped j.loads j.set c.self.inside.depth c.self.inside.positions.items c.self.inside.rooms.items c.self.inside.busy) c.self.view_is c.self.invariant in
     let load =
     subst (λ (l : Loaded). IsLoadOf l.problem l.person p c.load.result.now) same
-    (c.load.ensures (ap (λ (l : Loaded). is_among l.alone p) same ∙ c.requires.alone)) in
+    (c.load.ensures (ap (λ (l : Loaded). is_among l.among p) same ∙ c.requires.alone)) in
     within-next judged p placed.ordered placed.timed known.legal c.requires c.deref.result.now c.load.result.now (c.deref.ensures.value ∙ known.rooms) load
     (within-set judged p placed.ordered placed.timed known.legal c.requires many) (c.have_room.ensures.0 h)
 
@@ -27,5 +27,5 @@ returns-else-self-lt2-clause-no c = λ fails legal.
     let known = subst (λ (j : Stepped). IsStepped j.loads j.set c.self.inside.depth c.self.inside.positions.items c.self.inside.rooms.items c.self.inside.busy) c.self.view_is c.self.invariant in
     let load =
     subst (λ (l : Loaded). IsLoadOf l.problem l.person p c.load.result.now) same
-    (c.load.ensures (ap (λ (l : Loaded). is_among l.alone p) same ∙ c.requires.alone)) in
+    (c.load.ensures (ap (λ (l : Loaded). is_among l.among p) same ∙ c.requires.alone)) in
     both_ways _ fails (c.have_room.ensures.1 (room-next judged p placed.ordered placed.timed known.legal c.requires c.deref.result.now c.load.result.now (c.deref.ensures.value ∙ known.rooms) load legal))

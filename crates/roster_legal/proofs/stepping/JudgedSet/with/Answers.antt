@@ -84,7 +84,7 @@ longer c =
     let all = duties_with problem judged.loads.person p judged.set c.deref.result.now more c.in_ok-positions.positions.items old members c.in_ok-positions.ensures.rising c.in_ok-positions.ensures.members in
     let load =
     subst (λ (l : Loaded). IsLoadOf l.problem l.person p c.load.result.now) same
-    (c.load.ensures (ap (λ (l : Loaded). is_among l.alone p) same ∙ c.requires.alone)) in
+    (c.load.ensures (ap (λ (l : Loaded). is_among l.among p) same ∙ c.requires.alone)) in
     let rooms = c.deref-3.ensures.value in
     stepped-next judged p c.self.inside.depth c.self.inside.busy (bit_or c.self.inside.busy c.busy.result) c.self.inside.positions.items c.self.inside.rooms.items c.in_ok-positions.positions.items c.in_ok-rooms.rooms.items c.load.result.now placed known c.requires all load
     (c.in_ok-rooms.ensures.long ∙ ap length rooms)

@@ -4,7 +4,7 @@ use Rattle.roster_cost.specs.Amounts.{cost_without_pairings}
 use Rattle.roster_model.specs.Problem.{Problem}
 use Rattle.roster_regions.specs.Regions.{idle_cost}
 use Rattle.roster_regions.proofs.Boxes.{HasRanges, ranges-region, ranges-in, in-ranges}
-use Rattle.roster_regions.proofs.Tables.{first_line}
+use Rattle.roster_linetable.proofs.TableLemmas.{first_line}
 use Rattle.roster_regions.proofs.region.Region.of_ranges.Goals as goal
 
 idle_is : (problem : Problem) → cost_without_pairings problem ≡ idle_cost problem

@@ -1,5 +1,5 @@
 use Rattle.std.proofs.Common.{◌≡◌, ℕ, ◌<◌, [], length, get_or}
-use Rattle.roster_lines.specs.Person.{lines_at}
+use Rattle.roster_linetable.specs.Person.{lines_at}
 use Rattle.roster_regions.specs.Building.{allowed_between}
 use Rattle.roster_regions.proofs.region.Region.of_ranges.Given as goal
 
