@@ -2,16 +2,18 @@
 
 ghost use Rattle.std.specs.Prelude.{◌≡◌, ◌<◌, IfOk, unwrap_or};
 ghost use Rattle.std.specs.Arc.{arc_value};
-ghost use Rattle.roster_lines.specs.Person.{IsTableOf};
+ghost use Rattle.roster_linetable.specs.Person.{IsTableOf};
 ghost use Rattle.roster_model.specs.Settled.{IsHeld};
 ghost use Rattle.roster_bounds.specs.Chosen.{priced_table};
 
-use crate::books::{AS_EQUAL, EQUAL_SHARES, problem_of};
+use crate::books::{AS_EQUAL, EQUAL_SHARES};
 use crate::spans::{all_open, is, searched};
 use roster_bounds::Tables;
 use roster_branchtree::{Path, Sight, Span};
-use roster_lines::{Table, table_of};
+use roster_lines::table_of;
+use roster_linetable::Table;
 use roster_problem::{Problem, Roster};
+use roster_sample_books::problem_of;
 use roster_search::search_bases;
 use std::alloc::{AllocError, Global};
 use std::sync::Arc;

@@ -1,10 +1,5 @@
 //! Small problems.
 
-use roster_book::{Command, Watched, read_book};
-use roster_problem::Problem;
-use std::alloc::Global;
-use std::test::Fail;
-
 /// One person and two pairings with a minute too little between them: no line has both.
 pub(crate) const ONE_OF_TWO: &[u8] =
     b"period,2024-03\nbase,BAS,UTC0\ncrew,A,BAS,0,0,0\npairing,P1,BAS,100\nduty,Q1,P,P1,BAS,2024-03-04T06:00Z,2024-03-04T14:00Z\npairing,P2,BAS,100\nduty,Q2,P,P2,BAS,2024-03-05T01:59Z,2024-03-05T10:00Z\n";
@@ -12,42 +7,6 @@ pub(crate) const ONE_OF_TWO: &[u8] =
 /// Two persons and one pairing, which costs as much with either as open.
 pub(crate) const ALL_ALIKE: &[u8] =
     b"period,2024-03\nbase,BAS,UTC0\ncrew,A,BAS,0,0,0\ncrew,B,BAS,0,0,0\npairing,P1,BAS,5\nduty,Q1,P,P1,BAS,2024-03-04T06:00Z,2024-03-04T14:00Z\ncost,A,P1,5\ncost,B,P1,5\n";
-
-/// Six persons, and on each of two days five pairings at one time. Only P1 with A costs anything. Each person has
-/// 36 legal sets.
-pub(crate) const TWO_DAYS: &[u8] = b"period,2024-03
-base,BAS,UTC0
-crew,A,BAS,0,0,0
-crew,B,BAS,0,0,0
-crew,C,BAS,0,0,0
-crew,D,BAS,0,0,0
-crew,E,BAS,0,0,0
-crew,F,BAS,0,0,0
-pairing,P1,BAS,3
-duty,Q1,P,P1,BAS,2024-03-04T06:00Z,2024-03-04T14:00Z
-pairing,P2,BAS,3
-duty,Q2,P,P2,BAS,2024-03-04T06:00Z,2024-03-04T14:00Z
-pairing,P3,BAS,3
-duty,Q3,P,P3,BAS,2024-03-04T06:00Z,2024-03-04T14:00Z
-pairing,P4,BAS,3
-duty,Q4,P,P4,BAS,2024-03-04T06:00Z,2024-03-04T14:00Z
-pairing,P5,BAS,3
-duty,Q5,P,P5,BAS,2024-03-04T06:00Z,2024-03-04T14:00Z
-pairing,P6,BAS,3
-duty,Q6,P,P6,BAS,2024-03-05T06:00Z,2024-03-05T14:00Z
-pairing,P7,BAS,3
-duty,Q7,P,P7,BAS,2024-03-05T06:00Z,2024-03-05T14:00Z
-pairing,P8,BAS,3
-duty,Q8,P,P8,BAS,2024-03-05T06:00Z,2024-03-05T14:00Z
-pairing,P9,BAS,3
-duty,Q9,P,P9,BAS,2024-03-05T06:00Z,2024-03-05T14:00Z
-pairing,P10,BAS,3
-duty,Q10,P,P10,BAS,2024-03-05T06:00Z,2024-03-05T14:00Z
-cost,A,P1,3
-";
-
-/// Who flies them in the best roster, which costs 0.
-pub(crate) const BEST: &[u16] = &[1, 0, 2, 3, 4, 0, 1, 2, 3, 4];
 
 /// Five persons, and on each of three days five pairings at one time. Flight can hardly be shared out equally,
 /// and each minute off its target costs 1. Each person has 216 legal sets.
@@ -108,9 +67,3 @@ sector,Q15,O,2024-03-06T06:00Z,2024-03-06T08:54Z
 
 /// Who flies them in the best roster, which costs 4.
 pub(crate) const AS_EQUAL: &[u16] = &[0, 1, 2, 3, 4, 2, 1, 0, 3, 4, 1, 2, 0, 3, 4];
-
-/// The problem of a book.
-pub(crate) fn problem_of(alloc: Global, book: &[u8]) -> Result<Problem, Fail> {
-    let mut reader = Watched::new(book);
-    Ok(read_book(alloc, &mut reader, Command::Solve)?.problem)
-}

@@ -1,14 +1,16 @@
 //! Prices, nodes and their bounds.
 
 ghost use Rattle.std.specs.Prelude.{◌≡◌};
-ghost use Rattle.roster_lines.specs.Person.{IsTableOf};
+ghost use Rattle.roster_linetable.specs.Person.{IsTableOf};
 ghost use Rattle.roster_bounds.specs.Chosen.{priced_table};
 
-use crate::books::{ALL_ALIKE, ONE_OF_TWO, problem_of};
+use crate::books::{ALL_ALIKE, ONE_OF_TWO};
 use roster_bounds::{Node, Prices, Tables, choose_tables};
 use roster_cost::Key;
-use roster_lines::{Table, table_of};
+use roster_lines::table_of;
+use roster_linetable::Table;
 use roster_problem::Problem;
+use roster_sample_books::problem_of;
 use std::alloc::Global;
 use std::test::Fail;
 

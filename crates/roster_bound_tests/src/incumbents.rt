@@ -1,9 +1,9 @@
 //! The incumbent, and what it shows.
 
-use crate::books::BEST;
 use crate::spans::{found_in_two_days, is, shared};
 use roster_branchtree::Sight;
 use roster_incumbent::{Incumbent, Looker};
+use roster_sample_books::BEST;
 use std::test::Fail;
 
 #[test]

@@ -2,15 +2,17 @@
 
 ghost use Rattle.std.specs.Prelude.{◌≡◌, IfOk};
 ghost use Rattle.std.specs.Arc.{arc_value};
-ghost use Rattle.roster_lines.specs.Person.{IsTableOf};
+ghost use Rattle.roster_linetable.specs.Person.{IsTableOf};
 ghost use Rattle.roster_model.specs.Settled.{IsHeld};
 ghost use Rattle.roster_bounds.specs.Chosen.{priced_table};
 
-use crate::books::{BEST, ONE_OF_TWO, TWO_DAYS, problem_of};
+use crate::books::ONE_OF_TWO;
 use roster_bounds::{Tables, choose_tables};
 use roster_branchtree::{Done, Path, Piece, Sight, Span, all_left, check, search};
-use roster_lines::{Table, table_of};
+use roster_lines::table_of;
+use roster_linetable::Table;
 use roster_problem::{Places, Problem, Roster};
+use roster_sample_books::{BEST, TWO_DAYS, problem_of};
 use std::alloc::{AllocError, Global};
 use std::sync::Arc;
 use std::test::Fail;

@@ -1,46 +1,6 @@
-//! Books, and what is best in them.
+//! Small books, and whether a roster is the wanted one.
 
-use roster_book::{Command, Watched, read_book};
 use roster_combine::Solved;
-use roster_problem::Problem;
-use std::alloc::Global;
-use std::test::Fail;
-
-/// Six persons, and on each of two days five pairings at one time. Only P1 with A costs anything. Each person has
-/// 36 legal sets.
-pub const TWO_DAYS: &[u8] = b"period,2024-03
-base,BAS,UTC0
-crew,A,BAS,0,0,0
-crew,B,BAS,0,0,0
-crew,C,BAS,0,0,0
-crew,D,BAS,0,0,0
-crew,E,BAS,0,0,0
-crew,F,BAS,0,0,0
-pairing,P1,BAS,3
-duty,Q1,P,P1,BAS,2024-03-04T06:00Z,2024-03-04T14:00Z
-pairing,P2,BAS,3
-duty,Q2,P,P2,BAS,2024-03-04T06:00Z,2024-03-04T14:00Z
-pairing,P3,BAS,3
-duty,Q3,P,P3,BAS,2024-03-04T06:00Z,2024-03-04T14:00Z
-pairing,P4,BAS,3
-duty,Q4,P,P4,BAS,2024-03-04T06:00Z,2024-03-04T14:00Z
-pairing,P5,BAS,3
-duty,Q5,P,P5,BAS,2024-03-04T06:00Z,2024-03-04T14:00Z
-pairing,P6,BAS,3
-duty,Q6,P,P6,BAS,2024-03-05T06:00Z,2024-03-05T14:00Z
-pairing,P7,BAS,3
-duty,Q7,P,P7,BAS,2024-03-05T06:00Z,2024-03-05T14:00Z
-pairing,P8,BAS,3
-duty,Q8,P,P8,BAS,2024-03-05T06:00Z,2024-03-05T14:00Z
-pairing,P9,BAS,3
-duty,Q9,P,P9,BAS,2024-03-05T06:00Z,2024-03-05T14:00Z
-pairing,P10,BAS,3
-duty,Q10,P,P10,BAS,2024-03-05T06:00Z,2024-03-05T14:00Z
-cost,A,P1,3
-";
-
-/// Who flies them in the best roster, which costs 0.
-pub const BEST: &[u16] = &[1, 0, 2, 3, 4, 0, 1, 2, 3, 4];
 
 /// One person, and two pairings on different days: four legal sets.
 pub const ONE_PERSON: &[u8] = b"period,2024-03
@@ -54,12 +14,6 @@ duty,Q2,P,P2,BAS,2024-03-06T06:00Z,2024-03-06T14:00Z
 
 /// No persons, and nothing to fly.
 pub const NOBODY: &[u8] = b"period,2024-03\n";
-
-/// The problem of a book.
-pub fn problem_of(alloc: Global, book: &[u8]) -> Result<Problem, Fail> {
-    let mut reader = Watched::new(book);
-    Ok(read_book(alloc, &mut reader, Command::Solve)?.problem)
-}
 
 /// Whether the roster has these places and costs 0, and all was searched again so often.
 pub fn is(solved: &Solved, places: &[u16], fallbacks: usize) -> bool {

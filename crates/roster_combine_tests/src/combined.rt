@@ -2,18 +2,20 @@
 
 ghost use Rattle.std.specs.Prelude.{◌≡◌, All, IfOk, IfSome, List, map};
 ghost use Rattle.roster_model.specs.Problem.{Problem as PlainProblem};
-ghost use Rattle.roster_lines.specs.Entries.{Entry};
-ghost use Rattle.roster_lines.specs.Person.{IsTableOf};
+ghost use Rattle.roster_linetable.specs.Entries.{Entry};
+ghost use Rattle.roster_linetable.specs.Person.{IsTableOf};
 ghost use Rattle.roster_bounds.specs.Chosen.{priced_table};
 ghost use Rattle.roster_combine.specs.Parts.{AreSettled};
 
-use crate::books::{BEST, TWO_DAYS, is, problem_of};
+use crate::books::is;
 use roster_bounds::{Tables, choose_tables};
 use roster_branchtree::{Span, all_left};
 use roster_combine::{Open, Solved, combine, work};
 use roster_incumbent::Incumbent;
-use roster_lines::{Table, table_of};
+use roster_lines::table_of;
+use roster_linetable::Table;
 use roster_problem::Problem;
+use roster_sample_books::{BEST, TWO_DAYS, problem_of};
 use roster_subtreepool::{Closed, Pool, PoolState, Settled};
 use std::alloc::{AllocError, Global};
 use std::marker::Brand;

@@ -1,8 +1,9 @@
 //! Workers that meet.
 
-use crate::books::{BEST, TWO_DAYS, is};
+use crate::books::is;
 use crate::threads::solved;
 use roster_combine::{Gate, Point};
+use roster_sample_books::{BEST, TWO_DAYS};
 use std::alloc::Global;
 use std::process::Abort;
 use std::sync::Wait;

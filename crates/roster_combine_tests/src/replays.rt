@@ -2,9 +2,10 @@
 
 ghost use Rattle.std.specs.Prelude.{◌<◌};
 
-use crate::books::{BEST, NOBODY, TWO_DAYS, is, problem_of};
+use crate::books::{NOBODY, is};
 use roster_combine::replay;
 use roster_problem::Step;
+use roster_sample_books::{BEST, TWO_DAYS, problem_of};
 use std::alloc::{AllocError, Global};
 use std::test::Fail;
 

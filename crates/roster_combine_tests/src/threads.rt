@@ -2,8 +2,9 @@
 
 ghost use Rattle.std.specs.Prelude.{◌<◌};
 
-use crate::books::{BEST, NOBODY, ONE_PERSON, TWO_DAYS, is, problem_of};
+use crate::books::{NOBODY, ONE_PERSON, is};
 use roster_combine::{Gate, Open, Solved, solve};
+use roster_sample_books::{BEST, TWO_DAYS, problem_of};
 use std::alloc::Global;
 use std::sync::Wait;
 use std::test::Fail;

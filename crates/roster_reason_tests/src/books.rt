@@ -1,30 +1,11 @@
-//! Problems of books, and reasons asked for.
+//! Reasons asked for.
 
-ghost use Rattle.std.specs.Prelude.{◌<◌, All, IfSome, length};
-
-use roster_book::{BookFault, Command, Watched, read_book};
-use roster_problem::{Problem, Set};
+use roster_problem::Set;
 use roster_reasons::{Reason, first_reason, reason};
+use roster_sample_books::{problem_of, set_of};
 use std::alloc::Global;
 use std::process::Abort;
 use std::test::Fail;
-
-/// The problem of a book.
-pub fn problem_of(alloc: Global, book: &[u8]) -> Result<Problem, BookFault> {
-    let mut reader = Watched::new(book);
-    Ok(read_book(alloc, &mut reader, Command::Solve)?.problem)
-}
-
-/// The pairings at whose places the list has the number 0.
-#[tactic(auto, using(roster_model::proofs::SetLemmas::places_of_number))]
-pub fn set_of(problem: &Problem, places: &[u16]) -> Option<Set>
-    ensures { IfSome result (λ set. All (λ p. p < length problem.now.pairings) set) }
-{
-    if places.len() != problem.pairings().len() {
-        return None;
-    }
-    Some(Set::of_places(places, 0))
-}
 
 /// Asks why the first person of the book mustn't have the pairings at whose places the list has 0.
 pub fn is_told(

@@ -1,9 +1,10 @@
 //! The limits, and what is used of them. Day 35 of the window is 1 March.
 
-use crate::books::{is_told, problem_of, set_of};
+use crate::books::is_told;
 use roster_legal::merge;
 use roster_problem::{Limit, Problem, Rule};
 use roster_reasons::{Amount, MonthFlight, Reason, RunOfDays, standing};
+use roster_sample_books::{problem_of, set_of};
 use std::alloc::Global;
 use std::process::Abort;
 use std::test::Fail;

@@ -1,12 +1,12 @@
 //! What lines and rosters cost, by worked books, and the order of keys.
 
-use crate::legal::{problem_of, set_of};
 use roster_cost::{
     Key, cost_at, cost_without_pairings, fixed_flight, keys_are_in_order, line_cost,
     lines_are_near, one_pairing_more, order_of_keys, pairing_flight, roster_cost, set_flight,
     set_units, shares_add_up, units_of_set,
 };
 use roster_problem::{Places, Problem, Roster, Set, has_throughout, open_number, put};
+use roster_sample_books::{problem_of, set_of};
 use std::process::Abort;
 use std::test::Fail;
 

@@ -1,11 +1,9 @@
 //! The rules over a duty for each pairing that a book may have.
 
-ghost use Rattle.std.specs.Prelude.{◌<◌, All, IfSome, length};
-
-use roster_book::{BookFault, Command, Watched, read_book};
 use roster_legal::{Judge, first_broken, is_legal, locked, merge};
 use roster_model::limits::MOST_PAIRINGS;
 use roster_problem::{Problem, Rule, Set};
+use roster_sample_books::{problem_of, set_of};
 use std::alloc::{AllocError, Global};
 use std::process::Abort;
 use std::test::Fail;
@@ -44,23 +42,6 @@ fn long_book(alloc: Global) -> Result<Vec<u8>, AllocError> {
         )?;
     }
     Ok(book)
-}
-
-/// The problem of a book.
-pub fn problem_of(alloc: Global, book: &[u8]) -> Result<Problem, BookFault> {
-    let mut reader = Watched::new(book);
-    Ok(read_book(alloc, &mut reader, Command::Solve)?.problem)
-}
-
-/// The pairings at whose places the list has the number 0.
-#[tactic(auto, using(roster_model::proofs::SetLemmas::places_of_number))]
-pub fn set_of(problem: &Problem, places: &[u16]) -> Option<Set>
-    ensures { IfSome result (λ set. All (λ p. p < length problem.now.pairings) set) }
-{
-    if places.len() != problem.pairings().len() {
-        return None;
-    }
-    Some(Set::of_places(places, 0))
 }
 
 /// Judges the set of all pairings.

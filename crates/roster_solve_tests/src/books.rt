@@ -1,7 +1,7 @@
-//! Books of a crew and of pairings by their days, and what reads a book.
+//! Books of a crew and of pairings by their days.
 
-use roster_book::{Command, Watched, read_book};
 use roster_problem::Problem;
+use roster_sample_books::problem_of;
 use std::alloc::{AllocError, Global};
 use std::test::Fail;
 
@@ -41,19 +41,13 @@ pub fn book_of(alloc: Global, crew: &[u8], days: &[u8]) -> Result<Vec<u8>, Alloc
     Ok(book)
 }
 
-/// The problem of a book.
-pub fn read(alloc: Global, book: &[u8]) -> Result<Problem, Fail> {
-    let mut reader = Watched::new(book);
-    Ok(read_book(alloc, &mut reader, Command::Solve)?.problem)
-}
-
 /// The problem of the book of this crew, and of pairings on these days.
 pub fn problem_with(alloc: Global, crew: &[u8], days: &[u8]) -> Result<Problem, Fail> {
     let book = book_of(alloc, crew, days)?;
-    read(alloc, &book)
+    Ok(problem_of(alloc, &book)?)
 }
 
 /// The problem of that book with one person.
-pub fn problem_of(alloc: Global, days: &[u8]) -> Result<Problem, Fail> {
+pub fn problem_of_days(alloc: Global, days: &[u8]) -> Result<Problem, Fail> {
     problem_with(alloc, ONE, days)
 }

@@ -4,7 +4,8 @@ ghost use Rattle.std.specs.Prelude.{◌≡◌, ◌<◌, All, IfOk, length};
 
 use crate::random::random_problem;
 use roster_legal::Judge;
-use roster_lines::{Lines, lines_of};
+use roster_lines::lines_of;
+use roster_linetable::Lines;
 use roster_problem::{Problem, Set};
 use std::alloc::{AllocError, Global};
 use std::test::Fail;

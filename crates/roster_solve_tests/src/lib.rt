@@ -1,7 +1,7 @@
 //! Tests of lines and of searches: what no clause says, and each public call that no book of `data/`
 //! reaches. A crate with tests of its own would be proved twice. In reading order:
 //!
-//! - `books`: books of a crew and of pairings by their days, and what reads a book
+//! - `books`: books of a crew and of pairings by their days
 //! - `judged`: lines beside all sets that are judged from the first duty to the last
 //! - `lines`: the lines of persons, and their numbers
 //! - `random`: books that are put together at random

@@ -1,15 +1,16 @@
 //! The lines of persons, and their numbers.
 
-ghost use Rattle.roster_lines.specs.Person.{IsTableOf};
+ghost use Rattle.roster_linetable.specs.Person.{IsTableOf};
 
-use crate::books::{problem_of, problem_with, read};
-use roster_lines::{
-    Lines, LinesFault, SharedLines, Table, TableFault, all_lines, all_lines_are_some,
-    few_are_not_crowded, has_numbers, lines_of, nobody_is_crowded, one_list_of_lines,
-    one_list_of_numbers, table_of,
+use crate::books::{problem_of_days, problem_with};
+use roster_lines::{LinesFault, TableFault, all_lines, lines_of, table_of};
+use roster_linetable::{
+    Lines, SharedLines, Table, all_lines_are_some, few_are_not_crowded, has_numbers,
+    nobody_is_crowded, one_list_of_lines, one_list_of_numbers,
 };
 use roster_model::limits::MOST_PAIRINGS;
 use roster_problem::{Problem, Set};
+use roster_sample_books::problem_of;
 use std::alloc::{AllocError, Global};
 use std::process::Abort;
 use std::test::Fail;
@@ -118,7 +119,7 @@ fn first_lines(rt: &impl Abort, alloc: Global, problem: &Problem) -> Result<Line
 
 /// The lines of the one person of the book with pairings on these days.
 fn lines_with(rt: &impl Abort, alloc: Global, days: &[u8]) -> Result<Lines, Fail> {
-    let problem = problem_of(alloc, days)?;
+    let problem = problem_of_days(alloc, days)?;
     Ok(first_lines(rt, alloc, &problem)?)
 }
 
@@ -206,7 +207,7 @@ fn table_costs(rt: &impl Abort, problem: &Problem, table: &Table)
 
 #[test]
 fn lines_cost_their_units_and_the_missed_target(rt: HostRuntime) -> Result<(), Fail> {
-    let problem = read(rt.alloc(), COSTS)?;
+    let problem = problem_of(rt.alloc(), COSTS)?;
     let table = table_of(rt.alloc(), &problem)?;
     table_costs(&rt, &problem, &table);
     Ok(())
@@ -261,7 +262,7 @@ fn has_lines(rt: &impl Abort, problem: &Problem, table: &Table)
 
 #[test]
 fn a_table_has_the_lines_of_each_person(rt: HostRuntime) -> Result<(), Fail> {
-    let problem = problem_of(rt.alloc(), &TWO_DAYS)?;
+    let problem = problem_of_days(rt.alloc(), &TWO_DAYS)?;
     let table = table_of(rt.alloc(), &problem)?;
     has_lines(&rt, &problem, &table);
     Ok(())
@@ -278,7 +279,7 @@ fn beside(rt: &impl Abort, problem: &Problem, table: Table) -> Result<SharedLine
 
 #[test]
 fn lines_are_had_beside_their_table(rt: HostRuntime) -> Result<(), Fail> {
-    let problem = problem_of(rt.alloc(), &TWO_DAYS)?;
+    let problem = problem_of_days(rt.alloc(), &TWO_DAYS)?;
     let table = table_of(rt.alloc(), &problem)?;
     let lines = beside(&rt, &problem, table)?;
     assert!(rt; lines.lines().width() == 36);
@@ -287,7 +288,7 @@ fn lines_are_had_beside_their_table(rt: HostRuntime) -> Result<(), Fail> {
 
 #[test]
 fn a_person_may_have_too_many_lines(rt: HostRuntime) -> Result<(), Fail> {
-    let problem = problem_of(rt.alloc(), &MANY)?;
+    let problem = problem_of_days(rt.alloc(), &MANY)?;
     assert!(rt; problem.persons().len() == 1);
     assert!(rt; matches!(table_of(rt.alloc(), &problem), Err(TableFault::TooMany(0))));
     Ok(())
@@ -315,7 +316,7 @@ fn threads_make_the_same_table(rt: HostRuntime) -> Result<(), Fail> {
 
 #[test]
 fn threads_find_the_same_costs(rt: HostRuntime) -> Result<(), Fail> {
-    let problem = read(rt.alloc(), COSTS)?;
+    let problem = problem_of(rt.alloc(), COSTS)?;
     assert!(rt; do_threads_agree(&rt, rt.alloc(), &problem)?);
     Ok(())
 }

@@ -2,8 +2,8 @@
 
 ghost use Rattle.std.specs.Prelude.{◌<◌};
 
-use crate::books::read;
 use roster_problem::Problem;
+use roster_sample_books::problem_of;
 use std::alloc::{AllocError, Global};
 use std::test::Fail;
 
@@ -149,5 +149,5 @@ fn random_book(alloc: Global, seed: u64) -> Result<String, AllocError> {
 /// The problem of such a book.
 pub fn random_problem(alloc: Global, seed: u64) -> Result<Problem, Fail> {
     let book = random_book(alloc, seed)?;
-    read(alloc, book.as_bytes())
+    Ok(problem_of(alloc, book.as_bytes())?)
 }

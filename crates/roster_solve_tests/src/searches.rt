@@ -1,12 +1,13 @@
 //! The search beside the walk of lines and the plain search.
 
-use crate::books::{book_of, problem_of, read};
+use crate::books::{book_of, problem_of_days};
 use crate::random::random_problem;
 use roster_combine::{Open, solve};
 use roster_lines::table_of;
 use roster_model::limits::MOST_PAIRINGS;
 use roster_problem::{Problem, Roster, open_number};
 use roster_reference::{solve_by_lines, solve_plainly};
+use roster_sample_books::problem_of;
 use std::alloc::Global;
 use std::sync::Wait;
 use std::test::Fail;
@@ -82,7 +83,7 @@ fn find<R: Threads + Wait + Sync>(
     places: &[u16],
     cost: i64,
 ) -> Result<bool, Fail> {
-    let problem = read(alloc, book)?;
+    let problem = problem_of(alloc, book)?;
     all_find(rt, alloc, &problem, places, cost)
 }
 
@@ -103,7 +104,7 @@ fn leave_all_open<R: Threads + Wait + Sync>(rt: &R, alloc: Global) -> Result<boo
 
 /// Whether the first of as many pairings as may be, all at one time, is flown.
 fn flies_the_first<R: Threads + Wait + Sync>(rt: &R, alloc: Global) -> Result<bool, Fail> {
-    let problem = problem_of(alloc, &[4; MOST_PAIRINGS])?;
+    let problem = problem_of_days(alloc, &[4; MOST_PAIRINGS])?;
     let mut places = [1; MOST_PAIRINGS];
     places[0] = 0;
     is_solved(rt, alloc, &problem, &places, MOST_PAIRINGS as i64 - 1)

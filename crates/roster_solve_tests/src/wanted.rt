@@ -1,16 +1,18 @@
 //! The lines that are wanted, beside all lines.
 
 ghost use Rattle.std.specs.Prelude.{◌<◌, ◌≤◌, IfOk};
-ghost use Rattle.roster_lines.specs.Person.{AreListed};
+ghost use Rattle.roster_linetable.specs.Person.{AreListed};
 
-use crate::books::{problem_of, read};
+use crate::books::problem_of_days;
 use crate::lines::{COSTS, TWO_DAYS, set_of};
 use roster_lines::{
-    Between, Lines, LinesFault, Table, TableFault, Wanted, all_pairs, lines_between, lines_of,
-    wanted_lines, wanted_table,
+    Between, LinesFault, TableFault, Wanted, all_pairs, lines_between, lines_of, wanted_lines,
+    wanted_table,
 };
+use roster_linetable::{Lines, Table};
 use roster_model::limits::MOST_LINES;
 use roster_problem::{Problem, Set};
+use roster_sample_books::problem_of;
 use std::alloc::Global;
 use std::process::Abort;
 use std::test::Fail;
@@ -62,7 +64,7 @@ fn are_same(a: &Lines, b: &Lines) -> bool {
 
 #[test]
 fn between_nothing_and_all_are_all_lines(rt: HostRuntime) -> Result<(), Fail> {
-    let problem = problem_of(rt.alloc(), &TWO_DAYS)?;
+    let problem = problem_of_days(rt.alloc(), &TWO_DAYS)?;
     assert!(rt; problem.persons().len() == 1);
     let all = [0, 1, 2, 3, 4, 5, 6, 7, 8, 9];
     let lines = between(&rt, rt.alloc(), &problem, &[], &all, MOST_LINES)?;
@@ -84,7 +86,7 @@ fn go_by_the_sixth(rt: &impl Abort, lines: &Lines) {
 
 #[test]
 fn lines_hold_what_they_must(rt: HostRuntime) -> Result<(), Fail> {
-    let problem = problem_of(rt.alloc(), &TWO_DAYS)?;
+    let problem = problem_of_days(rt.alloc(), &TWO_DAYS)?;
     let lines = between(&rt, rt.alloc(), &problem, &[7], &[0, 5], MOST_LINES)?;
     go_by_the_sixth(&rt, &lines);
     Ok(())
@@ -92,7 +94,7 @@ fn lines_hold_what_they_must(rt: HostRuntime) -> Result<(), Fail> {
 
 #[test]
 fn nothing_stands_behind_what_is_missing(rt: HostRuntime) -> Result<(), Fail> {
-    let problem = problem_of(rt.alloc(), &TWO_DAYS)?;
+    let problem = problem_of_days(rt.alloc(), &TWO_DAYS)?;
     let lines = between(&rt, rt.alloc(), &problem, &[5], &[0, 9], 4)?;
     assert!(rt; lines.width() == 4);
     assert!(rt; lines.find(&set_of(&[0, 5])) == Some(2));
@@ -102,7 +104,7 @@ fn nothing_stands_behind_what_is_missing(rt: HostRuntime) -> Result<(), Fail> {
 
 #[test]
 fn more_lines_than_so_many_are_not_listed(rt: HostRuntime) -> Result<(), Fail> {
-    let problem = problem_of(rt.alloc(), &TWO_DAYS)?;
+    let problem = problem_of_days(rt.alloc(), &TWO_DAYS)?;
     let lines = between(&rt, rt.alloc(), &problem, &[5], &[0, 9], 3);
     assert!(rt; matches!(lines, Err(LinesFault::TooMany)));
     Ok(())
@@ -119,7 +121,7 @@ fn cost_as_among_all(rt: &impl Abort, lines: &Lines) {
 
 #[test]
 fn lines_between_cost_what_they_do_among_all(rt: HostRuntime) -> Result<(), Fail> {
-    let problem = read(rt.alloc(), COSTS)?;
+    let problem = problem_of(rt.alloc(), COSTS)?;
     let lines = between(&rt, rt.alloc(), &problem, &[1], &[0], MOST_LINES)?;
     cost_as_among_all(&rt, &lines);
     Ok(())
@@ -127,7 +129,7 @@ fn lines_between_cost_what_they_do_among_all(rt: HostRuntime) -> Result<(), Fail
 
 #[test]
 fn the_empty_line_is_there_if_nothing_is_wanted(rt: HostRuntime) -> Result<(), Fail> {
-    let problem = problem_of(rt.alloc(), &TWO_DAYS)?;
+    let problem = problem_of_days(rt.alloc(), &TWO_DAYS)?;
     assert!(rt; problem.persons().len() == 1);
     let lines = wanted_lines(rt.alloc(), &problem, 0, &Nothing, 1)?;
     assert!(rt; lines.width() == 1);
@@ -166,7 +168,7 @@ fn has_the_sixth(rt: &impl Abort, problem: &Problem, table: &Table)
 
 #[test]
 fn a_table_has_the_lines_that_are_wanted(rt: HostRuntime) -> Result<(), Fail> {
-    let problem = problem_of(rt.alloc(), &TWO_DAYS)?;
+    let problem = problem_of_days(rt.alloc(), &TWO_DAYS)?;
     let table = table_with_the_sixth(&rt, rt.alloc(), &problem, 4)?;
     has_the_sixth(&rt, &problem, &table);
     Ok(())
@@ -174,7 +176,7 @@ fn a_table_has_the_lines_that_are_wanted(rt: HostRuntime) -> Result<(), Fail> {
 
 #[test]
 fn a_table_is_told_who_has_more_than_so_many(rt: HostRuntime) -> Result<(), Fail> {
-    let problem = problem_of(rt.alloc(), &TWO_DAYS)?;
+    let problem = problem_of_days(rt.alloc(), &TWO_DAYS)?;
     let table = table_with_the_sixth(&rt, rt.alloc(), &problem, 3);
     assert!(rt; matches!(table, Err(TableFault::TooMany(0))));
     Ok(())

@@ -3,7 +3,7 @@ use Rattle.std.specs.Prelude.{All}
 use Rattle.std.proofs.lemmas.List.{map_push}
 use Rattle.std.proofs.lemmas.List.Elements.{All-nil, All-push, All-same}
 use Rattle.roster_model.specs.Problem.{Problem}
-use Rattle.roster_lines.specs.Entries.{Entry}
+use Rattle.roster_linetable.specs.Entries.{Entry}
 use Rattle.roster_subtreepool.specs.States.{Part}
 use Rattle.roster_combine.specs.Parts.{AreSettled, IsSettled}
 use Rattle.roster_combine_tests.proofs.combined.lists_of.Goals as goal
