@@ -7,4 +7,5 @@ pub mod Planned
 pub mod Attempts
 pub mod Parts
 pub mod Months
+pub mod Bases
 pub mod Runs

@@ -1,14 +1,16 @@
-//! Each base apart: searched whole, or bounded by prices.
+//! Bases of which not all lines can be searched: bounded by prices, and then those lines that cost little.
 
-ghost use Rattle.std.specs.Prelude.{◌≡◌, ◌<◌, IfOk};
+ghost use Rattle.std.specs.Prelude.{◌≡◌, ◌<◌, IfOk, vec_len};
 ghost use Rattle.roster_lines.specs.Listing.{AreAllPairs};
 ghost use Rattle.roster_model.specs.declared.limits.TheConstants.{MOST_BASES as most_bases};
+ghost use Rattle.roster_plan.specs.Bases.{AreGaps, IsGap};
+ghost use Rattle.roster_plan.specs.Exact.{IsExact};
 ghost use Rattle.roster_plan.specs.Months.{IsMonth, IsMonthFrom};
+ghost use Rattle.roster_plan.specs.Parts.{AreParts};
 
-use crate::exact::close;
+use crate::exact::{Found, close};
 use crate::means::{MOST_EFFORT, Means};
 use crate::months::Month;
-use crate::nearby::search_base;
 use crate::parts::{Part, is_open};
 use crate::watching::{Step, Watcher};
 use roster_cost::keys_are_in_order;
@@ -17,7 +19,7 @@ use roster_model::limits::MOST_BASES;
 use roster_pricing::{PricedBound, Pricing};
 use roster_problem::Problem;
 use std::alloc::{AllocError, Global};
-use std::thread::Threads;
+use std::thread::{Threads, for_each_mut};
 
 /// How many steps prices are worth at effort 0, about; each takes about a nanosecond. Each effort more
 /// doubles them.
@@ -32,56 +34,16 @@ const USUAL_FOLLOWERS: u64 = 16;
 /// How often prices of a base are looked at, at most, at effort 0.
 const FEWEST_LOOKS: u32 = 4;
 
-/// The month with the best roster of each base whose persons have few enough lines, if its search ends.
-pub(crate) fn searched<W: Watcher>(
-    alloc: Global,
-    problem: &Problem,
-    pairs: &[Pairs],
-    start: Month,
-    means: &Means,
-    watcher: &mut W,
-) -> Result<Month, AllocError>
-    requires pairs { AreAllPairs problem.now pairs.now }
-    requires month { IsMonth problem.now start }
-    ensures { IfOk result (IsMonthFrom problem.now start.planned.roster) }
-{
-    keys_are_in_order();
-    let mut month = start;
-    for base in 0..MOST_BASES {
-        if is_open(&month.parts, base) {
-            month = searched_at(alloc, problem, pairs, base, month, means, watcher)?;
-        }
-    }
-    Ok(month)
-}
-
-/// The month with the best roster of this base, if its persons have few enough lines and the search ends.
-fn searched_at<W: Watcher>(
-    alloc: Global,
-    problem: &Problem,
-    pairs: &[Pairs],
-    base: usize,
-    month: Month,
-    means: &Means,
-    watcher: &mut W,
-) -> Result<Month, AllocError>
-    requires pairs { AreAllPairs problem.now pairs.now }
-    requires base { base < most_bases }
-    requires month { IsMonth problem.now month }
-    ensures { IfOk result (IsMonthFrom problem.now month.planned.roster) }
-{
-    keys_are_in_order();
-    let known = month.parts[base].roster.copy(alloc)?;
-    let (lines, work) = (means.lines(), means.work());
-    let nearby = search_base(alloc, problem, pairs, base, known, lines, work)?;
-    if !nearby.is_settled {
-        return Ok(month);
-    }
-    month.settled(alloc, problem, base, &nearby.roster, Step::Sets, watcher)
+/// A base, what prices say of it, and what searches of its gaps come to.
+#[derive(Drop)]
+pub(crate) struct Gap<'a> {
+    pub(crate) base: usize,
+    pub(crate) priced: PricedBound<'a>,
+    pub(crate) found: Result<Found, AllocError>,
 }
 
 /// The month with greater bounds of its bases, if prices give them, and with their best rosters, if those are
-/// found.
+/// found. The workers share the persons of a base while prices rise, and then the bases.
 pub(crate) fn bounded<R: Threads + Sync, W: Watcher>(
     rt: &R,
     alloc: Global,
@@ -104,38 +66,55 @@ pub(crate) fn bounded<R: Threads + Sync, W: Watcher>(
     let pricing = Pricing::new(alloc, problem, pairs)?;
     let work = means.work() / bases_of(&start.parts).max(1);
     let mut month = start;
+    let mut gaps = Vec::new(alloc);
     for base in 0..MOST_BASES {
         if is_open(&month.parts, base) {
-            month = bounded_at(
-                rt, alloc, problem, &pricing, base, month, looks, means, work, watcher,
+            let mut priced = PricedBound::new(rt, alloc, means.workers, &pricing, base)?;
+            month = raised_by(
+                rt,
+                alloc,
+                problem,
+                &mut priced,
+                base,
+                month,
+                looks,
+                means,
+                watcher,
             )?;
+            gaps.push(Gap {
+                base,
+                priced,
+                found: Err(AllocError),
+            })?;
         }
     }
+    close_all(rt, alloc, problem, &month.parts, means, work, &mut gaps);
+    let month = closed(alloc, problem, month, gaps, watcher)?;
     Ok(month)
 }
 
-/// The month with a greater bound of this base, if so many looks at prices give one, and with its best
-/// roster, if searches of so much work find it.
-fn bounded_at<R: Threads + Sync, W: Watcher>(
+/// The month with a greater bound of this base, if so many looks at prices give one.
+fn raised_by<R: Threads + Sync, W: Watcher>(
     rt: &R,
     alloc: Global,
     problem: &Problem,
-    pricing: &Pricing<'_>,
+    priced: &mut PricedBound<'_>,
     base: usize,
     start: Month,
     looks: u32,
     means: &Means,
-    work: u64,
     watcher: &mut W,
 ) -> Result<Month, AllocError>
-    requires pricing { pricing.now ≡ problem.now }
+    requires problem { priced.old.problem ≡ problem.now }
+    requires of { priced.old.base ≡ base }
     requires base { base < most_bases }
     requires month { IsMonth problem.now start }
     requires workers { 0 < means.now.workers }
-    ensures { IfOk result (IsMonthFrom problem.now start.planned.roster) }
+    ensures problem { priced.new.problem ≡ problem.now }
+    ensures of { priced.new.base ≡ base }
+    ensures month { IfOk result (IsMonthFrom problem.now start.planned.roster) }
 {
     // The first look is that at no prices.
-    let mut priced = PricedBound::new(rt, alloc, means.workers, pricing, base)?;
     let known = start.parts[base].roster.cost;
     let first = priced.bound();
     let mut month = start.raised(alloc, problem, base, first, Step::Prices, watcher)?;
@@ -144,7 +123,59 @@ fn bounded_at<R: Threads + Sync, W: Watcher>(
         let bound = priced.bound();
         month = month.raised(alloc, problem, base, bound, Step::Prices, watcher)?;
     }
-    close(alloc, problem, &priced, base, month, means, work, watcher)
+    Ok(month)
+}
+
+/// Searches the gaps of the bases, which the workers share.
+fn close_all<R: Threads + Sync>(
+    rt: &R,
+    alloc: Global,
+    problem: &Problem,
+    parts: &[Part],
+    means: &Means,
+    work: u64,
+    gaps: &mut [Gap<'_>],
+)
+    requires parts { AreParts problem.now parts.now }
+    requires workers { 0 < means.now.workers }
+    requires gaps { AreGaps problem.now gaps.old }
+    ensures { AreGaps problem.now gaps.new }
+{
+    let search = |_: usize, gap: &mut Gap<'_>|
+        requires { AreParts problem.now parts.now × IsGap problem.now gap.old }
+        ensures { IsGap problem.entry.now gap.new }
+    {
+        let (base, priced) = (gap.base, &gap.priced);
+        let known = &parts[base].roster;
+        gap.found = close(alloc, problem, priced, base, known.cost, means, work);
+    };
+    for_each_mut(rt, gaps, means.workers, &search);
+}
+
+/// The month with what was found of each base.
+fn closed<W: Watcher>(
+    alloc: Global,
+    problem: &Problem,
+    start: Month,
+    gaps: Vec<Gap<'_>>,
+    watcher: &mut W,
+) -> Result<Month, AllocError>
+    requires month { IsMonth problem.now start }
+    requires gaps { AreGaps problem.now gaps.items }
+    ensures { IfOk result (IsMonthFrom problem.now start.planned.roster) }
+{
+    keys_are_in_order();
+    let mut month = start;
+    for gap in gaps {
+        let Gap {
+            base,
+            priced: _,
+            found,
+        } = gap;
+        let found = found?;
+        month = month.with_found(alloc, problem, base, &found, Step::Gap, watcher)?;
+    }
+    Ok(month)
 }
 
 /// How many bases aren't settled.

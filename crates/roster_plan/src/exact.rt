@@ -5,14 +5,9 @@
 //! base, or none costs so little.
 
 ghost use Rattle.std.specs.Prelude.{◌≡◌, ◌⊎◌, ◌<◌, ◌^◌, ◌≤ℤ◌, ◌+ℤ◌, ◌-ℤ◌, pos, IfOk, IfSome};
-ghost use Rattle.roster_model.specs.declared.limits.TheConstants.{MOST_BASES as most_bases};
 ghost use Rattle.roster_plan.specs.Exact.{IsExact};
-ghost use Rattle.roster_plan.specs.Months.{IsMonth, IsMonthFrom};
 
 use crate::means::Means;
-use crate::months::Month;
-use crate::watching::{Step, Watcher};
-use roster_cost::keys_are_in_order;
 use roster_lines::TableFault;
 use roster_pricing::{PARTS, PricedBound};
 use roster_problem::{Problem, Roster};
@@ -34,35 +29,28 @@ pub(crate) enum Found {
     AtLeast(i64),
 }
 
-/// The month with the best roster of the base, if that is found, or else with the greatest bound that is
-/// found on the way. Each search of a gap may take so much work.
-pub(crate) fn close<W: Watcher>(
+/// The best roster of the base, if that is found, or else the greatest bound that is found on the way. A known
+/// roster of it has this cost. Each search of a gap may take so much work.
+pub(crate) fn close(
     alloc: Global,
     problem: &Problem,
     priced: &PricedBound<'_>,
     base: usize,
-    start: Month,
+    cost: i64,
     means: &Means,
     work: u64,
-    watcher: &mut W,
-) -> Result<Month, AllocError>
+) -> Result<Found, AllocError>
     requires problem { priced.now.problem ≡ problem.now }
-    requires base { (priced.now.base ≡ base) × (base < most_bases) }
-    requires month { IsMonth problem.now start }
-    ensures { IfOk result (IsMonthFrom problem.now start.planned.roster) }
+    requires base { priced.now.base ≡ base }
+    ensures { IfOk result (IsExact problem.now base) }
 {
-    keys_are_in_order();
-    let whole = gap_of(priced.bound(), start.parts[base].roster.cost);
+    let mut found = Found::AtLeast(priced.bound());
+    let whole = gap_of(priced.bound(), cost);
     let mut gap = whole / FIRST_PART;
-    let mut month = start;
     for _ in 0..MOST_GAPS {
         match within(alloc, problem, priced, base, gap, means, work)? {
-            Some(Found::Best(roster)) => {
-                return month.settled(alloc, problem, base, &roster, Step::Gap, watcher);
-            }
-            Some(Found::AtLeast(bound)) => {
-                month = month.raised(alloc, problem, base, bound, Step::Gap, watcher)?;
-            }
+            Some(Found::Best(roster)) => return Ok(Found::Best(roster)),
+            Some(more) => found = more,
             None => break,
         }
         if gap == whole {
@@ -70,7 +58,7 @@ pub(crate) fn close<W: Watcher>(
         }
         gap = wider(gap, whole);
     }
-    Ok(month)
+    Ok(found)
 }
 
 /// The best roster of the base if it costs at most so many units more than the bound, or that none does; or

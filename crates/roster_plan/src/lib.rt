@@ -26,7 +26,8 @@
 //! - `together`: neighbourhoods that several threads search at once
 //! - `runs`: runs of changes, which several threads do at once
 //! - `exact`: the best roster of a base, if its bound is near enough to what it costs
-//! - `apart`: each base searched whole, or bounded by prices
+//! - `whole`: bases with few legal sets, each searched whole
+//! - `apart`: bases of which not all lines can be searched, bounded by prices
 //! - `planning`: the plan
 #![tactic(auto)]
 
@@ -51,6 +52,7 @@ mod sets;
 mod tables;
 mod together;
 mod watching;
+mod whole;
 
 pub use known::Planned;
 pub use means::Means;

@@ -5,10 +5,12 @@ ghost use Rattle.roster_lines.specs.Listing.{AreAllPairs};
 ghost use Rattle.roster_model.specs.declared.limits.TheConstants.{MOST_BASES as most_bases};
 ghost use Rattle.roster_model.specs.Settled.{IsHeld, IsNotAfter};
 ghost use Rattle.roster_pricing.specs.Homes.{IsHome, IsHomeBound};
+ghost use Rattle.roster_plan.specs.Exact.{IsExact};
 ghost use Rattle.roster_plan.specs.Months.{HasBound, IsMonth, IsMonthFrom};
 ghost use Rattle.roster_plan.specs.Parts.{AreParts, IsPart};
 ghost use Rattle.roster_plan.specs.Planned.{IsKnown, IsPlannedFrom};
 
+use crate::exact::Found;
 use crate::known::{Planned, first_plan};
 use crate::parts::{Part, joined, parts_of};
 use crate::watching::{Step, Watcher};
@@ -113,6 +115,27 @@ impl Month {
         match Part::best(alloc, problem, base, found)? {
             Some(part) => self.with(alloc, problem, base, part, step, watcher),
             None => Ok(self),
+        }
+    }
+
+    /// The month with what was found of the base.
+    pub(crate) fn with_found<W: Watcher>(
+        self,
+        alloc: Global,
+        problem: &Problem,
+        base: usize,
+        found: &Found,
+        step: Step,
+        watcher: &mut W,
+    ) -> Result<Month, AllocError>
+        requires month { IsMonth problem.now self }
+        requires base { base < most_bases }
+        requires found { IsExact problem.now base found.now }
+        ensures { IfOk result (IsMonthFrom problem.now self.planned.roster) }
+    {
+        match found {
+            Found::Best(roster) => self.settled(alloc, problem, base, roster, step, watcher),
+            Found::AtLeast(bound) => self.raised(alloc, problem, base, *bound, step, watcher),
         }
     }
 

@@ -7,7 +7,7 @@ ghost use Rattle.roster_lines.specs.Listing.{AreAllPairs};
 ghost use Rattle.roster_plan.specs.Months.{IsMonth, IsMonthFrom};
 ghost use Rattle.roster_plan.specs.Planned.{IsPlannedFrom};
 
-use crate::apart::{bounded, searched};
+use crate::apart::bounded;
 use crate::kept::kept;
 use crate::known::{Planned, costed, earlier, so_far};
 use crate::means::Means;
@@ -15,6 +15,7 @@ use crate::months::Month;
 use crate::runs::improved_by_runs;
 use crate::together::improved_nearby;
 use crate::watching::{Step, Watcher};
+use crate::whole::searched;
 use roster_cost::keys_are_in_order;
 use roster_lines::{Pairs, all_pairs};
 use roster_problem::{Problem, Roster, open_number};
@@ -82,7 +83,7 @@ fn planned_from<R: Threads + Sync, W: Watcher>(
     let pairs = all_pairs(rt, alloc, problem, means.workers)?;
     let start = Month::of(alloc, problem, &pairs, known)?;
     watcher.tell(problem, None, Step::Start, &start.planned);
-    let sought = searched(alloc, problem, &pairs, start, means, watcher)?;
+    let sought = searched(rt, alloc, problem, &pairs, start, means, watcher)?;
     if sought.planned.is_best {
         return Ok(sought.planned);
     }

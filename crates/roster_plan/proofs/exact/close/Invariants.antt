@@ -1,6 +1,6 @@
-use Rattle.roster_plan.specs.Months.{IsMonthFrom}
+use Rattle.roster_plan.specs.Exact.{IsExact}
 use Rattle.roster_plan.proofs.exact.close.Given as goal
 
--- the month goes on from the one at the start
+-- what was found so far is so
 abbrev pub invariant-loop : goal.invariant-loop
-invariant-loop g l = IsMonthFrom l.problem l.fn.start.planned.roster l.month
+invariant-loop l = IsExact l.problem l.base l.found

@@ -1,6 +1,6 @@
 use Rattle.std.proofs.Common.{◌≡◌}
 use Rattle.roster_plan.specs.Months.{IsMonthFrom}
-use Rattle.roster_plan.proofs.apart.bounded_at.Given as goal
+use Rattle.roster_plan.proofs.apart.raised_by.Given as goal
 
 -- the month goes on from the one at the start, and the bound is of the base
 abbrev pub invariant-loop : goal.invariant-loop

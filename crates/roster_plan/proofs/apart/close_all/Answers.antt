@@ -1,0 +1,7 @@
+use Rattle.std.proofs.Common.{sym, subst}
+use Rattle.roster_plan.specs.Bases.{IsGap}
+use Rattle.roster_plan.proofs.apart.close_all.Goals as goal
+
+pub for_each_mut-requires-clause-accepts : goal.for_each_mut-requires-clause-accepts
+for_each_mut-requires-clause-accepts g c κs within i one inside same =
+    (c.requires.parts, subst (IsGap c.args.problem.now) (sym same) (c.requires.gaps i one.now inside))
