@@ -6,7 +6,7 @@ use Rattle.roster_plan.specs.Exact.{IsExact}
 use Rattle.roster_plan.specs.declared.apart.Gap.{Gap}
 use Rattle.roster_plan.specs.declared.whole.Whole.{Whole}
 
--- the best roster of the base was found, or none, unless memory ran out
+-- what was found of the base, if anything was, is so, unless memory ran out
 pub record IsWhole (problem : Problem) (whole : Whole) : Type 0 where
   pub base : whole.base < MOST_BASES
   pub found : IfOk whole.found (λ found. IfSome found (IsExact problem whole.base))
@@ -18,7 +18,7 @@ AreWholes problem wholes = All (IsWhole problem) wholes
 -- the prices are of the base, and what was found of it is so, unless memory ran out
 pub record IsGap (problem : Problem) (gap : Gap) : Type 0 where
   pub base : gap.base < MOST_BASES
-  pub month : gap.priced.problem ≡ problem
+  pub same : gap.priced.problem ≡ problem
   pub of : gap.priced.base ≡ gap.base
   pub found : IfOk gap.found (IsExact problem gap.base)
 

@@ -1,10 +1,10 @@
-//! Bases of which not all lines can be searched: bounded by prices, and then those lines that cost little.
+//! Bases of which not all lines can be searched: prices bound each, and then those of its lines that cost
+//! little are searched.
 
-ghost use Rattle.std.specs.Prelude.{◌≡◌, ◌<◌, IfOk, vec_len};
+ghost use Rattle.std.specs.Prelude.{◌≡◌, ◌<◌, IfOk};
 ghost use Rattle.roster_lines.specs.Listing.{AreAllPairs};
 ghost use Rattle.roster_model.specs.declared.limits.TheConstants.{MOST_BASES as most_bases};
 ghost use Rattle.roster_plan.specs.Bases.{AreGaps, IsGap};
-ghost use Rattle.roster_plan.specs.Exact.{IsExact};
 ghost use Rattle.roster_plan.specs.Months.{IsMonth, IsMonthFrom};
 ghost use Rattle.roster_plan.specs.Parts.{AreParts};
 
@@ -81,6 +81,7 @@ pub(crate) fn bounded<R: Threads + Sync, W: Watcher>(
                 means,
                 watcher,
             )?;
+            // Until its gaps are searched it has what is said if memory runs out.
             gaps.push(Gap {
                 base,
                 priced,
@@ -114,7 +115,7 @@ fn raised_by<R: Threads + Sync, W: Watcher>(
     ensures of { priced.new.base ≡ base }
     ensures month { IfOk result (IsMonthFrom problem.now start.planned.roster) }
 {
-    // The first look is that at no prices.
+    // The first look was that of a new bound, at no prices.
     let known = start.parts[base].roster.cost;
     let first = priced.bound();
     let mut month = start.raised(alloc, problem, base, first, Step::Prices, watcher)?;

@@ -50,6 +50,7 @@ pub(crate) fn close(
     for _ in 0..MOST_GAPS {
         match within(alloc, problem, priced, base, gap, means, work)? {
             Some(Found::Best(roster)) => return Ok(Found::Best(roster)),
+            // Each gap is wider than the one before, so this bound is greater.
             Some(more) => found = more,
             None => break,
         }

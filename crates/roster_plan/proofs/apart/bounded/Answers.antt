@@ -22,7 +22,7 @@ loop-base-preserved g c =
             (All-push (IsGap problem) c.loop-base.gaps.items _ c.loop-base.invariant.gaps
             (record {
               base = omega arith;
-              month = w.raised_by.ensures.problem;
+              same = w.raised_by.ensures.problem;
               of = w.raised_by.ensures.of;
               found = tt;
             })));
