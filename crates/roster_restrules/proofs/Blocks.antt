@@ -9,7 +9,7 @@ use Rattle.roster_model.specs.declared.profile.TheConstants.{BETWEEN_RECURRENT_R
 use Rattle.roster_model.specs.records.Duty.{Duty}
 use Rattle.roster_model.specs.Rules.Recovery.{HasRestAfter, IsRecurrent}
 use Rattle.roster_problem.specs.Duties.{IsInOrder}
-use Rattle.roster_restrules.specs.Block.{IsBlock}
+use Rattle.roster_restrules.specs.Block.{EndsInTime, IsBlock}
 
 -- ---- the block of the next duty
 
@@ -35,12 +35,6 @@ longer_block days list first i block none = record {
 }
 
 -- ---- the rule
-
--- the rule for the duties up to the one at j
-abbrev pub EndsInTime : Days → List Duty → ℕ → Type 0
-EndsInTime days list j = (i : ℕ) (a b : Duty) → i ≤ j → slice_get list i ≡ Some a
-    → slice_get list j ≡ Some b → ((k : ℕ) → i ≤ k → k < j → ¬ HasRestAfter days list k)
-    → month_start days < b.release → b.release ≤ a.report + BETWEEN_RECURRENT_RESTS
 
 -- a block has no recurrent rest within it, so what follows its first duty's follows
 in_block : (days : Days) (list : List Duty) (first i j : ℕ) → IsBlock days list first j

@@ -9,10 +9,10 @@ use Rattle.roster_model.specs.records.Duty.{Duty}
 use Rattle.roster_model.specs.Rules.Recovery.{HasRestAfter, IsRecurrent, KeepsRecovery}
 use Rattle.roster_problem.specs.Duties.{picked, IsInOrder}
 use Rattle.roster_problem.proofs.PositionLists.{length-picked}
-use Rattle.roster_restrules.specs.Block.{IsBlock}
+use Rattle.roster_restrules.specs.Block.{EndsInTime, IsBlock}
 use Rattle.roster_restrules.specs.declared.times.DutyTimes.{DutyTimes}
 use Rattle.roster_restrules.specs.Times.{IsAt, Timed}
-use Rattle.roster_restrules.proofs.Blocks.{EndsInTime, ends_in_block, longer_block, recurrent_at}
+use Rattle.roster_restrules.proofs.Blocks.{ends_in_block, longer_block, recurrent_at}
 
 module _ (timed : Timed) (positions : List ℕ) (within : All (λ p. p < length timed.duties) positions) where
   there : (i : ℕ) → i < length positions

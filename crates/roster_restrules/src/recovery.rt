@@ -62,8 +62,8 @@ fn have_rest_between(days: &BaseDays, prev: &Duty, next: &Duty) -> bool
 }
 
 /// The place of the first duty of the block that the duty at `i` belongs to: the duties since the last
-/// recurrent rest. `first` is that of the duty before it.
-fn first_of_block(days: &BaseDays, list: &DutyList, first: usize, i: usize) -> usize
+/// recurrent rest. `first` is that of the duty before it, or 0 for the first duty of the list.
+pub fn first_of_block(days: &BaseDays, list: &DutyList, first: usize, i: usize) -> usize
     requires within { i < length list.now }
     requires block { IsBlock days.now list.now first (i - 1) }
     ensures { IsBlock days.now list.now result i }
@@ -75,14 +75,13 @@ fn first_of_block(days: &BaseDays, list: &DutyList, first: usize, i: usize) -> u
     }
 }
 
-/// Whether the last duty of a block so far ends soon enough after its first begins, if it ends after
+/// Whether a block of duties that begins at one instant ends soon enough at another, if it ends after
 /// the month begins.
-fn ends_in_time(month_start: Minute, first: &Duty, last: &Duty) -> bool
-    ensures { IsTrue result ↔ (month_start < last.now.release
-        → last.now.release ≤ first.now.report + BETWEEN_RECURRENT_RESTS) }
+pub(crate) fn ends_in_time(month_start: Minute, begun: Minute, ended: Minute) -> bool
+    ensures { IsTrue result
+        ↔ (month_start < ended → ended ≤ begun + BETWEEN_RECURRENT_RESTS) }
 {
-    last.release <= month_start
-        || last.release.get() <= first.report.get() + i64::from(BETWEEN_RECURRENT_RESTS)
+    ended <= month_start || ended.get() <= begun.get() + i64::from(BETWEEN_RECURRENT_RESTS)
 }
 
 /// Whether recurrent rests follow one another soon enough on the list, by the clocks of a base with
@@ -95,7 +94,8 @@ pub fn recovery_ok(days: &BaseDays, list: &DutyList) -> bool
     let mut first = 0;
     for i in 0..list.len() {
         first = first_of_block(days, list, first, i);
-        if !ends_in_time(month_start, list.duty(first), list.duty(i)) {
+        let (begun, ended) = (list.duty(first), list.duty(i));
+        if !ends_in_time(month_start, begun.report, ended.release) {
             return false;
         }
     }

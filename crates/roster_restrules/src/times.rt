@@ -7,11 +7,10 @@ ghost use Rattle.roster_problem.specs.Duties.{picked, IsInOrder};
 ghost use Rattle.roster_restrules.specs.Block.{IsBlock};
 ghost use Rattle.roster_restrules.specs.Times.{can_hold, held_by, AreTimesOf, IsAt, IsRestedBy};
 
+use crate::recovery::ends_in_time;
 use roster_instants::{BaseDays, Minute};
 use roster_model::limits::LAST_INSTANT;
-use roster_model::profile::{
-    BETWEEN_RECURRENT_RESTS, NIGHT_REST, RECURRENT_NIGHTS, RECURRENT_REST,
-};
+use roster_model::profile::{NIGHT_REST, RECURRENT_NIGHTS, RECURRENT_REST};
 use roster_problem::Duty;
 use std::alloc::{AllocError, Global};
 use std::marker::Model;
@@ -160,13 +159,4 @@ impl<'a> Times<'a> {
         }
         true
     }
-}
-
-/// Whether a block of duties that begins at one instant ends soon enough at another, if it ends after
-/// the month begins.
-fn ends_in_time(month_start: Minute, begun: Minute, ended: Minute) -> bool
-    ensures { IsTrue result
-        ↔ (month_start < ended → ended ≤ begun + BETWEEN_RECURRENT_RESTS) }
-{
-    ended <= month_start || ended.get() <= begun.get() + i64::from(BETWEEN_RECURRENT_RESTS)
 }

@@ -1,10 +1,9 @@
 -- Too long without a recurrent rest.
-use Rattle.std.specs.Prelude.{◌≡◌, ℕ, ◌+◌, ◌-◌, ◌<◌, ◌≤◌, List, Some, slice_get}
+use Rattle.std.specs.Prelude.{◌≡◌, ℕ, ◌-◌, ◌<◌, List, Some, slice_get}
 use Rattle.roster_model.specs.declared.profile.TheConstants.{BETWEEN_RECURRENT_RESTS}
 use Rattle.roster_model.specs.Calendar.{Days, month_start}
-use Rattle.roster_model.specs.Rules.Recovery.{HasRestAfter}
 use Rattle.roster_model.specs.records.Duty.{Duty}
-use Rattle.roster_restrules.specs.Block.{IsBlock}
+use Rattle.roster_restrules.specs.Block.{EndsInTime, IsBlock}
 use Rattle.roster_reasons.specs.declared.rules.recovery.LongBlock.{LongBlock}
 
 -- b ends after the month begins, and so many minutes lie from the report of a to its release, too many.
@@ -17,12 +16,6 @@ pub record IsLong (start : ℕ) (a b : Duty) (told : ℕ) : Type 0 where
 abbrev pub IsLongBetween : ℕ → Duty → Duty → ℕ → ℕ → LongBlock → Type 0
 IsLongBetween start a b first last block =
     (block.first ≡ first) × (block.last ≡ last) × IsLong start a b block.minutes
-
--- The rule for the duties of the list up to the one at place j.
-abbrev pub EndsInTime : Days → List Duty → ℕ → Type 0
-EndsInTime days list j = (i : ℕ) (a b : Duty) → i ≤ j → slice_get list i ≡ Some a
-    → slice_get list j ≡ Some b → ((k : ℕ) → i ≤ k → k < j → ¬ HasRestAfter days list k)
-    → month_start days < b.release → b.release ≤ a.report + BETWEEN_RECURRENT_RESTS
 
 -- The duties from a to b have no recurrent rest between them, and take too long; a is the list's first duty
 -- or follows a recurrent rest. The duties before b end in time.

@@ -1,15 +1,14 @@
 //! Too long without a recurrent rest.
 
-ghost use Rattle.std.specs.Prelude.{◌≡◌, ◌+◌, ◌-◌, ◌<◌, ◌≤◌, ◌↔◌, IsTrue, MatchOption, length};
-ghost use Rattle.roster_model.specs.Rules.Recovery.{IsRecurrent, KeepsRecovery};
+ghost use Rattle.std.specs.Prelude.{◌+◌, ◌<◌, ◌≤◌, MatchOption};
+ghost use Rattle.roster_model.specs.Rules.Recovery.{KeepsRecovery};
 ghost use Rattle.roster_problem.specs.Duties.{IsInOrder};
-ghost use Rattle.roster_restrules.specs.Block.{IsBlock};
 ghost use Rattle.roster_reasons.specs.Reasons.Recovery.{IsFirstLongBlock, IsLongBetween};
 
 use roster_instants::{BaseDays, Minute};
 use roster_model::profile::BETWEEN_RECURRENT_RESTS;
 use roster_problem::{Duty, DutyList};
-use roster_restrules::is_recurrent;
+use roster_restrules::first_of_block;
 
 /// Duties with no recurrent rest between them, which take too long.
 #[derive(Clone, Copy, Debug, PartialEq, Eq)]
@@ -20,27 +19,6 @@ pub struct LongBlock {
     pub last: usize,
     /// The minutes from the report of the first to the release of the last.
     pub minutes: u64,
-}
-
-/// Whether a recurrent rest lies between the two duties.
-fn have_rest_between(days: &BaseDays, prev: &Duty, next: &Duty) -> bool
-    ensures { IsTrue result ↔ IsRecurrent days.now prev.now.release next.now.report }
-{
-    is_recurrent(days, prev.release, next.report)
-}
-
-/// The place of the first duty of the block that the duty at `i` belongs to: the duties since the last
-/// recurrent rest. `first` is that of the duty before it.
-fn first_of_block(days: &BaseDays, list: &DutyList, first: usize, i: usize) -> usize
-    requires within { i < length list.now }
-    requires block { IsBlock days.now list.now first (i - 1) }
-    ensures { IsBlock days.now list.now result i }
-{
-    if i > 0 && have_rest_between(days, list.duty(i - 1), list.duty(i)) {
-        i
-    } else {
-        first
-    }
 }
 
 /// The block from the first duty to the last, which are at these places, if it ends after the month

@@ -1,8 +1,9 @@
-use Rattle.std.proofs.Common.{◌≡◌, ◌+◌, ◌-◌, subst, sym, refl, inl, inr, arith}
+use Rattle.std.proofs.Common.{◌≡◌, ◌+◌, ◌-◌, ap, subst, sym, refl, inl, inr, arith}
 use Rattle.std.proofs.lemmas.Bool.{cases_eq}
 use Rattle.std.proofs.lemmas.Option.{slice_get_within}
-use Rattle.roster_restrules.proofs.Blocks.{EndsInTime, ends_in_block}
-use Rattle.roster_restrules.specs.Block.{IsBlock}
+use Rattle.roster_model.specs.records.Duty.{Duty}
+use Rattle.roster_restrules.proofs.Blocks.{ends_in_block}
+use Rattle.roster_restrules.specs.Block.{EndsInTime, IsBlock}
 use Rattle.roster_restrules.proofs.recovery.recovery_ok.Goals as goal
 
 pub loop-i-preserved : goal.loop-i-preserved
@@ -12,8 +13,15 @@ loop-i-preserved c =
     let i = c.loop-i.i in
     let block = c.first_of_block-first.ensures in
     let next : i ≡ i + 1 - 1 = omega arith in
-    let here = ends_in_block days list c.first_of_block-first.result i _ _ c.requires block c.duty.ensures c.duty-in-loop-i.ensures
-    (λ late. c.ends_in_time.ensures.0 c.if-not-ends_in_time.false (omega (arith, c.month_start-month_start.ensures, late))) in
+    let report = ap (λ (d : Duty). d.report) c.begun.view_is in
+    let release = ap (λ (d : Duty). d.release) c.ended.view_is in
+    let in_time = c.ends_in_time.ensures.0 c.if-not-ends_in_time.false in
+    let here =
+    ends_in_block days list c.first_of_block-first.result i _ _ c.requires block
+    c.duty-begun.ensures c.duty-ended.ensures
+    (λ late.
+    let soon = in_time (omega (arith, c.month_start-month_start.ensures, release, late)) in
+    omega (arith, soon, report, release)) in
     record {
       block = subst (IsBlock days list c.first_of_block-first.result) next block;
       kept = λ j below.

@@ -1,6 +1,5 @@
 use Rattle.std.proofs.Common.{ℕ, ◌-◌, ◌<◌}
-use Rattle.roster_restrules.proofs.Blocks.{EndsInTime}
-use Rattle.roster_restrules.specs.Block.{IsBlock}
+use Rattle.roster_restrules.specs.Block.{EndsInTime, IsBlock}
 use Rattle.roster_restrules.proofs.recovery.recovery_ok.Given as goal
 
 -- the block of the last duty so far, and the rule for the duties so far

@@ -3,8 +3,8 @@ use Rattle.std.specs.Prelude.{slice_get}
 use Rattle.std.proofs.lemmas.Bool.{cases_eq}
 use Rattle.std.proofs.lemmas.Option.{slice_get_within}
 use Rattle.roster_restrules.proofs.Blocks.{ends_in_block}
-use Rattle.roster_restrules.specs.Block.{IsBlock}
-use Rattle.roster_reasons.specs.Reasons.Recovery.{EndsInTime, IsLong}
+use Rattle.roster_restrules.specs.Block.{EndsInTime, IsBlock}
+use Rattle.roster_reasons.specs.Reasons.Recovery.{IsLong}
 use Rattle.roster_reasons.proofs.rules.recovery.first_long_block.Goals as goal
 
 pub returns-in-Some : goal.returns-in-Some

@@ -4,9 +4,8 @@ use Rattle.std.proofs.lemmas.Option.{slice_get_within}
 use Rattle.roster_model.specs.Calendar.{month_start}
 use Rattle.roster_problem.specs.Duties.{picked}
 use Rattle.roster_problem.proofs.PositionLists.{length-picked}
-use Rattle.roster_restrules.specs.Block.{IsBlock}
+use Rattle.roster_restrules.specs.Block.{EndsInTime, IsBlock}
 use Rattle.roster_restrules.specs.Times.{Timed}
-use Rattle.roster_restrules.proofs.Blocks.{EndsInTime}
 use Rattle.roster_restrules.proofs.TimedLists.{in_time, not_in_time}
 use Rattle.roster_restrules.proofs.times.Times.keep_recovery.Goals as goal
 

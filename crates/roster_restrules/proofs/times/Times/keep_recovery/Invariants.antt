@@ -1,7 +1,6 @@
 use Rattle.std.proofs.Common.{ℕ, ◌-◌, ◌<◌}
 use Rattle.roster_problem.specs.Duties.{picked}
-use Rattle.roster_restrules.proofs.Blocks.{EndsInTime}
-use Rattle.roster_restrules.specs.Block.{IsBlock}
+use Rattle.roster_restrules.specs.Block.{EndsInTime, IsBlock}
 use Rattle.roster_restrules.proofs.times.Times.keep_recovery.Given as goal
 
 -- the block of the last duty so far, and the rule for the duties so far
