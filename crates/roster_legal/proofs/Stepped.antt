@@ -18,7 +18,7 @@ use Rattle.roster_problem.specs.Duties.{AreTimed, IsInOrder, is_of_pairing, pass
 use Rattle.roster_problem.proofs.PositionLists.{picked-passing}
 use Rattle.roster_cumulative.specs.Judged.{AreWithin, MonthFlight, Sum, judged_sums, load_of, most_load, most_of, room_of, sum_of}
 use Rattle.roster_cumulative.proofs.JudgedSums.{most-few, sum_of-one_more, sums-by_limits}
-use Rattle.roster_legal.specs.Stepping.{AreBusyDaysOf, AreDutiesOf, AreRoomsOf, IsLoadOf, IsNext, IsPlaced, IsStepped, Stepped}
+use Rattle.roster_legal.specs.Stepping.{AreBusyDaysOf, AreDutiesOf, AreRoomsOf, IsLoadOf, IsNext, IsPlaced, IsStepped, Loaded, Stepped}
 use Rattle.roster_legal.proofs.Gathered.{either, is_of, neither, positions_within}
 use Rattle.roster_legal.proofs.Pairwise.{holds_of, pairs-decide}
 use Rattle.roster_legal.proofs.Parts.{IsLegal-part}
@@ -26,6 +26,29 @@ use Rattle.roster_legal.proofs.Parts.{IsLegal-part}
 -- what is judged from Recovery on says so of person k with the set
 abbrev pub HoldLater : Problem → ℕ → List ℕ → Type 0
 HoldLater problem k set = (rule : Rule) → rank_of RecoveryRule ≤ rank_of rule → Holds problem k set rule
+
+-- ---- what contracts see of a judged set
+
+-- what its type keeps holds of what is seen,
+pub known_of : {shown judged : Stepped} {depth : ℕ} {positions rooms : List ℕ} {busy : ℕ} → shown ≡ judged
+    → IsStepped shown.loads shown.set depth positions rooms busy
+    → IsStepped judged.loads judged.set depth positions rooms busy
+known_of {depth = depth} {positions = positions} {rooms = rooms} {busy = busy} same known =
+    subst (λ (j : Stepped). IsStepped j.loads j.set depth positions rooms busy) same known
+
+-- so does what a pairing takes,
+pub load_of_view : {shown loaded : Loaded} {minutes : List ℕ} (p : ℕ) → shown ≡ loaded
+    → (is_among shown.among p ≡ true → IsLoadOf shown.problem shown.person p minutes)
+    → is_among loaded.among p ≡ true → IsLoadOf loaded.problem loaded.person p minutes
+load_of_view {minutes = minutes} p same load =
+    subst (λ (l : Loaded). is_among l.among p ≡ true → IsLoadOf l.problem l.person p minutes) same load
+
+-- and so it is with the duties of a pairing
+pub members_of : {shown problem : Problem} (p : ℕ) (more : List ℕ) → shown ≡ problem
+    → ((i : ℕ) → is_among more i ≡ is_of p shown.duties i)
+    → (i : ℕ) → is_among more i ≡ is_of p problem.duties i
+members_of p more same members =
+    subst (λ (m : Problem). (i : ℕ) → is_among more i ≡ is_of p m.duties i) same members
 
 -- ---- the duties
 

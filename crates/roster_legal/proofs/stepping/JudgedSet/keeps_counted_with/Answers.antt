@@ -3,8 +3,8 @@ use Rattle.std.specs.Prelude.{IsTrue}
 use Rattle.roster_model.specs.Problem.{home_of, year_of, eleven_of}
 use Rattle.roster_model.specs.Rules.{duty_list, LimitRule, DaysOffRule}
 use Rattle.roster_cumulative.proofs.JudgedSums.{limits-by_sums}
-use Rattle.roster_legal.specs.Stepping.{HoldCounted, IsPlaced, IsStepped, Stepped}
-use Rattle.roster_legal.proofs.Stepped.{before}
+use Rattle.roster_legal.specs.Stepping.{HoldCounted, IsPlaced, Stepped}
+use Rattle.roster_legal.proofs.Stepped.{before, known_of}
 use Rattle.roster_legal.proofs.stepping.JudgedSet.keeps_counted_with.Goals as goal
 
 -- each rule by what judges it
@@ -13,7 +13,7 @@ counted c holds many (LimitRule limit) behind =
     let judged = c.args.self.now in
     let same = ap (λ (j : Stepped). j.loads) c.self.view_is in
     let placed = subst IsPlaced same c.problem.ensures.placed in
-    let known = subst (λ (j : Stepped). IsStepped j.loads j.set c.self.inside.depth c.self.inside.positions.items c.self.inside.rooms.items c.self.inside.busy) c.self.view_is c.self.invariant in
+    let known = known_of c.self.view_is c.self.invariant in
     let few = before judged c.args.p placed.ordered placed.timed known.legal c.requires.next in
     limits-by_sums (home_of judged.loads.problem judged.loads.person).days
     (duty_list judged.loads.problem judged.loads.person (judged.set ++ c.args.p ∷ []))

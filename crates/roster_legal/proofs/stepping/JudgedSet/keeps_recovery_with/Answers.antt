@@ -5,9 +5,9 @@ use Rattle.roster_model.specs.Problem.{home_of}
 use Rattle.roster_model.specs.Rules.{RecoveryRule}
 use Rattle.roster_model.specs.Rules.Recovery.{KeepsRecovery}
 use Rattle.roster_problem.specs.Duties.{IsInOrder, picked}
-use Rattle.roster_legal.specs.Stepping.{IsPlaced, IsStepped, Loaded, Stepped}
+use Rattle.roster_legal.specs.Stepping.{IsPlaced, Loaded, Stepped}
 use Rattle.roster_legal.proofs.Parts.{list_ordered}
-use Rattle.roster_legal.proofs.Stepped.{duties-picked, duties-within, next-holds}
+use Rattle.roster_legal.proofs.Stepped.{duties-picked, duties-within, known_of, next-holds}
 use Rattle.roster_legal.proofs.stepping.JudgedSet.keeps_recovery_with.Goals as goal
 
 pub keep_recovery-requires-clause-within : goal.keep_recovery-requires-clause-within
@@ -42,7 +42,7 @@ returns-else-self-lt2-clause-no c = λ fails legal.
     let judged = c.args.self.now in
     let same = ap (λ (j : Stepped). j.loads) c.self.view_is in
     let placed = subst IsPlaced same c.problem.ensures.placed in
-    let known = subst (λ (j : Stepped). IsStepped j.loads j.set c.self.inside.depth c.self.inside.positions.items c.self.inside.rooms.items c.self.inside.busy) c.self.view_is c.self.invariant in
+    let known = known_of c.self.view_is c.self.invariant in
     let list =
     duties-picked judged.loads.problem judged.loads.person
     (judged.set ++ c.args.p ∷ []) c.args.positions.now c.requires.positions in

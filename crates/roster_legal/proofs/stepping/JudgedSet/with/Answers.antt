@@ -1,12 +1,11 @@
 use Rattle.std.proofs.Common.{◌≡◌, ℕ, ◌+◌, ◌-◌, ◌<◌, ◌≤◌, true, false, [], ◌∷◌, ◌++◌, List, length, ap, subst, sym, ◌∙◌, arith, bit_or}
 use Rattle.std.specs.Prelude.{All, slice_index}
-use Rattle.roster_model.specs.Problem.{Problem}
 use Rattle.roster_model.specs.Rules.{is_among, RecoveryRule}
 use Rattle.roster_model.proofs.SetLemmas.{length_within}
-use Rattle.roster_legal.specs.Stepping.{AreDutiesOf, IsLoadOf, IsPlaced, IsStepped, Loaded, Stepped}
+use Rattle.roster_legal.specs.Stepping.{AreDutiesOf, IsPlaced, IsStepped, Loaded, Stepped}
 use Rattle.roster_legal.proofs.BusyDays.{busy-stepped}
-use Rattle.roster_legal.proofs.Gathered.{is_of}
-use Rattle.roster_legal.proofs.Stepped.{HoldLater, duties_apart, duties_with, new_behind, stepped-next}
+use Rattle.roster_legal.proofs.Stepped.{HoldLater, duties_apart, duties_with, known_of, load_of_view}
+use Rattle.roster_legal.proofs.Stepped.{members_of, new_behind, stepped-next}
 use Rattle.roster_legal.proofs.stepping.JudgedSet.with.Goals as goal
 
 pub joined-requires-clause-apart : goal.joined-requires-clause-apart
@@ -16,10 +15,9 @@ joined-requires-clause-apart c =
     let p = c.args.p in
     let more = c.duties_of-more.result.now in
     let same = ap (λ (j : Stepped). j.loads) c.self.view_is in
-    let known = subst (λ (j : Stepped). IsStepped j.loads j.set c.self.inside.depth c.self.inside.positions.items c.self.inside.rooms.items c.self.inside.busy) c.self.view_is c.self.invariant in
-    let is_problem : c.problem.result.now ≡ problem =
-    c.problem.ensures.value ∙ ap (λ (l : Loaded). l.problem) same in
-    let members : (i : ℕ) → is_among more i ≡ is_of p problem.duties i = λ i. c.duties_of-more.ensures.positions.members i ∙ ap (λ (m : Problem). is_of p m.duties i) is_problem in
+    let known = known_of c.self.view_is c.self.invariant in
+    let is_problem = c.problem.ensures.value ∙ ap (λ (l : Loaded). l.problem) same in
+    let members = members_of p more is_problem c.duties_of-more.ensures.positions.members in
     let apart =
     duties_apart problem judged.loads.person p judged.set c.self.inside.positions.items more known.duties
     (new_behind p judged.set c.requires.behind) members in
@@ -29,7 +27,7 @@ pub keeps_counted_with-requires-clause-busy : goal.keeps_counted_with-requires-c
 keeps_counted_with-requires-clause-busy c =
     let judged = c.args.self.now in
     let same = ap (λ (j : Stepped). j.loads) c.self.view_is in
-    let known = subst (λ (j : Stepped). IsStepped j.loads j.set c.self.inside.depth c.self.inside.positions.items c.self.inside.rooms.items c.self.inside.busy) c.self.view_is c.self.invariant in
+    let known = known_of c.self.view_is c.self.invariant in
     busy-stepped c.self.inside.loads.now judged c.args.p c.self.inside.depth c.self.inside.busy c.busy.result c.self.inside.positions.items c.self.inside.rooms.items same known c.busy.ensures c.requires.alone
 
 pub keeps_recovery_with-requires-clause-positions : goal.keeps_recovery_with-requires-clause-positions
@@ -39,10 +37,9 @@ keeps_recovery_with-requires-clause-positions c =
     let p = c.args.p in
     let more = c.duties_of-more.result.now in
     let same = ap (λ (j : Stepped). j.loads) c.self.view_is in
-    let known = subst (λ (j : Stepped). IsStepped j.loads j.set c.self.inside.depth c.self.inside.positions.items c.self.inside.rooms.items c.self.inside.busy) c.self.view_is c.self.invariant in
-    let is_problem : c.problem.result.now ≡ problem =
-    c.problem.ensures.value ∙ ap (λ (l : Loaded). l.problem) same in
-    let members : (i : ℕ) → is_among more i ≡ is_of p problem.duties i = λ i. c.duties_of-more.ensures.positions.members i ∙ ap (λ (m : Problem). is_of p m.duties i) is_problem in
+    let known = known_of c.self.view_is c.self.invariant in
+    let is_problem = c.problem.ensures.value ∙ ap (λ (l : Loaded). l.problem) same in
+    let members = members_of p more is_problem c.duties_of-more.ensures.positions.members in
     let old =
     subst (AreDutiesOf problem judged.loads.person judged.set) (sym c.deref.ensures.value) known.duties in
     let all = duties_with problem judged.loads.person p judged.set c.deref.result.now more c.in_ok-positions.positions.items old members c.in_ok-positions.ensures.rising c.in_ok-positions.ensures.members in
@@ -52,7 +49,7 @@ pub overflow_add-result : goal.overflow_add-result
 overflow_add-result c =
     let judged = c.args.self.now in
     let same = ap (λ (j : Stepped). j.loads) c.self.view_is in
-    let known = subst (λ (j : Stepped). IsStepped j.loads j.set c.self.inside.depth c.self.inside.positions.items c.self.inside.rooms.items c.self.inside.busy) c.self.view_is c.self.invariant in
+    let known = known_of c.self.view_is c.self.invariant in
     let placed = subst IsPlaced same c.problem.ensures.placed in
     let few = length_within judged.set c.args.p known.ascending c.requires.behind in
     let most = placed.few in
@@ -74,17 +71,14 @@ longer c =
     let p = c.args.p in
     let more = c.duties_of-more.result.now in
     let same = ap (λ (j : Stepped). j.loads) c.self.view_is in
-    let known = subst (λ (j : Stepped). IsStepped j.loads j.set c.self.inside.depth c.self.inside.positions.items c.self.inside.rooms.items c.self.inside.busy) c.self.view_is c.self.invariant in
+    let known = known_of c.self.view_is c.self.invariant in
     let placed = subst IsPlaced same c.problem.ensures.placed in
-    let is_problem : c.problem.result.now ≡ problem =
-    c.problem.ensures.value ∙ ap (λ (l : Loaded). l.problem) same in
-    let members : (i : ℕ) → is_among more i ≡ is_of p problem.duties i = λ i. c.duties_of-more.ensures.positions.members i ∙ ap (λ (m : Problem). is_of p m.duties i) is_problem in
+    let is_problem = c.problem.ensures.value ∙ ap (λ (l : Loaded). l.problem) same in
+    let members = members_of p more is_problem c.duties_of-more.ensures.positions.members in
     let old =
     subst (AreDutiesOf problem judged.loads.person judged.set) (sym c.deref.ensures.value) known.duties in
     let all = duties_with problem judged.loads.person p judged.set c.deref.result.now more c.in_ok-positions.positions.items old members c.in_ok-positions.ensures.rising c.in_ok-positions.ensures.members in
-    let load =
-    subst (λ (l : Loaded). IsLoadOf l.problem l.person p c.load.result.now) same
-    (c.load.ensures (ap (λ (l : Loaded). is_among l.among p) same ∙ c.requires.alone)) in
+    let load = load_of_view p same c.load.ensures c.requires.alone in
     let rooms = c.deref-3.ensures.value in
     stepped-next judged p c.self.inside.depth c.self.inside.busy (bit_or c.self.inside.busy c.busy.result) c.self.inside.positions.items c.self.inside.rooms.items c.in_ok-positions.positions.items c.in_ok-rooms.rooms.items c.load.result.now placed known c.requires all load
     (c.in_ok-rooms.ensures.long ∙ ap length rooms)
