@@ -1,9 +1,9 @@
 //! Bases of which not all lines can be searched: prices bound each, and then those of its lines that cost
 //! little are searched.
 
-ghost use Rattle.std.specs.Prelude.{◌≡◌, ◌<◌, IfOk};
+ghost use Rattle.std.specs.Prelude.{◌<◌, IfOk};
+ghost use Rattle.std.specs.Thread.{IsSync};
 ghost use Rattle.roster_lines.specs.Listing.{AreAllPairs};
-ghost use Rattle.roster_model.specs.declared.limits.TheConstants.{MOST_BASES as most_bases};
 ghost use Rattle.roster_plan.specs.Bases.{AreGaps, IsGap};
 ghost use Rattle.roster_plan.specs.Months.{IsMonth, IsMonthFrom};
 ghost use Rattle.roster_plan.specs.Parts.{AreParts};
@@ -34,16 +34,21 @@ const USUAL_FOLLOWERS: u64 = 16;
 /// How often prices of a base are looked at, at most, at effort 0.
 const FEWEST_LOOKS: u32 = 4;
 
-/// A base, what prices say of it, and what searches of its gaps come to.
+/// A base, how many persons it has, what its known roster costs, what prices say of it, and what searches of
+/// its gaps come to.
 #[derive(Drop)]
 pub(crate) struct Gap<'a> {
     pub(crate) base: usize,
+    crew: usize,
+    cost: i64,
     pub(crate) priced: PricedBound<'a>,
+    // Whether there was memory for the last look at prices.
+    pub(crate) raised: Result<(), AllocError>,
     pub(crate) found: Result<Found, AllocError>,
 }
 
 /// The month with greater bounds of its bases, if prices give them, and with their best rosters, if those are
-/// found. The workers share the persons of a base while prices rise, and then the bases.
+/// found.
 pub(crate) fn bounded<R: Threads + Sync, W: Watcher>(
     rt: &R,
     alloc: Global,
@@ -64,65 +69,156 @@ pub(crate) fn bounded<R: Threads + Sync, W: Watcher>(
         return Ok(start);
     }
     let pricing = Pricing::new(alloc, problem, pairs)?;
-    let work = means.work() / bases_of(&start.parts).max(1);
-    let mut month = start;
-    let mut gaps = Vec::new(alloc);
-    for base in 0..MOST_BASES {
-        if is_open(&month.parts, base) {
-            let mut priced = PricedBound::new(rt, alloc, means.workers, &pricing, base)?;
-            month = raised_by(
-                rt,
-                alloc,
-                problem,
-                &mut priced,
-                base,
-                month,
-                looks,
-                means,
-                watcher,
-            )?;
-            // Until its gaps are searched it has what is said if memory runs out.
-            gaps.push(Gap {
-                base,
-                priced,
-                found: Err(AllocError),
-            })?;
-        }
-    }
-    close_all(rt, alloc, problem, &month.parts, means, work, &mut gaps);
+    let mut gaps = gaps_of(rt, alloc, problem, &pricing, &start.parts, means.workers)?;
+    let month = explored(rt, alloc, problem, start, looks, means, &mut gaps, watcher)?;
     let month = closed(alloc, problem, month, gaps, watcher)?;
     Ok(month)
 }
 
-/// The month with a greater bound of this base, if so many looks at prices give one.
-fn raised_by<R: Threads + Sync, W: Watcher>(
+/// The bases whose best roster isn't known, with what no prices say of each.
+fn gaps_of<'a, R: Threads + Sync>(
     rt: &R,
     alloc: Global,
     problem: &Problem,
-    priced: &mut PricedBound<'_>,
-    base: usize,
+    pricing: &'a Pricing<'a>,
+    parts: &[Part],
+    workers: usize,
+) -> Result<Vec<Gap<'a>>, AllocError>
+    requires parts { AreParts problem.now parts.now }
+    requires workers { 0 < workers }
+    ensures { IfOk result (λ gaps. AreGaps pricing.now gaps.items) }
+{
+    let mut gaps = Vec::new(alloc);
+    for base in 0..MOST_BASES {
+        if is_open(parts, base) {
+            let known = &parts[base].roster;
+            // Until its gaps are searched it has what is said if memory runs out.
+            gaps.push(Gap {
+                base,
+                crew: crew_of(problem, base),
+                cost: known.cost,
+                priced: PricedBound::new(rt, alloc, workers, pricing, base)?,
+                raised: Ok(()),
+                found: Err(AllocError),
+            })?;
+        }
+    }
+    Ok(gaps)
+}
+
+/// The month with greater bounds of its bases, if so many looks at prices of each give them. Then the gaps are
+/// searched.
+fn explored<R: Threads + Sync, W: Watcher>(
+    rt: &R,
+    alloc: Global,
+    problem: &Problem,
     start: Month,
     looks: u32,
     means: &Means,
+    gaps: &mut [Gap<'_>],
     watcher: &mut W,
 ) -> Result<Month, AllocError>
-    requires problem { priced.old.problem ≡ problem.now }
-    requires of { priced.old.base ≡ base }
-    requires base { base < most_bases }
     requires month { IsMonth problem.now start }
     requires workers { 0 < means.now.workers }
-    ensures problem { priced.new.problem ≡ problem.now }
-    ensures of { priced.new.base ≡ base }
+    requires gaps { AreGaps problem.now gaps.old }
     ensures month { IfOk result (IsMonthFrom problem.now start.planned.roster) }
+    ensures gaps { AreGaps problem.now gaps.new }
 {
     // The first look was that of a new bound, at no prices.
-    let known = start.parts[base].roster.cost;
-    let first = priced.bound();
-    let mut month = start.raised(alloc, problem, base, first, Step::Prices, watcher)?;
+    let mut month = with_bounds(alloc, problem, start, gaps, watcher)?;
     for _ in 1..looks {
-        priced.raise(rt, alloc, means.workers, known, 1)?;
-        let bound = priced.bound();
-        month = month.raised(alloc, problem, base, bound, Step::Prices, watcher)?;
+        look_all(rt, alloc, problem, means.workers, gaps);
+        month = with_bounds(alloc, problem, month, gaps, watcher)?;
+    }
+    close_all(rt, alloc, problem, means, gaps);
+    Ok(month)
+}
+
+/// Looks at other prices of each base.
+fn look_all<R: Threads + Sync>(
+    rt: &R,
+    alloc: Global,
+    problem: &Problem,
+    workers: usize,
+    gaps: &mut [Gap<'_>],
+)
+    requires workers { 0 < workers }
+    requires gaps { AreGaps problem.now gaps.old }
+    ensures { AreGaps problem.now gaps.new }
+{
+    let (threads, each) = shares(workers, gaps);
+    let look = |_: usize, gap: &mut Gap<'_>|
+        requires { IsSync R.row × IsGap problem.now gap.old × (0 < each) }
+        ensures { IsGap problem.entry.now gap.new }
+    {
+        look_on(rt, alloc, problem, each, gap);
+    };
+    for_each_mut(rt, gaps, threads, &look);
+}
+
+/// How many threads share the bases, and how many the persons of each: all workers the one or the other,
+/// whichever looks sooner at the persons of all bases that aren't done.
+fn shares(workers: usize, gaps: &[Gap<'_>]) -> (usize, usize)
+    requires { 0 < workers }
+    ensures { (0 < result.0) × (0 < result.1) }
+{
+    // Each thread has so many bases, one behind another.
+    let run = gaps.len().div_ceil(workers).max(1);
+    let (mut in_run, mut longest, mut in_turn) = (0usize, 0usize, 0usize);
+    for i in 0..gaps.len() {
+        if i % run == 0 {
+            in_run = 0;
+        }
+        let gap = &gaps[i];
+        if !gap.priced.is_done(gap.cost) {
+            in_run = in_run.wrapping_add(gap.crew);
+            in_turn = in_turn.wrapping_add(gap.crew.div_ceil(workers));
+        }
+        longest = longest.max(in_run);
+    }
+    if longest <= in_turn {
+        (workers, 1)
+    } else {
+        (1, workers)
+    }
+}
+
+/// Looks at other prices of a base, whose persons so many threads share.
+fn look_on<R: Threads + Sync>(
+    rt: &R,
+    alloc: Global,
+    problem: &Problem,
+    threads: usize,
+    gap: &mut Gap<'_>,
+)
+    requires threads { 0 < threads }
+    requires gap { IsGap problem.now gap.old }
+    ensures { IsGap problem.now gap.new }
+{
+    let (cost, priced) = (gap.cost, &mut gap.priced);
+    gap.raised = priced.raise(rt, alloc, threads, cost, 1);
+}
+
+/// The month with what prices say of its bases, where that is more.
+fn with_bounds<W: Watcher>(
+    alloc: Global,
+    problem: &Problem,
+    start: Month,
+    gaps: &[Gap<'_>],
+    watcher: &mut W,
+) -> Result<Month, AllocError>
+    requires month { IsMonth problem.now start }
+    requires gaps { AreGaps problem.now gaps.now }
+    ensures { IfOk result (IsMonthFrom problem.now start.planned.roster) }
+{
+    keys_are_in_order();
+    let mut month = start;
+    for gap in gaps {
+        if gap.raised.is_err() {
+            return Err(AllocError);
+        }
+        let bound = gap.priced.bound();
+        month = month.raised(alloc, problem, gap.base, bound, Step::Prices, watcher)?;
     }
     Ok(month)
 }
@@ -132,23 +228,20 @@ fn close_all<R: Threads + Sync>(
     rt: &R,
     alloc: Global,
     problem: &Problem,
-    parts: &[Part],
     means: &Means,
-    work: u64,
     gaps: &mut [Gap<'_>],
 )
-    requires parts { AreParts problem.now parts.now }
     requires workers { 0 < means.now.workers }
     requires gaps { AreGaps problem.now gaps.old }
     ensures { AreGaps problem.now gaps.new }
 {
+    let work = means.work() / (gaps.len() as u64).max(1);
     let search = |_: usize, gap: &mut Gap<'_>|
-        requires { AreParts problem.now parts.now × IsGap problem.now gap.old }
+        requires { IsGap problem.now gap.old }
         ensures { IsGap problem.entry.now gap.new }
     {
         let (base, priced) = (gap.base, &gap.priced);
-        let known = &parts[base].roster;
-        gap.found = close(alloc, problem, priced, base, known.cost, means, work);
+        gap.found = close(alloc, problem, priced, base, gap.cost, means, work);
     };
     for_each_mut(rt, gaps, means.workers, &search);
 }
@@ -168,26 +261,11 @@ fn closed<W: Watcher>(
     keys_are_in_order();
     let mut month = start;
     for gap in gaps {
-        let Gap {
-            base,
-            priced: _,
-            found,
-        } = gap;
+        let Gap { base, found, .. } = gap;
         let found = found?;
         month = month.with_found(alloc, problem, base, &found, Step::Gap, watcher)?;
     }
     Ok(month)
-}
-
-/// How many bases aren't settled.
-fn bases_of(parts: &[Part]) -> u64 {
-    let mut bases: u64 = 0;
-    for base in 0..MOST_BASES {
-        if is_open(parts, base) {
-            bases = bases.wrapping_add(1);
-        }
-    }
-    bases
 }
 
 /// How often an effort looks at the prices of each base that isn't settled: more often the greater it is, if
@@ -213,6 +291,17 @@ fn steps_of(problem: &Problem, parts: &[Part]) -> u64 {
         }
     }
     steps.wrapping_mul(USUAL_FOLLOWERS * USUAL_STATES)
+}
+
+/// How many persons the base has.
+fn crew_of(problem: &Problem, base: usize) -> usize {
+    let mut crew: usize = 0;
+    for person in problem.persons() {
+        if person.base == base {
+            crew = crew.wrapping_add(1);
+        }
+    }
+    crew
 }
 
 /// How many pairings the base has.

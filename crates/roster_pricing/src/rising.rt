@@ -123,12 +123,17 @@ impl<'a> PricedBound<'a> {
         ensures raised { self.old.bound ≤ℤ self.new.bound }
     {
         for _ in 0..looks {
-            if self.bound >= known || (self.sets && self.idle >= MOST_IDLE) {
+            if self.is_done(known) {
                 break;
             }
             self.look_on(rt, alloc, threads)?;
         }
         Ok(())
+    }
+
+    /// Whether `raise` looks no more: the bound is what a known roster costs, or looks say no more.
+    pub fn is_done(&self, known: i64) -> bool {
+        self.bound >= known || (self.sets && self.idle >= MOST_IDLE)
     }
 
     /// For the rosters in which only persons of the base fly: the lines that each of them may have in a legal one

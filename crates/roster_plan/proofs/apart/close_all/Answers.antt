@@ -4,4 +4,4 @@ use Rattle.roster_plan.proofs.apart.close_all.Goals as goal
 
 pub for_each_mut-requires-clause-accepts : goal.for_each_mut-requires-clause-accepts
 for_each_mut-requires-clause-accepts g c κs within i one inside same =
-    (c.requires.parts, subst (IsGap c.args.problem.now) (sym same) (c.requires.gaps i one.now inside))
+    subst (IsGap c.args.problem.now) (sym same) (c.requires.gaps i one.now inside)
