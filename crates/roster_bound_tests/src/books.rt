@@ -8,8 +8,8 @@ pub(crate) const ONE_OF_TWO: &[u8] =
 pub(crate) const ALL_ALIKE: &[u8] =
     b"period,2024-03\nbase,BAS,UTC0\ncrew,A,BAS,0,0,0\ncrew,B,BAS,0,0,0\npairing,P1,BAS,5\nduty,Q1,P,P1,BAS,2024-03-04T06:00Z,2024-03-04T14:00Z\ncost,A,P1,5\ncost,B,P1,5\n";
 
-/// Five persons, and on each of three days five pairings at one time. Flight can hardly be shared out equally,
-/// and each minute off its target costs 1. Each person has 216 legal sets.
+/// Five persons, and on each of three days five pairings at one time. Flight can hardly be shared out
+/// equally, and each minute off its target costs 1. Each person has 216 legal sets.
 pub(crate) const EQUAL_SHARES: &[u8] = b"period,2024-03
 weight,1
 base,BAS,UTC0

@@ -75,7 +75,8 @@ impl<'a> Tables<'a> {
         }
     }
 
-    /// The tables for who knows a roster that is after no legal one: each price is 0, and no line is looked at.
+    /// The tables for who knows a roster that is after no legal one: each price is 0, and no line is looked
+    /// at.
     pub fn of_best(
         alloc: Global,
         problem: &'a Problem,

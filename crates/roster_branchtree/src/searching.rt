@@ -125,8 +125,8 @@ fn is_settled(
     }
 }
 
-/// A roster of the span that comes before the given one and isn't after any of the span; or none, and then the
-/// given one isn't after any of it.
+/// A roster of the span that comes before the given one and isn't after any of the span; or none, and then
+/// the given one isn't after any of it.
 fn least_in<N: Nodes>(
     alloc: Global,
     problem: &Problem,

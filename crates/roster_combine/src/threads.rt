@@ -64,8 +64,8 @@ pub(crate) fn solve_over<R: Threads + Wait + Sync, G: Gate + Sync>(
     )
 }
 
-/// The best roster, for which so many threads search the bases, and the tables for the searches of spans, which
-/// know it.
+/// The best roster, for which so many threads search the bases, and the tables for the searches of spans,
+/// which know it.
 fn begun<'a, R: Threads + Sync>(
     rt: &R,
     alloc: Global,

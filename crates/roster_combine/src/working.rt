@@ -139,8 +139,8 @@ impl<'a, R: Wait, L: Ledger, G: Gate> Worker<'a, R, L, G> {
         }
     }
 
-    /// What the worker keeps of the piece, once something is pending for others or it can't be split. It keeps
-    /// all of it if nothing comes before its roster: then the search ends as soon as it begins.
+    /// What the worker keeps of the piece, once something is pending for others or it can't be split. It
+    /// keeps all of it if nothing comes before its roster: then the search ends as soon as it begins.
     fn shared(&self, piece: Piece, known: &Roster) -> Result<Option<Piece>, AllocError> {
         if self.tables.none_before(known) {
             return Ok(Some(piece));

@@ -14,7 +14,8 @@ pub trait Wanted {
     /// Whether the person at this place is to have the line.
     ghost wants: { Self → Problem → ℕ → List ℕ → Type 0 };
 
-    /// Of the pairings that are legal alone, those that a line which is wanted may hold: no other is looked at.
+    /// Of the pairings that are legal alone, those that a line which is wanted may hold: no other is looked
+    /// at.
     fn among(&self, alone: &Set) -> Set
         ensures within { (p : ℕ) → is_among result p ≡ true → is_among alone.now p ≡ true }
         ensures held { (problem : Problem) (k : ℕ) (set : List ℕ) (p : ℕ)

@@ -106,8 +106,8 @@ fn gaps_of<'a, R: Threads + Sync>(
     Ok(gaps)
 }
 
-/// The month with greater bounds of its bases, if so many looks at prices of each give them. Then the gaps are
-/// searched.
+/// The month with greater bounds of its bases, if so many looks at prices of each give them. Then the gaps
+/// are searched.
 fn explored<R: Threads + Sync, W: Watcher>(
     rt: &R,
     alloc: Global,

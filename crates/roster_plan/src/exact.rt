@@ -29,8 +29,8 @@ pub(crate) enum Found {
     AtLeast(i64),
 }
 
-/// The best roster of the base, if that is found, or else the greatest bound that is found on the way. A known
-/// roster of it has this cost. Each search of a gap may take so much work.
+/// The best roster of the base, if that is found, or else the greatest bound that is found on the way. A
+/// known roster of it has this cost. Each search of a gap may take so much work.
 pub(crate) fn close(
     alloc: Global,
     problem: &Problem,

@@ -79,7 +79,8 @@ impl Columns {
         value
     }
 
-    /// Adds the columns of another list that cost more than so much at the prices, as many as there is room for.
+    /// Adds the columns of another list that cost more than so much at the prices, as many as there is room
+    /// for.
     pub(crate) fn keep_above(
         &mut self,
         others: &Columns,
@@ -107,8 +108,8 @@ impl Columns {
         Ok(())
     }
 
-    /// Adds to the covers of pairings the shares of the columns, which are larger the nearer a column is to the
-    /// least. What that costs.
+    /// Adds to the covers of pairings the shares of the columns, which are larger the nearer a column is to
+    /// the least. What that costs.
     pub(crate) fn cover(
         &self,
         values: &mut Vec<i64>,

@@ -28,7 +28,8 @@ use std::alloc::{AllocError, Global};
 use std::marker::Model;
 
 /// For the rosters in which only persons of the base fly: the lines that each of them may have in a legal one
-/// that costs at most so many units more than the bound that the prices say. Other persons have the empty line.
+/// that costs at most so many units more than the bound that the prices say. Other persons have the empty
+/// line.
 pub(crate) fn lines_of_gap(
     alloc: Global,
     pricing: &Pricing<'_>,

@@ -1,10 +1,10 @@
 //! What no roster of a base costs less than, however many legal sets there are.
 //!
 //! In a roster of a base only its persons fly, so the pairings of other bases are open. At any prices of
-//! pairings it costs the reduced costs of its lines, and the price or the penalty of each pairing. Each line of
-//! a person is a chain of pairings of which each is legal with the one before, so the cheapest chain costs no
-//! more than any line; and a table over pairings and the flight so far has it, whatever the number of lines.
-//! In reading order:
+//! pairings it costs the reduced costs of its lines, and the price or the penalty of each pairing. Each line
+//! of a person is a chain of pairings of which each is legal with the one before, so the cheapest chain costs
+//! no more than any line; and a table over pairings and the flight so far has it, whatever the number of
+//! lines. In reading order:
 //!
 //! - `parts`: amounts in parts of a cost unit
 //! - `network`: which pairings may follow one another

@@ -42,8 +42,8 @@ struct Portion {
 
 /// Prices near the given ones, by no more than the stride, at which the columns of all persons cost the most,
 /// each covered pairing counting with its price, or its penalty if that is less: soft covers with momentum.
-/// Those of other pairings stay. So many threads at most share the persons; what covers and costs add up to is
-/// the same for any number of them.
+/// Those of other pairings stay. So many threads at most share the persons; what covers and costs add up to
+/// is the same for any number of them.
 pub(crate) fn ascend<R: Threads + Sync>(
     rt: &R,
     alloc: Global,

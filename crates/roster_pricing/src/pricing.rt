@@ -47,7 +47,8 @@ pub(crate) struct Leasts {
     each: Vec<i64>,
 }
 
-/// The pairs and the network of each person, made once for the bounds of all bases. Contracts see the problem.
+/// The pairs and the network of each person, made once for the bounds of all bases. Contracts see the
+/// problem.
 #[derive(Debug, Drop)]
 pub struct Pricing<'a> {
     problem: &'a Problem,

@@ -24,9 +24,9 @@ use std::alloc::{AllocError, Global};
 use std::marker::Model;
 use std::thread::Threads;
 
-/// For the rosters in which only persons of one base fly: what no legal one costs less than, and the prices that
-/// say so, the best so far. Each roster falls apart into such ones, since nobody flies a pairing of another base.
-/// Contracts see the problem, the base and that number.
+/// For the rosters in which only persons of one base fly: what no legal one costs less than, and the prices
+/// that say so, the best so far. Each roster falls apart into such ones, since nobody flies a pairing of
+/// another base. Contracts see the problem, the base and that number.
 #[derive(Drop)]
 pub struct PricedBound<'a> {
     pricing: &'a Pricing<'a>,
@@ -136,9 +136,9 @@ impl<'a> PricedBound<'a> {
         self.bound >= known || (self.sets && self.idle >= MOST_IDLE)
     }
 
-    /// For the rosters in which only persons of the base fly: the lines that each of them may have in a legal one
-    /// that costs at most so many units more than the bound, if nobody has more than `most`. Other persons have
-    /// the empty line.
+    /// For the rosters in which only persons of the base fly: the lines that each of them may have in a legal
+    /// one that costs at most so many units more than the bound, if nobody has more than `most`. Other
+    /// persons have the empty line.
     pub fn lines_within(&self, alloc: Global, gap: u32, most: usize) -> Result<Table, TableFault>
         requires { (0 < most) × (most ≤ MOST_LINES) }
         ensures listed { IfOk result (AreListed self.now.problem) }

@@ -156,8 +156,8 @@ pub(crate) fn led(after: &[i64], value: i64, f: usize) -> i64
 
 /// The row of each pairing, that of the last one first: the least that chains bring which may follow it.
 ///
-/// From some place on all pairings may follow a pairing that any chain may begin with. What these bring at least
-/// is one row, the tail from that place, for all pairings before it.
+/// From some place on all pairings may follow a pairing that any chain may begin with. What these bring at
+/// least is one row, the tail from that place, for all pairings before it.
 pub(crate) fn rows_of(
     alloc: Global,
     problem: &Problem,
@@ -260,8 +260,8 @@ fn longer_tail(
     Ok(longer)
 }
 
-/// The row of chains whose first pairing is one of the set. Those before a place have rows; the tail is that from
-/// there on.
+/// The row of chains whose first pairing is one of the set. Those before a place have rows; the tail is that
+/// from there on.
 pub(crate) fn row_behind(
     alloc: Global,
     problem: &Problem,

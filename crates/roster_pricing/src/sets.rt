@@ -1,8 +1,8 @@
 //! Legal sets that cost little, listed.
 //!
 //! Of a chain it is only known that its neighbours are legal together, and the cheapest one may cost far less
-//! than any line does. So the lines are listed whose reduced cost is at most a limit: no line has less than the
-//! least of them, and if none is listed, than the limit.
+//! than any line does. So the lines are listed whose reduced cost is at most a limit: no line has less than
+//! the least of them, and if none is listed, than the limit.
 
 ghost use Rattle.std.specs.Prelude.{◌≡◌, ◌<◌, ◌*◌, ◌-ℤ◌, ◌*ℤ◌, ◌≤ℤ◌, ◌⊎◌, [], pos, All, IfOk, IfSome};
 ghost use Rattle.std.specs.Prelude.{MatchOption, Some, length, slice_get};
@@ -158,8 +158,8 @@ fn next_reach(first: i64, reach: i64, many: usize) -> Option<i64> {
     Some(reach.wrapping_mul(2))
 }
 
-/// Lists the lines that may cost so much more than `chain`, which become the columns. What no line has less than;
-/// nothing if the lines are too many.
+/// Lists the lines that may cost so much more than `chain`, which become the columns. What no line has less
+/// than; nothing if the lines are too many.
 fn list(
     alloc: Global,
     problem: &Problem,

@@ -1,10 +1,10 @@
 //! The least roster of a box of lines.
 //!
 //! `least_of_box` answers the least legal roster of a box if it is before a known one, and `search_bases`
-//! that of all lines, by several threads; `least_within` is given up after so much work.
-//! `merged` puts rosters of bases together. All searches ask one thing again and again: whether a region has a roster
-//! that costs at most so much (`Finder`). Least cost and ties are loops round that, so nothing that prunes
-//! knows of ties. Bases share neither persons nor pairings, so each is searched apart. In reading order:
+//! that of all lines, by several threads; `least_within` is given up after so much work. `merged` puts
+//! rosters of bases together. All searches ask one thing again and again: whether a region has a roster that
+//! costs at most so much (`Finder`). Least cost and ties are loops round that, so nothing that prunes knows
+//! of ties. Bases share neither persons nor pairings, so each is searched apart. In reading order:
 //!
 //! - `boxes`: the least roster of a box, merged from those of its bases
 //! - `shared`: bases that several threads search

@@ -20,8 +20,8 @@ pub(crate) struct RootPrices {
     pub(crate) rounded: Option<Vec<u16>>,
 }
 
-/// Raises prices from the given ones on, for rosters that cost less than the limit. One that is rounded on the
-/// way lowers it; what costs more is left out of a copy of the region.
+/// Raises prices from the given ones on, for rosters that cost less than the limit. One that is rounded on
+/// the way lowers it; what costs more is left out of a copy of the region.
 pub(crate) fn root_prices(
     alloc: Global,
     problem: &Problem,
