@@ -35,38 +35,60 @@ fn person<'a>(alloc: Global) -> Arg<'a> {
         .help("Only this person")
 }
 
-/// `plan`, with its book, what it may take, its start, and what is told and kept on the way.
-fn plan<'a>(alloc: Global) -> Result<Command<'a>, AllocError> {
-    let effort = Arg::new(alloc, "effort")
+/// How much is tried.
+fn effort<'a>(alloc: Global) -> Arg<'a> {
+    Arg::new(alloc, "effort")
         .long("effort")
         .value_name("N")
         .value_parser(builder::ValueParser::unsigned(0, 9))
         .default_value("5")
-        .help("How much is tried, from 0 to 9: each one more takes about twice as long");
-    let workers = Arg::new(alloc, "workers")
+        .help("How much is tried, from 0 to 9: each one more takes about twice as long")
+}
+
+/// How many threads may share the work.
+fn workers<'a>(alloc: Global) -> Arg<'a> {
+    Arg::new(alloc, "workers")
         .long("workers")
         .value_name("N")
         .value_parser(builder::ValueParser::unsigned(1, MOST_WORKERS.into()))
         .default_value("1")
-        .help("How many threads may share the work: the plan is the same for any number");
-    let sets = Arg::new(alloc, "sets")
+        .help("How many threads may share the work: the plan is the same for any number")
+}
+
+/// How many legal sets a person may have in a step.
+fn sets<'a>(alloc: Global) -> Arg<'a> {
+    Arg::new(alloc, "sets")
         .long("sets")
         .value_name("N")
         .value_parser(builder::ValueParser::unsigned(1, MOST_LINES as u64))
-        .help(
-            "How many legal sets a person may have in one step, and eight times as many in a gap",
-        );
-    let start = Arg::new(alloc, "start")
+        .help("How many legal sets a person may have in one step, and eight times as many in a gap")
+}
+
+/// The report that a plan begins with.
+fn start<'a>(alloc: Global) -> Arg<'a> {
+    Arg::new(alloc, "start")
         .long("start")
         .value_name("REPORT")
-        .help("A report or plan to begin with, or -; what isn't legal of it is left out");
-    let progress = Arg::new(alloc, "progress")
+        .help("A report or plan to begin with, or -; what isn't legal of it is left out")
+}
+
+/// Whether a plan tells how far it is.
+fn progress<'a>(alloc: Global) -> Arg<'a> {
+    Arg::new(alloc, "progress")
         .long("progress")
         .action(ArgAction::SetTrue)
-        .help("Standard error is told what is known so far, as a terminal always is");
-    let keep = Arg::new(alloc, "keep").long("keep").value_name("FILE").help(
+        .help("Standard error is told what is known so far, as a terminal always is")
+}
+
+/// Where the best plan so far is kept.
+fn keep<'a>(alloc: Global) -> Arg<'a> {
+    Arg::new(alloc, "keep").long("keep").value_name("FILE").help(
         "A file that has the best plan so far, also if Ctrl-C breaks the run off",
-    );
+    )
+}
+
+/// `plan`, with its book, what it may take, its start, and what is told and kept on the way.
+fn plan<'a>(alloc: Global) -> Result<Command<'a>, AllocError> {
     Command::new(alloc, "plan")
         .about("Writes a legal roster of the book, however large it is, and a bound of its cost")
         .after_help(
@@ -75,12 +97,12 @@ fn plan<'a>(alloc: Global) -> Result<Command<'a>, AllocError> {
   roster-desk plan --effort 9 --start plan.txt --keep better.txt book.csv",
         )
         .arg(book(alloc))?
-        .arg(effort)?
-        .arg(workers)?
-        .arg(sets)?
-        .arg(start)?
-        .arg(progress)?
-        .arg(keep)
+        .arg(effort(alloc))?
+        .arg(workers(alloc))?
+        .arg(sets(alloc))?
+        .arg(start(alloc))?
+        .arg(progress(alloc))?
+        .arg(keep(alloc))
 }
 
 /// `why`, with its book and report, and what it may be asked of.
@@ -196,25 +218,16 @@ fn warn<'a>(alloc: Global) -> Result<Command<'a>, AllocError> {
 
 /// The program's command line.
 pub(crate) fn desk<'a>(alloc: Global) -> Result<Command<'a>, AllocError> {
-    let plan = plan(alloc)?;
-    let why = why(alloc)?;
-    let limits = limits(alloc)?;
-    let table = table(alloc)?;
-    let chart = chart(alloc)?;
-    let diff = diff(alloc)?;
-    let assigns = assigns(alloc)?;
-    let fault = fault(alloc)?;
-    let warn = warn(alloc)?;
     Command::new(alloc, "roster-desk")
         .about("Helps a planner with the books of roster")
         .subcommand_required(true)
-        .subcommand(plan)?
-        .subcommand(why)?
-        .subcommand(limits)?
-        .subcommand(table)?
-        .subcommand(chart)?
-        .subcommand(diff)?
-        .subcommand(assigns)?
-        .subcommand(fault)?
-        .subcommand(warn)
+        .subcommand(plan(alloc)?)?
+        .subcommand(why(alloc)?)?
+        .subcommand(limits(alloc)?)?
+        .subcommand(table(alloc)?)?
+        .subcommand(chart(alloc)?)?
+        .subcommand(diff(alloc)?)?
+        .subcommand(assigns(alloc)?)?
+        .subcommand(fault(alloc)?)?
+        .subcommand(warn(alloc)?)
 }
