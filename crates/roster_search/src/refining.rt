@@ -2,8 +2,9 @@
 
 ghost use Rattle.std.specs.Prelude.{◌<◌, IfOk, IfSome, MatchOption, length};
 ghost use Rattle.roster_model.specs.Settled.{IsHeld, IsWithinCost};
+ghost use Rattle.roster_regions.specs.Bounds.{CostsAtMost};
 ghost use Rattle.roster_regions.specs.Prices.{ArePrices};
-ghost use Rattle.roster_regions.specs.Regions.{IsDecided, IsIn, IsRegion, IsSplit};
+ghost use Rattle.roster_regions.specs.Regions.{IsDecided, IsIn, IsNarrowed, IsRegion, IsSplit};
 ghost use Rattle.roster_search.specs.Refined.{IsFixed, IsRefined};
 
 use crate::root::room;
@@ -37,25 +38,44 @@ pub(crate) fn refine(
     requires { IsRegion problem.now region.old }
     ensures { IfOk result (IsRefined problem.now most region.old region.new) }
 {
-    let room = room(region, most);
     let mut ascent = Ascent::at_node(alloc, problem, region, prices)?;
-    if !fix_first(alloc, problem, region, &mut ascent, most)? {
-        return Ok(Refined::Nothing);
+    match end_or_part(alloc, problem, region, &mut ascent, most)? {
+        Some(end) => Ok(end),
+        None => Ok(Refined::Part(ascent.into_best())),
+    }
+}
+
+/// The same, but nothing if a part is left, whose prices are the best ones of the ascent.
+fn end_or_part(
+    alloc: Global,
+    problem: &Problem,
+    region: &mut Region,
+    ascent: &mut Ascent,
+    most: i64,
+) -> Result<Option<Refined>, AllocError>
+    requires { IsRegion problem.now region.old }
+    ensures { IfOk result (λ end. MatchOption end
+        (IsNarrowed problem.now (CostsAtMost problem.now most) region.old region.new)
+        (IsRefined problem.now most region.old region.new)) }
+{
+    let room = room(region, most);
+    if !fix_first(alloc, problem, region, ascent, most)? {
+        return Ok(Some(Refined::Nothing));
     }
     for step in 0..NODE_STEPS {
-        if !fix(alloc, problem, region, &mut ascent, most, room)? {
-            return Ok(Refined::Nothing);
+        if !fix(alloc, problem, region, ascent, most, room)? {
+            return Ok(Some(Refined::Nothing));
         }
-        if let Some(roster) = cheap_at(alloc, problem, region, &ascent, most, room, step)? {
-            return Ok(Refined::Found(roster));
+        if let Some(roster) = cheap_at(alloc, problem, region, ascent, most, room, step)? {
+            return Ok(Some(Refined::Found(roster)));
         }
-        soften(&mut ascent, room, step);
+        soften(ascent, room, step);
         ascent.step(problem, region)?;
     }
     if !region.tighten(alloc, problem, ascent.best(), most)? {
-        return Ok(Refined::Nothing);
+        return Ok(Some(Refined::Nothing));
     }
-    Ok(Refined::Part(ascent.into_best()))
+    Ok(None)
 }
 
 /// Leaves out of the region what costs more than it may by the prices, if that is worth its time. False

@@ -32,13 +32,7 @@ pub(crate) fn root_prices(
     requires { IsRegion problem.now region.now }
 {
     let mut rise = Rise::new(alloc, problem, region, first, limit)?;
-    for step in 0..ROOT_STEPS {
-        let room = rise.room(region);
-        let is_worth = rise.ascent.look(alloc, problem, &rise.part, room)?;
-        if !rise.goes_on(alloc, problem, region, is_worth, step)? {
-            break;
-        }
-    }
+    rise.end(alloc, problem, region)?;
     Ok(rise.prices(region))
 }
 
@@ -56,15 +50,7 @@ pub(crate) fn root_prices_by_threads<R: Threads + Sync>(
     requires threads { 0 < threads }
 {
     let mut rise = Rise::new(alloc, problem, region, first, limit)?;
-    for step in 0..ROOT_STEPS {
-        let room = rise.room(region);
-        let is_worth = rise
-            .ascent
-            .look_by_threads(rt, alloc, threads, problem, &rise.part, room)?;
-        if !rise.goes_on(alloc, problem, region, is_worth, step)? {
-            break;
-        }
-    }
+    rise.end_by_threads(rt, alloc, threads, problem, region)?;
     Ok(rise.prices(region))
 }
 
@@ -98,6 +84,46 @@ impl Rise {
             rounded: None,
             most: limit,
         })
+    }
+
+    /// Raises the prices until that is no longer worth it.
+    fn end(&mut self, alloc: Global, problem: &Problem, region: &Region) -> Result<(), AllocError>
+        requires region { IsRegion problem.now region.now }
+        requires part { IsRegion problem.now self.old.part }
+    {
+        for step in 0..ROOT_STEPS {
+            let room = self.room(region);
+            let is_worth = self.ascent.look(alloc, problem, &self.part, room)?;
+            if !self.goes_on(alloc, problem, region, is_worth, step)? {
+                return Ok(());
+            }
+        }
+        Ok(())
+    }
+
+    /// `end`, for which so many threads look at the lines.
+    fn end_by_threads<R: Threads + Sync>(
+        &mut self,
+        rt: &R,
+        alloc: Global,
+        threads: usize,
+        problem: &Problem,
+        region: &Region,
+    ) -> Result<(), AllocError>
+        requires region { IsRegion problem.now region.now }
+        requires part { IsRegion problem.now self.old.part }
+        requires threads { 0 < threads }
+    {
+        for step in 0..ROOT_STEPS {
+            let room = self.room(region);
+            let is_worth = self
+                .ascent
+                .look_by_threads(rt, alloc, threads, problem, &self.part, room)?;
+            if !self.goes_on(alloc, problem, region, is_worth, step)? {
+                return Ok(());
+            }
+        }
+        Ok(())
     }
 
     /// What may be paid.

@@ -1,8 +1,8 @@
 //! Open nodes of a search: parts of a region that are still to be searched.
 
-ghost use Rattle.std.specs.Prelude.{◌≡◌, IfOk};
+ghost use Rattle.std.specs.Prelude.{◌≡◌, ◌<◌, IfOk, length};
 ghost use Rattle.roster_model.specs.Settled.{IsFoundWithin};
-ghost use Rattle.roster_regions.specs.Regions.{IsDecided, IsIn, IsRegion};
+ghost use Rattle.roster_regions.specs.Regions.{size_of, Has, IsDecided, IsIn, IsNarrowed, IsRegion, IsSplit};
 ghost use Rattle.roster_search.specs.Open.{IsVisited};
 
 use crate::refining::{Refined, next_split, refine};
@@ -77,11 +77,29 @@ pub(crate) fn visit(
     let Some((k, p)) = next_split(alloc, problem, &region, &prices)? else {
         return Ok(Visited::Ended(only(alloc, problem, &region, most)?));
     };
+    let having = having(alloc, problem, &region, &prices, k, p)?;
+    region.deny(alloc, problem, k, p)?;
+    Ok(Visited::Parted(having, OpenNode::new(region, prices)))
+}
+
+/// The rosters of the region in which person `k` has the pairing at place `p`.
+fn having(
+    alloc: Global,
+    problem: &Problem,
+    region: &Region,
+    prices: &DualPrices,
+    k: usize,
+    p: usize,
+) -> Result<OpenNode, AllocError>
+    requires region { IsRegion problem.now region.now }
+    requires person { k < length problem.now.persons }
+    requires pairing { p < length problem.now.pairings }
+    ensures narrowed { IfOk result (IsNarrowed problem.now (Has k p) region.now) }
+    ensures fewer { IfOk result (λ node. IsSplit region.now k p → size_of node < size_of region.now) }
+{
     let mut having = region.copy(alloc)?;
     having.give(alloc, problem, k, p)?;
-    region.deny(alloc, problem, k, p)?;
-    let having = OpenNode::new(having, prices.copy(alloc)?);
-    Ok(Visited::Parted(having, OpenNode::new(region, prices)))
+    Ok(OpenNode::new(having, prices.copy(alloc)?))
 }
 
 /// The only roster of a region in which all is decided, if there is one and it costs at most so much.

@@ -76,3 +76,6 @@ loop-low-preserved g c =
             goes_on = g.met.F.Finder.follows _ _ _ inv.goes_on c.find.ensures.goes_on;
           }
     ]
+
+pub returns-in_err-roster-clause-goes_on : goal.returns-in_err-roster-clause-goes_on
+returns-in_err-roster-clause-goes_on g c = g.met.F.Finder.follows _ _ _ c.loop-low.invariant.goes_on c.find.ensures.goes_on

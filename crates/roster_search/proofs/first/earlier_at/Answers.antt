@@ -53,3 +53,17 @@ returns-clause-settled g c =
     let tried = subst (λ n. AreTried problem c.args.p n c.args.region.now c.loop-k.region key) all c.loop-k.invariant.tried in
     let left = c.in_ok-leave_number.ensures in
     settled_as_is problem c.args.p number c.args.region.now c.loop-k.region c.leave_number.new.region key c.requires.agree tried left.narrowed left.wholly has c.requires.pairing
+
+pub returns-in_err-earlier-clause-goes_on : goal.returns-in_err-earlier-clause-goes_on
+returns-in_err-earlier-clause-goes_on g c = g.met.F.Finder.follows _ _ _ c.loop-k.invariant.goes_on c.with_person.ensures.goes_on
+
+pub returns-in_err-give-in-Some-clause-goes_on : goal.returns-in_err-give-in-Some-clause-goes_on
+returns-in_err-give-in-Some-clause-goes_on g c =
+    g.met.F.Finder.follows _ _ _ c.loop-k.invariant.goes_on c.with_person.ensures.goes_on
+
+pub returns-in-Some-clause-goes_on : goal.returns-in-Some-clause-goes_on
+returns-in-Some-clause-goes_on g c = g.met.F.Finder.follows _ _ _ c.loop-k.invariant.goes_on c.with_person.ensures.goes_on
+
+pub returns-in_err-deny-in-None-clause-goes_on : goal.returns-in_err-deny-in-None-clause-goes_on
+returns-in_err-deny-in-None-clause-goes_on g c =
+    g.met.F.Finder.follows _ _ _ c.loop-k.invariant.goes_on c.with_person.ensures.goes_on

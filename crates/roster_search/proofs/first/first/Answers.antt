@@ -30,3 +30,9 @@ returns-clause-settled g c =
     let all : c.loop-p.p ≡ length c.args.problem.now.pairings =
     omega (arith, ap length c.pairings-p-end.ensures.value) in
     settled_at_end c.args.problem.now c.args.region.now c.loop-p.region c.args.roster.now c.loop-p.roster c.loop-p.p c.requires.least c.loop-p.invariant.agree c.loop-p.invariant.on all
+
+pub returns-in_err-settle-clause-goes_on : goal.returns-in_err-settle-clause-goes_on
+returns-in_err-settle-clause-goes_on g c = g.met.F.Finder.follows _ _ _ c.loop-p.invariant.goes_on c.settle.ensures.goes_on
+
+pub returns-then-is_empty-clause-goes_on : goal.returns-then-is_empty-clause-goes_on
+returns-then-is_empty-clause-goes_on g c = g.met.F.Finder.follows _ _ _ c.loop-p.invariant.goes_on c.settle.ensures.goes_on

@@ -18,3 +18,7 @@ returns-in-Some-clause-least g c =
 pub returns-in-Some-clause-goes_on : goal.returns-in-Some-clause-goes_on
 returns-in-Some-clause-goes_on g c =
     g.met.F.Finder.follows _ _ _ c.cheapest_from.ensures.goes_on c.first_of_all.ensures.goes_on
+
+pub returns-in_err-first_of_all-in-Some-clause-goes_on : goal.returns-in_err-first_of_all-in-Some-clause-goes_on
+returns-in_err-first_of_all-in-Some-clause-goes_on g c =
+    g.met.F.Finder.follows _ _ _ c.cheapest_from.ensures.goes_on c.first_of_all.ensures.goes_on

@@ -1,8 +1,8 @@
-use Rattle.std.proofs.Common.{◌<◌, w64, ℤ, to_z, of_z, sym, ◌∙◌, subst}
+use Rattle.std.proofs.Common.{◌<◌, w64, ℤ, to_z, of_z, sym, subst}
 use Rattle.std.proofs.lemmas.Int.{to_z-of_z}
 use Rattle.std.proofs.lemmas.Option.{MatchOption-at_some}
 use Rattle.roster_model.specs.Settled.{IsFoundWithin}
-use Rattle.roster_regions.specs.Regions.{size_of, Has, IsIn, IsNarrowed, IsSplit}
+use Rattle.roster_regions.specs.Regions.{size_of, IsIn}
 use Rattle.roster_search.specs.Open.{IsParted}
 use Rattle.roster_search.specs.Refined.{IsRefined}
 use Rattle.roster_search.proofs.FindLemmas.{found_in_part}
@@ -26,11 +26,9 @@ returns c =
     let refined = subst (λ region. IsRefined problem most region c.refine.new.region c.in_ok-roster.field-0) c.node.view_is c.in_ok-roster.ensures in
     let left = subst (IsRefined problem most c.args.node c.refine.new.region) c.in-Part.is refined in
     let split = MatchOption-at_some _ _ _ c.in-Some.is c.in_ok-k.ensures in
-    let given = subst (λ region. IsNarrowed problem (Has c.in-Some.k c.in-Some.p) region c.give.new.self) c.in_ok-having.ensures c.in_ok-give.ensures.narrowed in
-    let fewer : size_of c.give.new.self < size_of c.refine.new.region = subst (λ region. IsSplit region c.in-Some.k c.in-Some.p → size_of c.give.new.self < size_of region) c.in_ok-having.ensures c.in_ok-give.ensures.fewer split.0 in
+    let having = c.in_ok-having.ensures in
     let less : size_of c.deny.new.self < size_of c.refine.new.region = c.in_ok-deny.ensures.fewer split.0 in
-    let parted = parted_by problem c.in-Some.k c.in-Some.p most c.args.node c.refine.new.region c.give.new.self c.deny.new.self left given c.in_ok-deny.ensures.narrowed fewer less in
-    subst (λ most. IsParted problem c.args.node most c.new-having.result c.new.result)
+    let parted = parted_by problem c.in-Some.k c.in-Some.p most c.args.node c.refine.new.region c.in_ok-having.having c.deny.new.self left having.narrowed c.in_ok-deny.ensures.narrowed (having.fewer split.0) less in
+    subst (λ most. IsParted problem c.args.node most c.in_ok-having.having c.new.result)
     (to_z-of_z w64 c.args.most c.ranges.most)
-    (subst (λ having. IsParted problem c.args.node most having c.new.result) (sym (c.new-having.ensures ∙ c.having.view_is))
-    (subst (λ others. IsParted problem c.args.node most c.give.new.self others) (sym c.new.ensures) parted))
+    (subst (λ others. IsParted problem c.args.node most c.in_ok-having.having others) (sym c.new.ensures) parted)

@@ -18,3 +18,14 @@ returns-then-weight-before c =
     subst (λ m. IsNarrowed problem (CostsAtMost problem m) c.args.self.now c.tighten_once.new.self)
     (to_z-of_z w64 c.args.most c.ranges.most)
     (narrowed_then problem (CostsAtMost problem most) c.args.self.now c.loop.self c.tighten_once.new.self c.loop.invariant step)
+
+pub loop-preserved : goal.loop-preserved
+loop-preserved c =
+    let problem = c.args.problem.now in
+    let most = to_z w64 (of_z w64 c.args.most) in
+    let yes : c.in_ok-tighten_once.field-0 ≡ true = search rules in
+    let step =
+    match_true c.in_ok-tighten_once.field-0
+    (IsNarrowed problem (CostsAtMost problem most) c.loop.self c.tighten_once.new.self)
+    (IsAllAbove problem c.loop.self most) yes c.in_ok-tighten_once.ensures in
+    narrowed_then problem (CostsAtMost problem most) c.args.self.now c.loop.self c.tighten_once.new.self c.loop.invariant step

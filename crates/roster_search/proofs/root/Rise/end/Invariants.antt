@@ -1,6 +1,6 @@
 use Rattle.roster_regions.specs.Regions.{IsRegion}
-use Rattle.roster_search.proofs.root.root_prices.Given as goal
+use Rattle.roster_search.proofs.root.Rise.end.Given as goal
 
 -- the part is a region
 abbrev pub invariant-loop-step : goal.invariant-loop-step
-invariant-loop-step l = IsRegion l.problem l.rise.part
+invariant-loop-step l = IsRegion l.problem l.self.part
