@@ -1,4 +1,3 @@
-mod Reassigned
 mod KeptLemmas
 mod PartLemmas
 mod FloorLemmas

@@ -14,15 +14,7 @@
 //! - `bound`: what no roster of a base costs less than
 //! - `parts`: what is known of each base, and the plan that they make
 //! - `months`: what is known of a month while it is planned
-//! - `draft`: a roster that is legal at every moment
-//! - `random`: numbers that look random, the same in each run
-//! - `sets`: what a search asks of sets
-//! - `tables`: what a search looks up
-//! - `changes`: persons who are to have other sets
-//! - `search`: changes tried one after another
-//! - `moves`: which change is tried next
 //! - `nearby`: neighbourhoods of a roster, searched whole
-//! - `neighbourhoods`: which neighbourhood is searched next
 //! - `together`: neighbourhoods that several threads search at once
 //! - `runs`: runs of changes, which several threads do at once
 //! - `exact`: the best roster of a base, if its bound is near enough to what it costs
@@ -33,23 +25,15 @@
 
 mod apart;
 mod bound;
-mod changes;
-mod draft;
 mod exact;
 mod kept;
 mod known;
 mod means;
 mod months;
-mod moves;
 mod nearby;
-mod neighbourhoods;
 mod parts;
 mod planning;
-mod random;
 mod runs;
-mod search;
-mod sets;
-mod tables;
 mod together;
 mod watching;
 mod whole;

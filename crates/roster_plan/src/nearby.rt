@@ -4,21 +4,21 @@
 //! and the least of its rosters is found. The best roster of a base with few legal sets is found so too: in
 //! that neighbourhood nobody keeps anything, persons of the base may have all, and nobody else has anything.
 
-ghost use Rattle.std.specs.Prelude.{◌≡◌, ◌<◌, ◌≤◌, false, true, IfOk, IfSome, length};
+ghost use Rattle.std.specs.Prelude.{◌≡◌, ◌<◌, ◌≤◌, ℕ, false, true, IfOk, IfSome, length};
 ghost use Rattle.roster_linetable.specs.Person.{AreListed};
 ghost use Rattle.roster_lines.specs.Listing.{AreAllPairs};
 ghost use Rattle.roster_model.specs.Rosters.{key_le};
+ghost use Rattle.roster_model.specs.Rules.{is_among};
 ghost use Rattle.roster_model.specs.Settled.{IsHeld, IsNotAfter};
 ghost use Rattle.roster_pricing.specs.Homes.{EachHomeRoster, IsHome};
 ghost use Rattle.roster_plan.specs.Near.{HasAllNear, IsNear};
 
 use crate::known::earlier;
-use crate::sets::all_of;
-use crate::tables::penalties;
 use roster_cost::{comes_before, keys_are_in_order};
 use roster_lines::{Between, Pairs, TableFault, wanted_table};
 use roster_linetable::Table;
-use roster_model::limits::MOST_LINES;
+use roster_model::limits::{MOST_LINES, MOST_PAIRINGS};
+use roster_moves::penalties;
 use roster_problem::{Problem, Roster, Set};
 use roster_search::{Searched, least_within};
 use std::alloc::{AllocError, Global};
@@ -156,4 +156,16 @@ fn free_at(alloc: Global, problem: &Problem, base: usize) -> Result<Vec<Between>
         })?;
     }
     Ok(wanted)
+}
+
+/// The set of the first `count` pairings.
+fn all_of(count: usize) -> Set
+    requires { count ≤ MOST_PAIRINGS }
+    ensures { (p : ℕ) → p < count → is_among result p ≡ true }
+{
+    let mut all = Set::empty();
+    for p in 0..count {
+        all.put(p);
+    }
+    all
 }

@@ -64,6 +64,15 @@ pub(crate) fn is_open(parts: &[Part], base: usize) -> bool
     }
 }
 
+/// Of each base, by its number, whether its best roster isn't known.
+pub(crate) fn open_bases(alloc: Global, parts: &[Part]) -> Result<Vec<bool>, AllocError> {
+    let mut open = Vec::new(alloc);
+    for base in 0..parts.len() {
+        open.push(is_open(parts, base))?;
+    }
+    Ok(open)
+}
+
 /// What the base has of a known roster, with a first bound.
 fn first_part(
     alloc: Global,

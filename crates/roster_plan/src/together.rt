@@ -11,11 +11,11 @@ use crate::kept::kept;
 use crate::known::{Planned, costed, earlier, places_of, so_far};
 use crate::means::{MOST_EFFORT, Means};
 use crate::nearby::{Nearby, search_nearby};
-use crate::neighbourhoods::{Neighbourhood, Neighbourhoods};
-use crate::parts::Part;
+use crate::parts::{Part, open_bases};
 use crate::watching::{Step, Watcher};
 use roster_cost::{comes_before, keys_are_in_order};
 use roster_lines::Pairs;
+use roster_moves::{Neighbourhood, Neighbourhoods};
 use roster_problem::{Problem, Roster, open_number};
 use std::alloc::{AllocError, Global};
 use std::thread::{Threads, for_each_mut};
@@ -56,7 +56,7 @@ pub(crate) fn improved_nearby<R: Threads + Sync, W: Watcher>(
     ensures { IfOk result (IsPlannedFrom problem.now start.roster) }
 {
     keys_are_in_order();
-    let mut neighbourhoods = Neighbourhoods::new(alloc, problem, parts)?;
+    let mut neighbourhoods = neighbourhoods_of(alloc, problem, parts)?;
     let mut planned = start;
     for _ in 0..rounds_of(means.effort) {
         let before = planned.roster.copy(alloc)?;
@@ -78,6 +78,16 @@ pub(crate) fn improved_nearby<R: Threads + Sync, W: Watcher>(
 /// How often an effort searches so many neighbourhoods at once.
 fn rounds_of(effort: u32) -> u32 {
     ROUNDS_AN_EFFORT.saturating_mul(effort.min(MOST_EFFORT).saturating_add(1))
+}
+
+/// The neighbourhoods in bases whose best roster isn't known.
+fn neighbourhoods_of(
+    alloc: Global,
+    problem: &Problem,
+    parts: &[Part],
+) -> Result<Neighbourhoods, AllocError> {
+    let sought = open_bases(alloc, parts)?;
+    Neighbourhoods::new(alloc, problem, &sought)
 }
 
 /// The next neighbourhoods of a roster, not yet searched.

@@ -1,9 +1,11 @@
 //! Bases with few legal sets, each searched whole.
 
-ghost use Rattle.std.specs.Prelude.{◌≡◌, ◌<◌, IfOk, IfSome};
+ghost use Rattle.std.specs.Prelude.{◌≡◌, ◌<◌, true, IfOk, IfSome};
 ghost use Rattle.roster_lines.specs.Listing.{AreAllPairs};
 ghost use Rattle.roster_model.specs.Problem.{Problem};
+ghost use Rattle.roster_model.specs.Settled.{IsHeld, IsNotAfter};
 ghost use Rattle.roster_model.specs.declared.limits.TheConstants.{MOST_BASES as most_bases};
+ghost use Rattle.roster_pricing.specs.Homes.{IsHome};
 ghost use Rattle.roster_plan.specs.Bases.{AreWholes, IsWhole};
 ghost use Rattle.roster_plan.specs.Exact.{IsExact};
 ghost use Rattle.roster_plan.specs.Months.{IsMonth, IsMonthFrom};
@@ -12,7 +14,7 @@ ghost use Rattle.roster_plan.specs.Parts.{AreParts};
 use crate::exact::Found;
 use crate::means::Means;
 use crate::months::Month;
-use crate::nearby::search_base;
+use crate::nearby::{Nearby, search_base};
 use crate::parts::{Part, is_open};
 use crate::watching::{Step, Watcher};
 use roster_cost::keys_are_in_order;
@@ -111,10 +113,20 @@ fn best_of(
     let known = parts[base].roster.copy(alloc)?;
     let (lines, work) = (means.lines(), means.work());
     let nearby = search_base(alloc, problem, pairs, base, known, lines, work)?;
+    Ok(found_by(problem, base, nearby))
+}
+
+/// The best roster of the base, if the search that came to this has ended.
+fn found_by(problem: &Problem, base: usize, nearby: Nearby) -> Option<Found>
+    requires held { IsHeld problem.now nearby.roster }
+    requires best { nearby.is_settled ≡ true
+        → IsNotAfter problem.now (IsHome problem.now base) nearby.roster }
+    ensures { IfSome result (IsExact problem.now base) }
+{
     if !nearby.is_settled {
-        return Ok(None);
+        return None;
     }
-    Ok(Some(Found::Best(nearby.roster)))
+    Some(Found::Best(nearby.roster))
 }
 
 /// The month with the best roster of each base for which it was found.
@@ -132,11 +144,27 @@ fn with_best<W: Watcher>(
     keys_are_in_order();
     let mut month = start;
     for whole in wholes {
-        let Whole { base, found } = whole;
-        let found = found?;
-        if let Some(best) = &found {
-            month = month.with_found(alloc, problem, base, best, Step::Sets, watcher)?;
-        }
+        month = with_whole(alloc, problem, month, whole, watcher)?;
     }
     Ok(month)
+}
+
+/// The month with the best roster of one base, if it was found.
+fn with_whole<W: Watcher>(
+    alloc: Global,
+    problem: &Problem,
+    start: Month,
+    whole: Whole,
+    watcher: &mut W,
+) -> Result<Month, AllocError>
+    requires month { IsMonth problem.now start }
+    requires whole { IsWhole problem.now whole }
+    ensures { IfOk result (IsMonthFrom problem.now start.planned.roster) }
+{
+    keys_are_in_order();
+    let Whole { base, found } = whole;
+    match found? {
+        Some(best) => start.with_found(alloc, problem, base, &best, Step::Sets, watcher),
+        None => Ok(start),
+    }
 }

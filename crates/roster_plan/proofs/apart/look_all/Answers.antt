@@ -1,4 +1,4 @@
-use Rattle.std.proofs.Common.{◌<◌, sym, subst, rules}
+use Rattle.std.proofs.Common.{sym, subst, rules}
 use Rattle.roster_plan.specs.Bases.{IsGap}
 use Rattle.roster_plan.proofs.apart.look_all.Goals as goal
 

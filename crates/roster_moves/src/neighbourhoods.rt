@@ -1,0 +1,246 @@
+//! Which neighbourhood is searched next. Nothing rests on it: each choice may be another one.
+
+ghost use Rattle.std.specs.Prelude.{◌≡◌, IfOk, length};
+
+use crate::random::Random;
+use crate::search::set_of;
+use crate::sets::{add, amount_at, is_sought, without};
+use crate::tables::times;
+use roster_lines::Between;
+use roster_problem::{Problem, Set, open_number};
+use std::alloc::{AllocError, Global};
+
+/// Where the random numbers begin.
+const SEED: u64 = 20_240_302;
+
+/// The minutes of a day.
+const DAY: i64 = 24 * 60;
+
+/// About so many open pairings of a base may be given to its persons.
+const MOST_OPEN: usize = 12;
+
+/// Sizes are in such parts of a person or of a day.
+const PARTS: u32 = 4;
+
+/// How large the kinds of neighbourhoods are at first: of three persons, of twelve days, and of eight
+/// days.
+const FIRST_SIZES: [u32; 3] = [3 * PARTS, 12 * PARTS, 8 * PARTS];
+
+/// How large a neighbourhood may become: of more days than a month has.
+const GREATEST_SIZE: u32 = 40 * PARTS;
+
+/// How small a neighbourhood may become: of two persons, or of two days.
+const LEAST_SIZE: u32 = 2 * PARTS;
+
+/// How much larger the next one of a kind is if the search of one ends.
+const GROWS_BY: u32 = 1;
+
+/// How much smaller the next one of a kind is if the search of one is given up.
+const SHRINKS_BY: u32 = PARTS;
+
+/// Neighbourhoods of some persons, and of some days. They grow as long as searches of them end, and
+/// shrink if one is given up.
+#[derive(Drop)]
+pub struct Neighbourhoods {
+    random: Random,
+    // Who is of a base that is sought.
+    persons: Vec<usize>,
+    // When pairings begin.
+    begins: Vec<i64>,
+    // The kinds and how large they are, and the kind of the last one.
+    sizes: Vec<u32>,
+    kind: usize,
+}
+
+/// A neighbourhood of a roster.
+#[derive(Debug, Drop)]
+pub struct Neighbourhood {
+    /// What each person must keep and may have beside.
+    pub wanted: Vec<Between>,
+    kind: usize,
+}
+
+impl Neighbourhoods {
+    /// Those of a problem, in bases that are sought. `sought` says of each base, by its number, whether it is;
+    /// one past the list is.
+    pub fn new(
+        alloc: Global,
+        problem: &Problem,
+        sought: &[bool],
+    ) -> Result<Neighbourhoods, AllocError> {
+        let mut persons = Vec::new(alloc);
+        for (k, person) in problem.persons().iter().enumerate() {
+            if is_sought(sought, person.base) {
+                persons.push(k)?;
+            }
+        }
+        let mut sizes = Vec::new(alloc);
+        for size in FIRST_SIZES {
+            sizes.push(size)?;
+        }
+        Ok(Neighbourhoods {
+            random: Random::new(SEED),
+            persons,
+            begins: times(alloc, problem, false)?,
+            sizes,
+            kind: 0,
+        })
+    }
+
+    /// The next neighbourhood of a roster.
+    pub fn next(
+        &mut self,
+        alloc: Global,
+        problem: &Problem,
+        places: &[u16],
+    ) -> Result<Neighbourhood, AllocError>
+        ensures { IfOk result (λ next. length next.wanted.items ≡ length problem.now.persons) }
+    {
+        self.kind = self.random.below(self.sizes.len());
+        let persons = self.persons(alloc, problem)?;
+        let free = self.free(problem, places, &persons);
+        let wanted = wanted_of(alloc, problem, places, &persons, &free)?;
+        Ok(Neighbourhood {
+            wanted,
+            kind: self.kind,
+        })
+    }
+
+    /// Whether the search of a neighbourhood has ended.
+    pub fn tell(&mut self, neighbourhood: &Neighbourhood, is_settled: bool) {
+        if let Some(size) = self.sizes.get_mut(neighbourhood.kind) {
+            *size = if is_settled {
+                size.saturating_add(GROWS_BY).min(GREATEST_SIZE)
+            } else {
+                size.saturating_sub(SHRINKS_BY).max(LEAST_SIZE)
+            };
+        }
+    }
+
+    // How large the last neighbourhood is, in parts.
+    fn size(&self) -> u32 {
+        match self.sizes.get(self.kind) {
+            Some(size) => *size,
+            None => 0,
+        }
+    }
+
+    // Some persons of one base: a few, half of them, or all.
+    fn persons(&mut self, alloc: Global, problem: &Problem) -> Result<Vec<usize>, AllocError> {
+        let mut left = Vec::new(alloc);
+        let i = self.random.below(self.persons.len());
+        let k = self.persons.get(i).copied().unwrap_or(0);
+        if let Some(first) = problem.persons().get(k) {
+            for (k, person) in problem.persons().iter().enumerate() {
+                if person.base == first.base {
+                    left.push(k)?;
+                }
+            }
+        }
+        let count = match self.kind {
+            0 => (self.size() / PARTS) as usize,
+            1 => left.len().saturating_add(1) / 2,
+            _ => left.len(),
+        };
+        let mut chosen = Vec::new(alloc);
+        for _ in 0..count {
+            let i = self.random.below(left.len());
+            if i < left.len() {
+                chosen.push(left.swap_remove(i))?;
+            }
+        }
+        Ok(chosen)
+    }
+
+    // The pairings that these persons have or that are open, all of them or those of some days.
+    fn free(&mut self, problem: &Problem, places: &[u16], persons: &[usize]) -> Set {
+        let mut free = Set::empty();
+        let Some(base) = base_of(problem, persons) else {
+            return free;
+        };
+        let (first, last) = self.days();
+        let nobody = usize::from(open_number(problem));
+        let open = open_of(problem, places, base);
+        for (p, place) in places.iter().enumerate() {
+            let begin = amount_at(&self.begins, p);
+            let number = usize::from(*place);
+            let is_there = if number == nobody {
+                is_of_base(problem, p, base) && self.random.below(open) < MOST_OPEN
+            } else {
+                persons.contains(&number)
+            };
+            if is_there && begin >= first && begin <= last {
+                add(&mut free, p);
+            }
+        }
+        free
+    }
+
+    // From when to when the pairings begin.
+    fn days(&mut self) -> (i64, i64) {
+        if self.kind == 0 || self.begins.is_empty() {
+            return (i64::MIN, i64::MAX);
+        }
+        let p = self.random.below(self.begins.len());
+        let middle = amount_at(&self.begins, p);
+        // Half of so many parts of a day lie on each side of the middle.
+        let minutes = i64::from(self.size()).wrapping_mul(DAY / i64::from(2 * PARTS));
+        (middle.wrapping_sub(minutes), middle.wrapping_add(minutes))
+    }
+}
+
+// The base of the first of the persons.
+fn base_of(problem: &Problem, persons: &[usize]) -> Option<usize> {
+    let k = persons.first()?;
+    let person = problem.persons().get(*k)?;
+    Some(person.base)
+}
+
+// Whether the pairing at place `p` is of the base.
+fn is_of_base(problem: &Problem, p: usize, base: usize) -> bool {
+    match problem.pairings().get(p) {
+        Some(pairing) => pairing.base == base,
+        None => false,
+    }
+}
+
+// How many pairings of the base are open.
+fn open_of(problem: &Problem, places: &[u16], base: usize) -> usize {
+    let nobody = open_number(problem);
+    let mut open: usize = 0;
+    for (p, place) in places.iter().enumerate() {
+        if *place == nobody && is_of_base(problem, p, base) {
+            open = open.wrapping_add(1);
+        }
+    }
+    open
+}
+
+// What everybody keeps and may have beside: these persons lose and may have what is free.
+fn wanted_of(
+    alloc: Global,
+    problem: &Problem,
+    places: &[u16],
+    persons: &[usize],
+    free: &Set,
+) -> Result<Vec<Between>, AllocError>
+    ensures { IfOk result (λ wanted. length wanted.items ≡ length problem.now.persons) }
+{
+    let mut wanted = Vec::new(alloc);
+    for k in 0..problem.persons().len() {
+        let had = set_of(places, k);
+        let between = if persons.contains(&k) {
+            Between {
+                must: without(&had, free),
+                may: *free,
+            }
+        } else {
+            Between {
+                must: had,
+                may: Set::empty(),
+            }
+        };
+        wanted.push(between)?;
+    }
+    Ok(wanted)
+}

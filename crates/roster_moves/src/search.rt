@@ -1,0 +1,148 @@
+//! Changes tried one after another. Nothing rests on what a search thinks that its roster is and costs.
+
+use crate::changes::Changes;
+use crate::random::Random;
+use crate::sets::{add, amount_at, is_sought, set_at, without};
+use crate::tables::Tables;
+use roster_problem::{Problem, Set, open_number};
+use std::alloc::{AllocError, Global};
+
+/// What a search thinks that its roster is, what it costs, and the changes that it tries next.
+#[derive(Drop)]
+pub(crate) struct Search<'a> {
+    pub(crate) tables: Tables<'a>,
+    pub(crate) random: Random,
+    pub(crate) changes: Changes,
+    // By person: the set, and what it costs.
+    sets: Vec<Set>,
+    lines: Vec<i64>,
+    // The pairings of bases that are sought, and which of them are open.
+    pairings: Vec<usize>,
+    open: Set,
+    // What has been saved since the start, and at most.
+    saved: i64,
+    most_saved: i64,
+}
+
+impl<'a> Search<'a> {
+    /// A search that begins with this roster, in bases that are sought, with the chances of a seed.
+    pub(crate) fn new(
+        alloc: Global,
+        problem: &'a Problem,
+        places: &[u16],
+        sought: &[bool],
+        seed: u64,
+    ) -> Result<Search<'a>, AllocError> {
+        let tables = Tables::new(alloc, problem)?;
+        let mut sets = Vec::new(alloc);
+        let mut lines = Vec::new(alloc);
+        for k in 0..tables.persons() {
+            let set = set_of(places, k);
+            lines.push(tables.line(k, &set))?;
+            sets.push(set)?;
+        }
+        let mut pairings = Vec::new(alloc);
+        let mut theirs = Set::empty();
+        for (p, pairing) in problem.pairings().iter().enumerate() {
+            if is_sought(sought, pairing.base) {
+                pairings.push(p)?;
+                add(&mut theirs, p);
+            }
+        }
+        let open = set_of(places, usize::from(open_number(problem))).and(&theirs);
+        Ok(Search {
+            tables,
+            random: Random::new(seed),
+            changes: Changes::new(alloc),
+            sets,
+            lines,
+            pairings,
+            open,
+            saved: 0,
+            most_saved: 0,
+        })
+    }
+
+    /// One of the pairings of bases that are sought, by chance.
+    pub(crate) fn some_pairing(&mut self) -> usize {
+        let i = self.random.below(self.pairings.len());
+        self.pairings.get(i).copied().unwrap_or(0)
+    }
+
+    /// Those pairings of the same bases that are open.
+    pub(crate) fn open(&self) -> &Set {
+        &self.open
+    }
+
+    /// Who has the pairing at place `p`.
+    pub(crate) fn holder(&self, p: usize) -> Option<usize> {
+        for (k, set) in self.sets.iter().enumerate() {
+            if set.has(p) {
+                return Some(k);
+            }
+        }
+        None
+    }
+
+    /// The set that person `k` has after the changes.
+    pub(crate) fn set(&self, k: usize) -> Set {
+        match self.changes.of(k) {
+            Some(set) => set,
+            None => set_at(&self.sets, k),
+        }
+    }
+
+    /// What the changed persons lose, and what they gain.
+    fn traded(&self) -> (Set, Set) {
+        let mut old = Set::empty();
+        let mut new = Set::empty();
+        for change in self.changes.as_slice() {
+            old = old.or(&set_at(&self.sets, change.person));
+            new = new.or(&change.set);
+        }
+        (without(&old, &new), without(&new, &old))
+    }
+
+    /// What the changes cost more.
+    pub(crate) fn extra(&self) -> i64 {
+        let (lost, gained) = self.traded();
+        let mut extra = self.tables.penalties(&lost);
+        extra = extra.wrapping_sub(self.tables.penalties(&gained));
+        for change in self.changes.as_slice() {
+            let k = change.person;
+            extra = extra.wrapping_add(self.tables.line(k, &change.set));
+            extra = extra.wrapping_sub(amount_at(&self.lines, k));
+        }
+        extra
+    }
+
+    /// Takes the changes, which cost so much more. Whether nothing was as cheap so far.
+    pub(crate) fn take(&mut self, extra: i64) -> bool {
+        let (lost, gained) = self.traded();
+        self.open = without(&self.open.or(&lost), &gained);
+        for change in self.changes.as_slice() {
+            let k = change.person;
+            if k < self.sets.len() && k < self.lines.len() {
+                self.sets[k] = change.set;
+                self.lines[k] = self.tables.line(k, &change.set);
+            }
+        }
+        self.saved = self.saved.wrapping_sub(extra);
+        if self.saved <= self.most_saved {
+            return false;
+        }
+        self.most_saved = self.saved;
+        true
+    }
+}
+
+/// The set of a number in the places, which may be any list.
+pub(crate) fn set_of(places: &[u16], number: usize) -> Set {
+    let mut set = Set::empty();
+    for (p, place) in places.iter().enumerate() {
+        if usize::from(*place) == number {
+            crate::sets::add(&mut set, p);
+        }
+    }
+    set
+}

@@ -1,6 +1,0 @@
-use Rattle.std.proofs.Common.{◌≡◌}
-use Rattle.roster_plan.proofs.runs.improved.Given as goal
-
--- the draft is of the same problem
-abbrev pub invariant-loop-i : goal.invariant-loop-i
-invariant-loop-i l = l.draft ≡ l.problem
