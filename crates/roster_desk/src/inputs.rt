@@ -1,6 +1,7 @@
 //! What the paths of a command line hold.
 
-use crate::line::{Question, TellLine};
+use roster_desk_answers::Inputs;
+use roster_desk_commandline::{Question, TellLine};
 use std::alloc::Global;
 use std::fs::File;
 use std::io;
@@ -11,17 +12,6 @@ pub(crate) const STANDARD_INPUT: &str = "-";
 
 /// No report has so many bytes.
 const MOST_REPORT_BYTES: u64 = 1 << 20;
-
-/// A book and the reports beside it, as their bytes.
-#[derive(Drop)]
-pub(crate) struct Inputs {
-    /// The book.
-    pub(crate) book: Vec<u8>,
-    /// The report that gives the roster, if one does.
-    pub(crate) report: Option<Vec<u8>>,
-    /// The report that gives the other roster; empty if there is none.
-    pub(crate) other: Vec<u8>,
-}
 
 /// Why an input wasn't read.
 #[derive(Clone, Copy, Debug)]

@@ -1,29 +1,21 @@
 //! `roster-desk`: a planner's companion to `roster`.
 //!
-//! - `commands`: the commands and their options
-//! - `line`: what the words of the command line ask for
-//! - `inputs`: what its paths hold
-//! - `telling`: what is told of a roster, and the records of a report
-//! - `pages`: what is told of the records of a book
+//! - `inputs`: what the paths of the command line hold
 //! - `watching`: what is told and kept of a plan while it is made
 //!
 //! `main` opens the book and hands it to `run` of `roster_desk_run`, with the report that a plan begins with,
-//! or reads it and the reports whole and hands them to `tell` or `show`.
+//! or reads it and the reports whole and hands them to `tell` or `show` of `roster_desk_answers`.
 #![tactic(auto)]
 
-mod commands;
 mod inputs;
-mod line;
-mod pages;
-mod telling;
 mod watching;
 
 ghost use Rattle.std.specs.Prelude.{◌≡◌, ◌<◌, false};
 ghost use Rattle.roster_watched.specs.Watch.{has_failed};
 
 use inputs::{InputFault, STANDARD_INPUT, read_book_at, read_inputs, read_report_at, shares_input};
-use line::{Line, LineFault, PageLine, PlanLine, TellLine, read_line};
-use pages::show;
+use roster_desk_answers::{Untold, show, tell, tell_assigns};
+use roster_desk_commandline::{Line, LineFault, PageLine, PlanLine, TellLine, read_line};
 use roster_desk_run::{Status, run};
 use roster_desk_text::Unknown;
 use roster_plan::Means;
@@ -33,7 +25,6 @@ use std::io::{IsTerminal, Read};
 use std::process::ExitCode;
 use std::thread::Threads;
 use std::{env, io};
-use telling::{Untold, tell, tell_assigns};
 use watching::Companion;
 
 /// The exit status of a command line that is refused.

@@ -9,8 +9,8 @@ use Rattle.roster_model.specs.Texts.{fault_text, IsPlanOf, IsReportOf}
 use Rattle.roster_plan.specs.declared.known.Planned.{Planned}
 use Rattle.roster_reports.specs.Given.{HasAll, IsGiven}
 use Rattle.roster_reports.specs.Text.{given_by_text}
-use Rattle.roster_desk_run.specs.declared.status.Status.{Status}
-use Rattle.roster_desk_run.specs.declared.status.Status.TheVariants as statuses
+use Rattle.roster_desk_text.specs.declared.status.Status.{Status}
+use Rattle.roster_desk_text.specs.declared.status.Status.TheVariants as statuses
 
 -- ---- what is written of a plan
 
@@ -65,12 +65,3 @@ IsFaultLine row code text = text ≡ fault_text (record { row = row; code = code
 abbrev pub IsStartRefused : Status → Type 0
 IsStartRefused (statuses.StartRefused line wrong) = Unit {0}
 IsStartRefused _ = ⊥
-
--- the exit status of each outcome
-abbrev pub exit_number : Status → ℕ
-exit_number statuses.Answered = 0
-exit_number statuses.Refused = 1
-exit_number (statuses.StartRefused line wrong) = 1
-exit_number statuses.Memory = 3
-exit_number statuses.ReadFailed = 4
-exit_number statuses.WriteFailed = 4

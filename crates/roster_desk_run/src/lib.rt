@@ -2,11 +2,9 @@
 //! writer. The plan begins with the book's assignments, or with the roster of a report.
 //!
 //! - `running`: a book is read, and its one answer written
-//! - `status`: how a run ends
 #![tactic(auto)]
 
 mod running;
-mod status;
 
+pub use roster_desk_text::Status;
 pub use running::{run, write_planned};
-pub use status::Status;

@@ -5,28 +5,15 @@ ghost use Rattle.roster_watched.specs.Watch.{has_failed};
 
 use crate::telling::{refuse, write};
 use roster_book::{BookFault, Command, read_book};
+use roster_desk_commandline::Page;
 use roster_desk_fault::{fault_text, warn_text};
-use roster_desk_run::Status;
+use roster_desk_text::Status;
 use roster_watched::Watched;
 use std::alloc::{AllocError, Global};
 use std::io::Write;
 
-/// What is to be told of the records of a book.
-#[derive(Clone, Copy, Debug)]
-pub(crate) enum Page {
-    /// Their faults.
-    Fault,
-    /// What is likely a mistake in them, if they have no fault.
-    Warn,
-}
-
 /// Writes what is to be told of the book, or the line of the book's first fault.
-pub(crate) fn show<W: Write>(
-    alloc: Global,
-    page: Page,
-    book: &[u8],
-    writer: &mut Watched<W>,
-) -> Status
+pub fn show<W: Write>(alloc: Global, page: Page, book: &[u8], writer: &mut Watched<W>) -> Status
     requires { has_failed writer.old ≡ false }
 {
     match page {

@@ -2,7 +2,7 @@
 
 ghost use Rattle.std.specs.Prelude.{◌≡◌};
 ghost use Rattle.std.specs.Process.{exit_status};
-ghost use Rattle.roster_desk_run.specs.Run.{exit_number};
+ghost use Rattle.roster_desk_text.specs.Status.{exit_number};
 
 use roster_reports::Wrong;
 use std::process::ExitCode;

@@ -1,7 +1,6 @@
 //! What the words of the command line ask for.
 
 use crate::commands::desk;
-use crate::pages::Page;
 use clap::ArgMatches;
 use clap::error::ErrorKind;
 use std::alloc::{AllocError, Global};
@@ -11,7 +10,7 @@ const USUAL_EFFORT: u32 = 5;
 
 /// What the words ask for.
 #[derive(Debug, Drop)]
-pub(crate) enum Line<'a> {
+pub enum Line<'a> {
     /// A plan of a book.
     Plan(PlanLine<'a>),
     /// What is told of a roster of a book.
@@ -24,37 +23,37 @@ pub(crate) enum Line<'a> {
 
 /// A plan of a book.
 #[derive(Debug, Drop)]
-pub(crate) struct PlanLine<'a> {
+pub struct PlanLine<'a> {
     /// The path of the book, or `-`.
-    pub(crate) book: &'a str,
+    pub book: &'a str,
     /// How much is to be tried, from 0 to 9.
-    pub(crate) effort: u32,
+    pub effort: u32,
     /// How many threads may share the work.
-    pub(crate) workers: usize,
+    pub workers: usize,
     /// How many legal sets a person may have in one step, from 1 to 200000; none if effort says it.
-    pub(crate) sets: Option<usize>,
+    pub sets: Option<usize>,
     /// The path of the report that gives the roster to begin with, or `-`; none if the book gives it.
-    pub(crate) start: Option<&'a str>,
+    pub start: Option<&'a str>,
     /// Whether standard error is told what is known on the way, though it is no terminal.
-    pub(crate) progress: bool,
+    pub progress: bool,
     /// The path of the file that keeps the plan on the way, if one does.
-    pub(crate) keep: Option<&'a str>,
+    pub keep: Option<&'a str>,
 }
 
 /// What is told of a roster of a book.
 #[derive(Clone, Copy, Debug)]
-pub(crate) struct TellLine<'a> {
+pub struct TellLine<'a> {
     /// What is asked.
-    pub(crate) question: Question<'a>,
+    pub question: Question<'a>,
     /// The path of the book, or `-`.
-    pub(crate) book: &'a str,
+    pub book: &'a str,
     /// The path of the report that gives the roster, or `-`; none if the book gives it.
-    pub(crate) report: Option<&'a str>,
+    pub report: Option<&'a str>,
 }
 
 /// What is asked of a roster.
 #[derive(Clone, Copy, Debug)]
-pub(crate) enum Question<'a> {
+pub enum Question<'a> {
     /// Who could have a pairing, and why others mustn't.
     Why {
         /// The name of the pairing, if one is named.
@@ -80,18 +79,27 @@ pub(crate) enum Question<'a> {
     },
 }
 
+/// What is to be told of the records of a book.
+#[derive(Clone, Copy, Debug)]
+pub enum Page {
+    /// Their faults.
+    Fault,
+    /// What is likely a mistake in them, if they have no fault.
+    Warn,
+}
+
 /// What is told of the records of a book.
 #[derive(Clone, Copy, Debug)]
-pub(crate) struct PageLine<'a> {
+pub struct PageLine<'a> {
     /// The path of the book, or `-`.
-    pub(crate) book: &'a str,
+    pub book: &'a str,
     /// What is to be told.
-    pub(crate) page: Page,
+    pub page: Page,
 }
 
 /// Why the words ask for nothing.
 #[derive(Debug, Drop)]
-pub(crate) enum LineFault {
+pub enum LineFault {
     /// They are refused, or ask for help, as `clap`'s error tells.
     Refused(clap::Error),
     /// Memory ran out.
@@ -105,7 +113,7 @@ impl From<AllocError> for LineFault {
 }
 
 /// What the words ask for. The first word is the program's name.
-pub(crate) fn read_line<'a>(alloc: Global, words: &'a [String]) -> Result<Line<'a>, LineFault> {
+pub fn read_line<'a>(alloc: Global, words: &'a [String]) -> Result<Line<'a>, LineFault> {
     let mut command = desk(alloc)?;
     let matches = match command.try_get_matches_from_mut(words) {
         Ok(matches) => matches,

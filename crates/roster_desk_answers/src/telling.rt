@@ -3,12 +3,10 @@
 ghost use Rattle.std.specs.Prelude.{◌≡◌, IfOk, length, false};
 ghost use Rattle.roster_watched.specs.Watch.{has_failed};
 
-use crate::inputs::Inputs;
-use crate::line::{Question, TellLine};
 use roster_book::{Book, BookFault, Command, read_book};
 use roster_desk_chart::chart_text;
-use roster_desk_run::Status;
-use roster_desk_text::{Unknown, find, limits_text, read_zones, why_text};
+use roster_desk_commandline::{Question, TellLine};
+use roster_desk_text::{Status, Unknown, find, limits_text, read_zones, why_text};
 use roster_problem::{Places, Problem};
 use roster_report::{TextFault, write_fault};
 use roster_reports::{ReportFault, assigns_text, read_report, read_roster};
@@ -17,9 +15,20 @@ use roster_watched::Watched;
 use std::alloc::{AllocError, Global};
 use std::io::Write;
 
+/// A book and the reports beside it, as their bytes.
+#[derive(Drop)]
+pub struct Inputs {
+    /// The book.
+    pub book: Vec<u8>,
+    /// The report that gives the roster, if one does.
+    pub report: Option<Vec<u8>>,
+    /// The report that gives the other roster; empty if there is none.
+    pub other: Vec<u8>,
+}
+
 /// Why nothing was told, if that isn't the book's fault.
 #[derive(Debug, Drop)]
-pub(crate) enum Untold<'a> {
+pub enum Untold<'a> {
     /// The book doesn't have a name that is asked for.
     Unknown(Unknown),
     /// The report at the path gives no roster of the book.
@@ -54,7 +63,7 @@ fn refused<'a>(path: &'a str, fault: ReportFault) -> Untold<'a> {
 }
 
 /// Writes what the line asks of the book among the inputs, or the line of the book's first fault.
-pub(crate) fn tell<'a, W: Write>(
+pub fn tell<'a, W: Write>(
     alloc: Global,
     line: &TellLine<'a>,
     inputs: &Inputs,
@@ -75,7 +84,7 @@ pub(crate) fn tell<'a, W: Write>(
 }
 
 /// Writes the `assign` records that the report at the path gives.
-pub(crate) fn tell_assigns<'a, W: Write>(
+pub fn tell_assigns<'a, W: Write>(
     alloc: Global,
     path: &'a str,
     report: &[u8],
