@@ -86,10 +86,6 @@ fn replay_from<L: Ledger>(
     ensures once { IfOk result (λ solved. solved.fallbacks ≡ 0) }
 {
     let mut stage = Stage::<L>::open(alloc, problem, table, tables, blank)?;
-    for k in 0..steps.len() {
-        stage.act(steps[k])?;
-    }
-    stage.give_all_back()?;
-    stage.search_pending()?;
+    stage.act_all(steps)?;
     stage.end()
 }

@@ -108,8 +108,21 @@ impl<'a, L: Ledger> Stage<'a, L> {
         }
     }
 
+    /// Takes the steps, and then ends all that is left.
+    pub(crate) fn act_all(&mut self, steps: &[Step]) -> Result<(), AllocError>
+        ensures task { self.new.task ≡ self.old.task }
+        ensures idle { OnOk result (IsIdle self.new.state) }
+        ensures none { OnOk result (self.new.state.pending ≡ []) }
+    {
+        for k in 0..steps.len() {
+            self.act(steps[k])?;
+        }
+        self.give_all_back()?;
+        self.search_pending()
+    }
+
     /// Does a step.
-    pub(crate) fn act(&mut self, step: Step) -> Result<(), AllocError>
+    fn act(&mut self, step: Step) -> Result<(), AllocError>
         ensures { self.new.task ≡ self.old.task }
     {
         match step {
@@ -185,7 +198,7 @@ impl<'a, L: Ledger> Stage<'a, L> {
     }
 
     /// All workers give their spans back, from worker 0 on.
-    pub(crate) fn give_all_back(&mut self) -> Result<(), AllocError>
+    fn give_all_back(&mut self) -> Result<(), AllocError>
         ensures task { self.new.task ≡ self.old.task }
         ensures idle { OnOk result (IsIdle self.new.state) }
     {
@@ -196,7 +209,7 @@ impl<'a, L: Ledger> Stage<'a, L> {
     }
 
     /// Worker 0 searches all that is pending, from the first on.
-    pub(crate) fn search_pending(&mut self) -> Result<(), AllocError>
+    fn search_pending(&mut self) -> Result<(), AllocError>
         requires { IsIdle self.old.state }
         ensures task { self.new.task ≡ self.old.task }
         ensures idle { OnOk result (IsIdle self.new.state) }
