@@ -92,6 +92,16 @@ fn do_threads_agree<R: Threads + Sync>(
     Ok(true)
 }
 
+/// Checks that they do.
+fn threads_agree<R: Abort + Threads + Sync>(
+    rt: &R,
+    alloc: Global,
+    problem: &Problem,
+) -> Result<(), Fail> {
+    assert!(rt; do_threads_agree(rt, alloc, problem)?);
+    Ok(())
+}
+
 /// Whether two tables of the problem are the same.
 fn are_same(problem: &Problem, a: &Table, b: &Table) -> bool
     requires a { IsTableOf problem.now a.now }
@@ -111,16 +121,16 @@ fn are_same(problem: &Problem, a: &Table, b: &Table) -> bool
     true
 }
 
-/// The lines of the first person, who is the only one.
-fn first_lines(rt: &impl Abort, alloc: Global, problem: &Problem) -> Result<Lines, LinesFault> {
+/// The lines of the first person, who is the only one, of a problem that is gone then.
+fn first_lines(rt: &impl Abort, alloc: Global, problem: Problem) -> Result<Lines, LinesFault> {
     assert!(rt; problem.persons().len() == 1);
-    lines_of(alloc, problem, 0)
+    lines_of(alloc, &problem, 0)
 }
 
 /// The lines of the one person of the book with pairings on these days.
 fn lines_with(rt: &impl Abort, alloc: Global, days: &[u8]) -> Result<Lines, Fail> {
     let problem = problem_of_days(alloc, days)?;
-    Ok(first_lines(rt, alloc, &problem)?)
+    Ok(first_lines(rt, alloc, problem)?)
 }
 
 /// Checks that the lines are the one without a pairing, and each pairing alone.
@@ -196,21 +206,26 @@ fn table_costs(rt: &impl Abort, problem: &Problem, table: &Table)
     requires table { IsTableOf problem.now table.now }
 {
     assert!(rt; problem.persons().len() == 2);
-    let costs = [1000, 47, 417, 490, 120, 1080, 1560, 600];
+    let costs = [[1000, 47, 417, 490], [120, 1080, 1560, 600]];
     for k in 0..2 {
         assert!(rt; table.width(k) == 4);
         for i in 0..4 {
-            assert!(rt; table.cost(k, i) == costs[4 * k + i]);
+            assert!(rt; table.cost(k, i) == costs[k][i]);
         }
     }
+}
+
+/// Makes the table of A and B, and checks what their lines cost.
+fn table_has_costs(rt: &impl Abort, alloc: Global, problem: &Problem) -> Result<(), Fail> {
+    let table = table_of(alloc, problem)?;
+    table_costs(rt, problem, &table);
+    Ok(())
 }
 
 #[test]
 fn lines_cost_their_units_and_the_missed_target(rt: HostRuntime) -> Result<(), Fail> {
     let problem = problem_of(rt.alloc(), COSTS)?;
-    let table = table_of(rt.alloc(), &problem)?;
-    table_costs(&rt, &problem, &table);
-    Ok(())
+    table_has_costs(&rt, rt.alloc(), &problem)
 }
 
 /// Checks which lines of the two days some of them go on from.
@@ -260,12 +275,17 @@ fn has_lines(rt: &impl Abort, problem: &Problem, table: &Table)
     assert!(rt; table.run_of(0, 4) == (25, 31));
 }
 
+/// Makes that table, and checks it.
+fn table_has_lines(rt: &impl Abort, alloc: Global, problem: &Problem) -> Result<(), Fail> {
+    let table = table_of(alloc, problem)?;
+    has_lines(rt, problem, &table);
+    Ok(())
+}
+
 #[test]
 fn a_table_has_the_lines_of_each_person(rt: HostRuntime) -> Result<(), Fail> {
     let problem = problem_of_days(rt.alloc(), &TWO_DAYS)?;
-    let table = table_of(rt.alloc(), &problem)?;
-    has_lines(&rt, &problem, &table);
-    Ok(())
+    table_has_lines(&rt, rt.alloc(), &problem)
 }
 
 /// A copy of the lines of the one person, whose table is gone.
@@ -277,13 +297,18 @@ fn beside(rt: &impl Abort, problem: &Problem, table: Table) -> Result<SharedLine
     lines.copy()
 }
 
+/// Checks how many lines are had beside the table of the two days.
+fn are_had(rt: &impl Abort, alloc: Global, problem: &Problem) -> Result<(), Fail> {
+    let table = table_of(alloc, problem)?;
+    let lines = beside(rt, problem, table)?;
+    assert!(rt; lines.lines().width() == 36);
+    Ok(())
+}
+
 #[test]
 fn lines_are_had_beside_their_table(rt: HostRuntime) -> Result<(), Fail> {
     let problem = problem_of_days(rt.alloc(), &TWO_DAYS)?;
-    let table = table_of(rt.alloc(), &problem)?;
-    let lines = beside(&rt, &problem, table)?;
-    assert!(rt; lines.lines().width() == 36);
-    Ok(())
+    are_had(&rt, rt.alloc(), &problem)
 }
 
 #[test]
@@ -306,19 +331,26 @@ fn have_widths<R: Abort + Threads + Sync>(
     Ok(())
 }
 
+/// Checks that threads agree on the table, and what it has of A, B and C.
+fn agree_on_three<R: Abort + Threads + Sync>(
+    rt: &R,
+    alloc: Global,
+    problem: &Problem,
+) -> Result<(), Fail> {
+    have_widths(rt, alloc, problem)?;
+    threads_agree(rt, alloc, problem)
+}
+
 #[test]
 fn threads_make_the_same_table(rt: HostRuntime) -> Result<(), Fail> {
     let problem = problem_with(rt.alloc(), THREE, &TWO_DAYS)?;
-    have_widths(&rt, rt.alloc(), &problem)?;
-    assert!(rt; do_threads_agree(&rt, rt.alloc(), &problem)?);
-    Ok(())
+    agree_on_three(&rt, rt.alloc(), &problem)
 }
 
 #[test]
 fn threads_find_the_same_costs(rt: HostRuntime) -> Result<(), Fail> {
     let problem = problem_of(rt.alloc(), COSTS)?;
-    assert!(rt; do_threads_agree(&rt, rt.alloc(), &problem)?);
-    Ok(())
+    threads_agree(&rt, rt.alloc(), &problem)
 }
 
 /// Checks that B is told, whatever the number of threads.

@@ -40,13 +40,25 @@ impl Numbers {
 /// Each other day of March from the 9th on.
 const BUSY_DAYS: [u32; 12] = [9, 11, 13, 15, 17, 19, 21, 23, 25, 27, 29, 31];
 
+/// The end of a row: from one full hour to another, on a day of March.
+fn push_hours(
+    alloc: Global,
+    book: &mut String,
+    day: u32,
+    from: u32,
+    to: u32,
+) -> Result<(), AllocError> {
+    book.push_str(&format!(in alloc;
+        ",2024-03-{day:02}T{from:02}:00Z,2024-03-{day:02}T{to:02}:00Z\n"
+    )?)
+}
+
 /// A short fixed duty of person `k` on each other day from 9 March on, so that there are no days off in a
 /// row after the 8th.
 fn push_busy_days(alloc: Global, book: &mut String, k: u32, base: &str) -> Result<(), AllocError> {
     for day in BUSY_DAYS {
-        let from = format!(in alloc; "2024-03-{day:02}T10:00Z")?;
-        let to = format!(in alloc; "2024-03-{day:02}T12:00Z")?;
-        book.push_str(&format!(in alloc; "duty,B{k}x{day},C,C{k},{base},{from},{to}\n")?)?;
+        book.push_str(&format!(in alloc; "duty,B{k}x{day},C,C{k},{base}")?)?;
+        push_hours(alloc, book, day, 10, 12)?;
     }
     Ok(())
 }
@@ -67,9 +79,8 @@ fn push_person(
         book.push_str(&format!(in alloc; "leave,C{k},2024-03-04T00:00Z,2024-03-05T00:00Z\n")?)?;
     }
     if numbers.below(4) == 0 {
-        book.push_str(&format!(in alloc;
-            "duty,F{k},C,C{k},{base},2024-03-06T08:00Z,2024-03-06T16:00Z\n"
-        )?)?;
+        book.push_str(&format!(in alloc; "duty,F{k},C,C{k},{base}")?)?;
+        push_hours(alloc, book, 6, 8, 16)?;
     }
     if numbers.below(2) == 0 {
         push_busy_days(alloc, book, k, base)?;
@@ -88,11 +99,11 @@ fn push_duty(
     let day = numbers.below(4) + 4;
     let report = numbers.below(2) + 4 * numbers.below(2) + 6;
     let release = report + 4 * numbers.below(2) + 4;
-    let from = format!(in alloc; "2024-03-0{day}T{report:02}:00Z")?;
-    let to = format!(in alloc; "2024-03-0{day}T{release:02}:00Z")?;
-    book.push_str(&format!(in alloc; "duty,D{p},P,P{p},{station},{from},{to}\n")?)?;
+    book.push_str(&format!(in alloc; "duty,D{p},P,P{p},{station}")?)?;
+    push_hours(alloc, book, day, report, release)?;
     if numbers.below(2) == 0 {
-        book.push_str(&format!(in alloc; "sector,D{p},O,{from},{to}\n")?)?;
+        book.push_str(&format!(in alloc; "sector,D{p},O")?)?;
+        push_hours(alloc, book, day, report, release)?;
     }
     Ok(())
 }
@@ -129,20 +140,26 @@ fn push_pairing(
     push_costs(alloc, book, numbers, p, persons)
 }
 
-/// A book without a fault, of one to three persons and one to five pairings.
-fn random_book(alloc: Global, seed: u64) -> Result<String, AllocError> {
+/// The weight, and the rows of one to three persons and of one to five pairings.
+fn push_rows(alloc: Global, book: &mut String, seed: u64) -> Result<(), AllocError> {
     let mut numbers = Numbers { state: seed };
-    let mut book = String::from_str(alloc, "period,2024-03\nbase,BAS,UTC0\nbase,GVA,UTC0\n")?;
     let weight = numbers.one_of([0, 0, 1, 3]);
     book.push_str(&format!(in alloc; "weight,{weight}\n")?)?;
     let persons = numbers.below(3) + 1;
     let pairings = numbers.below(5) + 1;
     for k in 0..persons {
-        push_person(alloc, &mut book, &mut numbers, k)?;
+        push_person(alloc, book, &mut numbers, k)?;
     }
     for p in 0..pairings {
-        push_pairing(alloc, &mut book, &mut numbers, p, persons)?;
+        push_pairing(alloc, book, &mut numbers, p, persons)?;
     }
+    Ok(())
+}
+
+/// A book without a fault, of one to three persons and one to five pairings.
+fn random_book(alloc: Global, seed: u64) -> Result<String, AllocError> {
+    let mut book = String::from_str(alloc, "period,2024-03\nbase,BAS,UTC0\nbase,GVA,UTC0\n")?;
+    push_rows(alloc, &mut book, seed)?;
     Ok(book)
 }
 

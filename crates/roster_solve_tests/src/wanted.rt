@@ -34,11 +34,12 @@ impl Wanted for Nothing {
     }
 }
 
-/// The lines of the first person between the two sets, no more than `most`.
+/// The lines of the first person between the two sets, no more than `most`, of a problem that is gone
+/// then.
 fn between(
     rt: &impl Abort,
     alloc: Global,
-    problem: &Problem,
+    problem: Problem,
     must: &[usize],
     may: &[usize],
     most: usize,
@@ -46,7 +47,7 @@ fn between(
     requires { (0 < most) × (most ≤ MOST_LINES) }
 {
     assert!(rt; problem.persons().len() > 0);
-    lines_between(alloc, problem, 0, set_of(must), set_of(may), most)
+    lines_between(alloc, &problem, 0, set_of(must), set_of(may), most)
 }
 
 /// Whether the two have the same sets at the same cost.
@@ -62,14 +63,20 @@ fn are_same(a: &Lines, b: &Lines) -> bool {
     true
 }
 
+/// Checks that the lines between nothing and all pairings of the two days are all lines.
+fn are_all(rt: &impl Abort, alloc: Global, problem: &Problem) -> Result<(), Fail> {
+    assert!(rt; problem.persons().len() == 1);
+    let every = set_of(&[0, 1, 2, 3, 4, 5, 6, 7, 8, 9]);
+    let lines = lines_between(alloc, problem, 0, set_of(&[]), every, MOST_LINES)?;
+    let all = lines_of(alloc, problem, 0)?;
+    assert!(rt; are_same(&lines, &all));
+    Ok(())
+}
+
 #[test]
 fn between_nothing_and_all_are_all_lines(rt: HostRuntime) -> Result<(), Fail> {
     let problem = problem_of_days(rt.alloc(), &TWO_DAYS)?;
-    assert!(rt; problem.persons().len() == 1);
-    let all = [0, 1, 2, 3, 4, 5, 6, 7, 8, 9];
-    let lines = between(&rt, rt.alloc(), &problem, &[], &all, MOST_LINES)?;
-    assert!(rt; are_same(&lines, &lines_of(rt.alloc(), &problem, 0)?));
-    Ok(())
+    are_all(&rt, rt.alloc(), &problem)
 }
 
 /// Checks the lines that hold the eighth pairing, and may hold the first or the sixth, which is on the
@@ -87,25 +94,30 @@ fn go_by_the_sixth(rt: &impl Abort, lines: &Lines) {
 #[test]
 fn lines_hold_what_they_must(rt: HostRuntime) -> Result<(), Fail> {
     let problem = problem_of_days(rt.alloc(), &TWO_DAYS)?;
-    let lines = between(&rt, rt.alloc(), &problem, &[7], &[0, 5], MOST_LINES)?;
+    let lines = between(&rt, rt.alloc(), problem, &[7], &[0, 5], MOST_LINES)?;
     go_by_the_sixth(&rt, &lines);
     Ok(())
+}
+
+/// Checks the lines that hold the sixth pairing, and may hold the first or the last.
+fn end_by_the_sixth(rt: &impl Abort, lines: &Lines) {
+    assert!(rt; lines.width() == 4);
+    assert!(rt; lines.find(&set_of(&[0, 5])) == Some(2));
+    assert!(rt; lines.find(&set_of(&[5])) == Some(3));
 }
 
 #[test]
 fn nothing_stands_behind_what_is_missing(rt: HostRuntime) -> Result<(), Fail> {
     let problem = problem_of_days(rt.alloc(), &TWO_DAYS)?;
-    let lines = between(&rt, rt.alloc(), &problem, &[5], &[0, 9], 4)?;
-    assert!(rt; lines.width() == 4);
-    assert!(rt; lines.find(&set_of(&[0, 5])) == Some(2));
-    assert!(rt; lines.find(&set_of(&[5])) == Some(3));
+    let lines = between(&rt, rt.alloc(), problem, &[5], &[0, 9], 4)?;
+    end_by_the_sixth(&rt, &lines);
     Ok(())
 }
 
 #[test]
 fn more_lines_than_so_many_are_not_listed(rt: HostRuntime) -> Result<(), Fail> {
     let problem = problem_of_days(rt.alloc(), &TWO_DAYS)?;
-    let lines = between(&rt, rt.alloc(), &problem, &[5], &[0, 9], 3);
+    let lines = between(&rt, rt.alloc(), problem, &[5], &[0, 9], 3);
     assert!(rt; matches!(lines, Err(LinesFault::TooMany)));
     Ok(())
 }
@@ -122,18 +134,22 @@ fn cost_as_among_all(rt: &impl Abort, lines: &Lines) {
 #[test]
 fn lines_between_cost_what_they_do_among_all(rt: HostRuntime) -> Result<(), Fail> {
     let problem = problem_of(rt.alloc(), COSTS)?;
-    let lines = between(&rt, rt.alloc(), &problem, &[1], &[0], MOST_LINES)?;
+    let lines = between(&rt, rt.alloc(), problem, &[1], &[0], MOST_LINES)?;
     cost_as_among_all(&rt, &lines);
     Ok(())
+}
+
+/// The lines of the one person if nothing is wanted, of a problem that is gone then.
+fn with_nothing(rt: &impl Abort, alloc: Global, problem: Problem) -> Result<Lines, LinesFault> {
+    assert!(rt; problem.persons().len() == 1);
+    wanted_lines(alloc, &problem, 0, &Nothing, 1)
 }
 
 #[test]
 fn the_empty_line_is_there_if_nothing_is_wanted(rt: HostRuntime) -> Result<(), Fail> {
     let problem = problem_of_days(rt.alloc(), &TWO_DAYS)?;
-    assert!(rt; problem.persons().len() == 1);
-    let lines = wanted_lines(rt.alloc(), &problem, 0, &Nothing, 1)?;
-    assert!(rt; lines.width() == 1);
-    assert!(rt; lines.set(0).is_empty());
+    let lines = with_nothing(&rt, rt.alloc(), problem)?;
+    assert!(rt; lines.width() == 1 && lines.set(0).is_empty());
     Ok(())
 }
 
@@ -157,21 +173,22 @@ fn table_with_the_sixth<R: Abort + Threads + Sync>(
     wanted_table(alloc, problem, &pairs, &wanted, most)
 }
 
-/// Checks the table of those lines.
-fn has_the_sixth(rt: &impl Abort, problem: &Problem, table: &Table)
-    requires { AreListed problem.now table.now }
-{
+/// Checks the table of no more than four such lines.
+fn has_the_sixth<R: Abort + Threads + Sync>(
+    rt: &R,
+    alloc: Global,
+    problem: &Problem,
+) -> Result<(), Fail> {
     assert!(rt; problem.persons().len() == 1);
-    assert!(rt; table.width(0) == 4);
-    assert!(rt; table.find(0, &set_of(&[0, 5])) == Some(2));
+    let table = table_with_the_sixth(rt, alloc, problem, 4)?;
+    assert!(rt; table.width(0) == 4 && table.find(0, &set_of(&[0, 5])) == Some(2));
+    Ok(())
 }
 
 #[test]
 fn a_table_has_the_lines_that_are_wanted(rt: HostRuntime) -> Result<(), Fail> {
     let problem = problem_of_days(rt.alloc(), &TWO_DAYS)?;
-    let table = table_with_the_sixth(&rt, rt.alloc(), &problem, 4)?;
-    has_the_sixth(&rt, &problem, &table);
-    Ok(())
+    has_the_sixth(&rt, rt.alloc(), &problem)
 }
 
 #[test]
