@@ -106,12 +106,13 @@ impl Ascent {
     ) -> Result<Ascent, AllocError>
         requires { IsRegion problem.now region.now }
     {
-        let mut scope = Scope::nothing(alloc);
-        scope.look(problem, region, prices.prices())?;
+        let scope = Scope::new(alloc, problem, region, prices.prices())?;
+        let look = Look::new(alloc, prices.prices().len())?;
+        let (now, best, sure) = starts(alloc, prices)?;
         Ok(Ascent {
-            now: prices.copy(alloc)?,
-            best: Reached::nothing(alloc, prices)?,
-            sure: Reached::nothing(alloc, prices)?,
+            now,
+            best,
+            sure,
             fixed: None,
             stalled: 0,
             patience,
@@ -120,7 +121,7 @@ impl Ascent {
             stays: false,
             scope,
             near: NearLines::all(alloc),
-            look: Look::new(alloc, prices.prices().len())?,
+            look,
             looks: Vec::new(alloc),
             amounts: Vec::new(alloc),
         })
@@ -275,6 +276,17 @@ impl Ascent {
         let prices = self.now.prices();
         rounded_among(alloc, problem, region, &self.near, prices, room, turn)
     }
+}
+
+/// Prices to be moved, and what is reached by them, at best and for sure.
+fn starts(
+    alloc: Global,
+    prices: &DualPrices,
+) -> Result<(DualPrices, Reached, Reached), AllocError> {
+    let now = prices.copy(alloc)?;
+    let best = Reached::nothing(alloc, prices)?;
+    let sure = Reached::nothing(alloc, prices)?;
+    Ok((now, best, sure))
 }
 
 /// How large a part it is to leave a pairing open, if it has this price and this penalty.

@@ -30,10 +30,23 @@ pub fn branch(
 ) -> Result<(usize, usize), AllocError>
     requires { IsRegion problem.now region.now }
 {
-    let mut scope = Scope::nothing(alloc);
-    scope.look(problem, region, prices.prices())?;
+    let scope = Scope::new(alloc, problem, region, prices.prices())?;
     let crowds = crowds(alloc, problem, region, &scope)?;
     let mut look = Look::new(alloc, problem.pairings().len())?;
+    branch_in(problem, region, prices, &scope, &crowds, &mut look)
+}
+
+/// `branch`, by a look at each person of the scope.
+fn branch_in(
+    problem: &Problem,
+    region: &Region,
+    prices: &DualPrices,
+    scope: &Scope,
+    crowds: &[u64],
+    look: &mut Look,
+) -> Result<(usize, usize), AllocError>
+    requires { IsRegion problem.now region.now }
+{
     let softness = prices.softness().saturating_add(1);
     let mut best = Candidate {
         weight: u64::MAX,
@@ -45,8 +58,8 @@ pub fn branch(
         if k < problem.persons().len() && region.width(k) > 1 {
             look.clear(scope.pairings());
             let choices = PersonLines::All(region.choices(k));
-            look.add(&choices, &scope, prices.prices(), softness)?;
-            best = better(region, &look, &scope, &crowds, k, best);
+            look.add(&choices, scope, prices.prices(), softness)?;
+            best = better(region, look, scope, crowds, k, best);
         }
     }
     Ok((best.k, best.p))

@@ -14,7 +14,7 @@ use std::alloc::{AllocError, Global};
 use std::thread::{Threads, for_each_mut};
 
 /// What a look at all lines is to find out.
-#[derive(Clone, Copy, Debug)]
+#[derive(Clone, Copy)]
 struct Turn {
     // It ends steps on a sample.
     from_sample: bool,
@@ -66,17 +66,30 @@ impl Ascent {
             return Ok(false);
         }
         let turn = self.turn(alloc, problem, region)?;
-        for _ in self.looks.len()..threads {
-            self.looks
-                .push(Look::new(alloc, problem.pairings().len())?)?;
-        }
-        let (prices, scope, reach) = (&self.now, &self.scope, turn.reach);
+        self.look_whole_by_threads(rt, alloc, threads, problem, region, turn.reach)?;
+        Ok(self.noted(problem, region, room, turn))
+    }
+
+    // Looks at all lines by so many threads, and lists those within the reach if there is one.
+    fn look_whole_by_threads<R: Threads + Sync>(
+        &mut self,
+        rt: &R,
+        alloc: Global,
+        threads: usize,
+        problem: &Problem,
+        region: &Region,
+        reach: Option<i64>,
+    ) -> Result<(), AllocError>
+        requires region { IsRegion problem.now region.now }
+        requires threads { 0 < threads }
+    {
+        add_looks(alloc, &mut self.looks, threads, problem.pairings().len())?;
+        let (prices, scope) = (&self.now, &self.scope);
         let look = |nth: usize, look: &mut Look|
             requires { IsRegion problem.now region.now × (0 < threads) }
         { look.at_every(alloc, problem, region, prices, scope, reach, nth, threads) };
         for_each_mut(rt, &mut self.looks, threads, &look);
-        self.gather()?;
-        Ok(self.noted(problem, region, room, turn))
+        self.gather()
     }
 
     // Puts together what threads have looked at.
@@ -281,4 +294,17 @@ impl Ascent {
         }
         Ok(())
     }
+}
+
+/// Adds looks until there is one for each of so many threads.
+fn add_looks(
+    alloc: Global,
+    looks: &mut Vec<Look>,
+    threads: usize,
+    pairings: usize,
+) -> Result<(), AllocError> {
+    for _ in looks.len()..threads {
+        looks.push(Look::new(alloc, pairings)?)?;
+    }
+    Ok(())
 }

@@ -33,7 +33,7 @@ impl<'a> ChoiceList for Rows<'a> {
 }
 
 /// Choices that stand in a list of their own.
-#[derive(Clone, Copy, Debug)]
+#[derive(Clone, Copy)]
 pub(crate) struct Written<'a> {
     choices: &'a [Choice],
 }
@@ -55,7 +55,7 @@ impl<'a> ChoiceList for Written<'a> {
 }
 
 /// The lines of a person, as a tree: each choice stands behind those that it goes on from.
-#[derive(Debug, Drop)]
+#[derive(Drop)]
 pub(crate) enum PersonLines<'a> {
     /// All that the region has.
     All(Choices<'a>),

@@ -17,7 +17,7 @@ use std::alloc::{AllocError, Global};
 const MUST: i64 = 1 << 50;
 
 /// What each person has on the way to a roster, by the number of its choice.
-#[derive(Debug, Drop)]
+#[derive(Drop)]
 struct Draft {
     chosen: Vec<usize>,
     nobody: u16,
