@@ -8,13 +8,13 @@ ghost use Rattle.roster_bounds.specs.Chosen.{priced_table};
 
 use crate::books::{AS_EQUAL, EQUAL_SHARES};
 use crate::spans::{all_open, is, searched};
+use roster_bases::search_bases;
 use roster_bounds::Tables;
 use roster_branchtree::{Path, Sight, Span};
 use roster_lines::table_of;
 use roster_linetable::Table;
 use roster_problem::{Problem, Roster};
 use roster_sample_books::problem_of;
-use roster_search::search_bases;
 use std::alloc::{AllocError, Global};
 use std::sync::Arc;
 use std::test::Fail;

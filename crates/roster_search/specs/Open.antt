@@ -4,8 +4,6 @@ use Rattle.roster_model.specs.Problem.{Problem}
 use Rattle.roster_model.specs.Settled.{IsFoundWithin, IsWithinCost}
 use Rattle.roster_regions.specs.Bounds.{CostsAtMost}
 use Rattle.roster_regions.specs.Regions.{size_of, IsIn, IsRegion, Region}
-use Rattle.roster_search.specs.declared.exploring.Explored.{Explored}
-use Rattle.roster_search.specs.declared.exploring.Explored.TheVariants.{Found, Open}
 use Rattle.roster_search.specs.declared.visiting.Visited.{Visited}
 use Rattle.roster_search.specs.declared.visiting.Visited.TheVariants.{Ended, Parted}
 
@@ -38,17 +36,3 @@ pub record AreOpenOf (problem : Problem) (Rosters : List ℕ → Type 0) (most :
   pub inside : (places : List ℕ) → IsInSome problem left places → Rosters places
   pub all : (places : List ℕ) → Rosters places → CostsAtMost problem most places
       → IsInSome problem left places
-
--- one of the rosters that costs at most so much, or what is left to search of them
-abbrev pub IsExplored : Problem → (List ℕ → Type 0) → ℤ → Explored → Type 0
-IsExplored problem Rosters most (Found roster) = IsWithinCost problem Rosters most roster
-IsExplored problem Rosters most (Open nodes) = AreOpenOf problem Rosters most nodes.items
-
--- the regions are shared out into two lists
-pub record AreDealt (problem : Problem) (nodes mine theirs : List Region) : Type 0 where
-  pub are_mine : All (IsRegion problem) mine
-  pub are_theirs : All (IsRegion problem) theirs
-  pub all : (places : List ℕ) → IsInSome problem nodes places
-      → IsInSome problem mine places ⊎ IsInSome problem theirs places
-  pub inside : (places : List ℕ) → IsInSome problem mine places ⊎ IsInSome problem theirs places
-      → IsInSome problem nodes places

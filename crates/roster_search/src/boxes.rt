@@ -1,25 +1,23 @@
 //! The least roster of a box.
 
-ghost use Rattle.std.specs.Prelude.{◌≡◌, ◌+◌, ◌<◌, false, true, not};
+ghost use Rattle.std.specs.Prelude.{◌≡◌, ◌+◌, false, true, not};
 ghost use Rattle.std.specs.Prelude.{IfOk, MatchOption, Some, length, unwrap_or};
-ghost use Rattle.roster_linetable.specs.Person.{AreListed, IsTableOf};
+ghost use Rattle.roster_linetable.specs.Person.{AreListed};
 ghost use Rattle.roster_model.specs.Rosters.{key_le, key_of};
-ghost use Rattle.roster_model.specs.Settled.{Anywhere, IsHeld, Settles};
+ghost use Rattle.roster_model.specs.Settled.{IsHeld, Settles};
 ghost use Rattle.roster_regions.specs.Regions.{IsInRanges};
 ghost use Rattle.roster_search.specs.Least.{IsBefore, IsLeast};
 ghost use Rattle.roster_search.specs.Parts.{before, AreBaseParts, AreWhole, IsInPart, IsWithoutPart};
 
 use crate::finder::Finder;
 use crate::least::costs_fit;
-use crate::nodes::{Nodes, Unseen};
-use crate::parts::{all_open, merged};
-use crate::shared::{Part, least_at, parts_by_threads};
+use crate::nodes::Nodes;
+use crate::parts::{Part, all_open, least_at, merged};
 use roster_cost::{Key, order_of_keys, roster_cost, shares_add_up};
-use roster_linetable::{Table, all_lines_are_some};
+use roster_linetable::Table;
 use roster_model::limits::MOST_BASES;
 use roster_problem::{Places, Problem, Roster};
 use std::alloc::{AllocError, Global};
-use std::thread::Threads;
 
 /// The least roster of the box, with its cost, if its key is before that of the known roster. The box has
 /// the legal rosters in which each person has a line of the table, whose number is in the person's range:
@@ -47,32 +45,8 @@ pub fn least_of_box<N: Nodes>(
     least_with(alloc, problem, table, ranges, &[], known, nodes)
 }
 
-/// The least roster of all, with its cost, if its key is before that of the known roster; so many threads
-/// search the bases, each of them the next one until none is left, and then help the others.
-pub fn search_bases<R: Threads + Sync>(
-    rt: &R,
-    alloc: Global,
-    problem: &Problem,
-    table: &Table,
-    known: &Roster,
-    threads: usize,
-) -> Result<Option<Roster>, AllocError>
-    requires table { IsTableOf problem.now table.now }
-    requires known { IsHeld problem.now known.now }
-    requires threads { 0 < threads }
-    ensures settled { IfOk result (λ found. Settles problem.now Anywhere Anywhere
-        (Some known.now) (unwrap_or found known.now)) }
-    ensures before { IfOk result (IsBefore known.now) }
-{
-    all_lines_are_some();
-    let ranges = whole(alloc, problem, table)?;
-    let ranges = ranges.as_slice();
-    let parts = parts_by_threads(rt, alloc, problem, table, ranges, threads)?;
-    least_with(alloc, problem, table, ranges, &parts, known, &mut Unseen)
-}
-
 /// The range of all lines, for each person.
-pub(crate) fn whole(
+pub fn whole(
     alloc: Global,
     problem: &Problem,
     table: &Table,
@@ -88,7 +62,7 @@ pub(crate) fn whole(
 }
 
 /// `least_of_box`, if the least rosters of some bases are known.
-pub(crate) fn least_with<F: Finder>(
+pub fn least_with<F: Finder>(
     alloc: Global,
     problem: &Problem,
     table: &Table,

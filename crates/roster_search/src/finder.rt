@@ -14,7 +14,7 @@ use std::alloc::{AllocError, Global};
 
 /// Answers whether a region has a roster that costs at most so much: one thread, whose nodes are counted, or
 /// several.
-pub(crate) trait Finder {
+pub trait Finder {
     /// Whether it may be asked.
     ghost may_find: { Type 0 };
 

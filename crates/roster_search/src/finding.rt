@@ -13,7 +13,7 @@ use std::alloc::{AllocError, Global};
 /// them costs more.
 ///
 /// It is a branch and bound, depth first.
-pub(crate) fn find<N: Nodes>(
+pub fn find<N: Nodes>(
     alloc: Global,
     problem: &Problem,
     node: OpenNode,

@@ -5,10 +5,10 @@ ghost use Rattle.roster_linetable.specs.Person.{AreListed};
 ghost use Rattle.roster_search.specs.Limited.{IsSearched};
 
 use crate::boxes::whole;
-use crate::exploring::{MOST_NODES, lines_of_last, visit_last};
 use crate::finder::Finder;
 use crate::least::least;
 use crate::root::root_prices;
+use crate::stack::{MOST_NODES, lines_of_last, visit_last};
 use crate::visiting::OpenNode;
 use roster_linetable::Table;
 use roster_prices::DualPrices;

@@ -17,7 +17,7 @@ pub trait Nodes {
 
 /// Nodes that nobody counts.
 #[derive(Drop)]
-pub(crate) struct Unseen;
+pub struct Unseen;
 
 impl Nodes for Unseen {
     ghost goes_on = { λ old new. Unit };

@@ -3,23 +3,60 @@
 ghost use Rattle.std.specs.Prelude.{◌≡◌, ◌<◌, ◌<ℤ◌, ◌^◌, ◌-◌, ◌==◌, IfOk, length, pos, replicate};
 ghost use Rattle.roster_linetable.specs.Person.{AreListed};
 ghost use Rattle.roster_search.specs.Least.{IsLeastBelow};
-ghost use Rattle.roster_search.specs.Parts.{merge, AreOwnRanges, IsInPart, IsRegionOfPart};
+ghost use Rattle.roster_search.specs.Parts.{merge, AreBaseParts, AreOwnRanges, IsInPart, IsRegionOfPart};
 
-use crate::crew::Crew;
 use crate::finder::Finder;
 use crate::least::least;
-use crate::root::{RootPrices, root_prices, root_prices_by_threads};
+use crate::root::{RootPrices, root_prices};
 use roster_linetable::Table;
 use roster_prices::DualPrices;
 use roster_problem::{Problem, Roster, open_number};
 use roster_regions::Region;
 use std::alloc::{AllocError, Global};
-use std::sync::atomic::AtomicUsize;
-use std::thread::Threads;
+
+/// A base, and the least roster in which only its persons fly, if there is one.
+pub type Part = (usize, Option<Roster>);
+
+/// `least_of_base`, which is looked up among the parts first.
+pub(crate) fn least_at<F: Finder>(
+    alloc: Global,
+    problem: &Problem,
+    table: &Table,
+    ranges: &[(usize, usize)],
+    parts: &[Part],
+    base: usize,
+    finder: &mut F,
+) -> Result<Option<Roster>, AllocError>
+    requires finder { F.may_find }
+    requires table { AreListed problem.now table.now }
+    requires ranges { length ranges.now ≡ length table.now }
+    requires parts { AreBaseParts problem.now table.now ranges.now parts.now }
+    ensures least { IfOk result (IsLeastBelow problem.now
+        (IsInPart problem.now table.now ranges.now (λ b. b == base)) (pos (2 ^ 63 - 1))) }
+    ensures goes_on { F.goes_on finder.old finder.new }
+{
+    for i in 0..parts.len() {
+        let part = &parts[i];
+        if part.0 == base {
+            return copy_if(alloc, &part.1);
+        }
+    }
+    least_of_base(alloc, problem, table, ranges, base, finder)
+}
+
+/// The same roster again, if there is one.
+fn copy_if(alloc: Global, roster: &Option<Roster>) -> Result<Option<Roster>, AllocError>
+    ensures { IfOk result (λ copy. copy ≡ roster.now) }
+{
+    match roster {
+        Some(roster) => Ok(Some(roster.copy(alloc)?)),
+        None => Ok(None),
+    }
+}
 
 /// The least roster in which the persons of one base have lines in their ranges and all others no pairing,
 /// if there is one.
-pub(crate) fn least_of_base<F: Finder>(
+fn least_of_base<F: Finder>(
     alloc: Global,
     problem: &Problem,
     table: &Table,
@@ -40,41 +77,8 @@ pub(crate) fn least_of_base<F: Finder>(
     least_in(alloc, problem, table, ranges, base, region, root, finder)
 }
 
-/// `least_of_base`, for which so many threads look at the lines; those that have nothing to do help to
-/// search.
-pub(crate) fn least_of_base_by_threads<R: Threads + Sync>(
-    rt: &R,
-    alloc: Global,
-    threads: usize,
-    idle: &AtomicUsize,
-    problem: &Problem,
-    table: &Table,
-    ranges: &[(usize, usize)],
-    base: usize,
-) -> Result<Option<Roster>, AllocError>
-    requires table { AreListed problem.now table.now }
-    requires ranges { length ranges.now ≡ length table.now }
-    requires threads { 0 < threads }
-    ensures { IfOk result (IsLeastBelow problem.now
-        (IsInPart problem.now table.now ranges.now (λ b. b == base)) (pos (2 ^ 63 - 1))) }
-{
-    let region = region_of_base(alloc, problem, table, ranges, base)?;
-    let first = DualPrices::of_penalties(alloc, problem, &region)?;
-    let root = root_prices_by_threads(rt, alloc, threads, problem, &region, &first, i64::MAX)?;
-    least_in(
-        alloc,
-        problem,
-        table,
-        ranges,
-        base,
-        region,
-        root,
-        &mut Crew::new(rt, idle),
-    )
-}
-
 /// The region of the base.
-pub(crate) fn region_of_base(
+pub fn region_of_base(
     alloc: Global,
     problem: &Problem,
     table: &Table,
@@ -90,7 +94,7 @@ pub(crate) fn region_of_base(
 }
 
 /// The least roster of the base, in its region.
-fn least_in<F: Finder>(
+pub fn least_in<F: Finder>(
     alloc: Global,
     problem: &Problem,
     table: &Table,

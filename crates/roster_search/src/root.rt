@@ -14,7 +14,7 @@ use std::thread::Threads;
 /// Good prices for a region, what its least roster likely costs, and the places of the cheapest one that was
 /// rounded. Nothing rests on any of them.
 #[derive(Debug, Drop)]
-pub(crate) struct RootPrices {
+pub struct RootPrices {
     pub(crate) prices: DualPrices,
     pub(crate) likely: i64,
     pub(crate) rounded: Option<Vec<u16>>,
@@ -37,7 +37,7 @@ pub(crate) fn root_prices(
 }
 
 /// `root_prices`, for which so many threads look at the lines. It comes to the same.
-pub(crate) fn root_prices_by_threads<R: Threads + Sync>(
+pub fn root_prices_by_threads<R: Threads + Sync>(
     rt: &R,
     alloc: Global,
     threads: usize,

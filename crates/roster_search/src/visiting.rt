@@ -16,7 +16,7 @@ use std::marker::Model;
 /// A region that is still to be searched. Any prices will do for it; good ones make it short. Contracts see
 /// only the region.
 #[derive(Drop)]
-pub(crate) struct OpenNode {
+pub struct OpenNode {
     region: Region,
     prices: DualPrices,
 }
@@ -31,7 +31,7 @@ impl Model for OpenNode {
 
 impl OpenNode {
     /// The region, with these prices to begin with.
-    pub(crate) fn new(region: Region, prices: DualPrices) -> OpenNode
+    pub fn new(region: Region, prices: DualPrices) -> OpenNode
         ensures { result ≡ region }
     {
         OpenNode { region, prices }
