@@ -1,7 +1,7 @@
 -- Dates, and the numbers of their days.
-use Rattle.std.proofs.Common.{◌≡◌, ◌∙◌, ℕ, ◌+◌, ◌-◌, ◌<◌, ◌≤◌, true, pos, ◌≤ℤ◌, arith, to_z, w8, w16, inl, inr, Result, Ok, Err, Some}
+use Rattle.std.proofs.Common.{◌≡◌, ◌∙◌, ℕ, ◌+◌, ◌-◌, ◌<◌, ◌≤◌, true, pos, ◌≤ℤ◌, arith, to_z, w8, w16, inl, inr, Result, Ok, Err, IsOk, None, Some}
 use Rattle.std.specs.Result.{result_ok}
-use Rattle.std.proofs.lemmas.Bool.{and_from, le-leb, cases_lt}
+use Rattle.std.proofs.lemmas.Bool.{and_from, and_parts, le-leb, leb-true, cases_lt}
 use Rattle.std.proofs.lemmas.Int.{ints}
 use Rattle.std.specs.Int.{is_in_range}
 use Rattle.jiff_core.proofs.CalendarLemmas.{day_count-epoch, days_from_civil-day_count, day_count-day_of_year, day_count-later_year, day_count-end, days_in_year_bounds, days_of_months_mono, days_of_months_all}
@@ -23,6 +23,19 @@ pub is_real_from_date : (year month day : ℕ) → IsDate (pos year) (pos month)
 is_real_from_date year month day is =
     and_from _ _ (is_between 1 12 month is.1.0 is.1.1)
     (is_between 1 (days_in_month (pos year) month) day is.2.0 is.2.1)
+
+-- and a day of the calendar, up to that year, is a date that `jiff` has
+pub date_from_is_real : (year month day : ℕ) → year ≤ LAST_YEAR → is_real_date year month day ≡ true
+    → IsDate (pos year) (pos month) (pos day)
+date_from_is_real year month day to real =
+    let both = and_parts _ _ real in
+    let months = and_parts _ _ both.0 in
+    let days = and_parts _ _ both.1 in
+    let first = leb-true 1 month months.0 in
+    let last = leb-true month 12 months.1 in
+    let from = leb-true 1 day days.0 in
+    let up_to = leb-true day (days_in_month (pos year) month) days.1 in
+    ((omega (arith, ints), omega (arith, ints)), (omega (arith, ints), omega (arith, ints)), (omega (arith, ints), omega (arith, ints)))
 
 -- the days up to the first of a year, from 1970 on
 first_count : (year : ℕ) → 1970 ≤ year → 4_371_953 ≤ day_count (pos year) 1 1
@@ -65,6 +78,11 @@ day_of_date date year month day from is =
 pub Ok-from_ok : {T E : Type 0} (r : Result T E) (x : T) → Some x ≡ result_ok r → r ≡ Ok x
 Ok-from_ok (Ok y) x e = cc
 Ok-from_ok (Err d) x e = cc
+
+-- and what it does not
+pub not_Ok : {T E : Type 0} (r : Result T E) → None ≡ result_ok r → IsOk r → ⊥
+not_Ok (Ok y) e ok = cc
+not_Ok (Err d) e ok = cc
 
 -- a number below 10000 in a signed type
 pub year_in_i16 : (n : ℕ) → n ≤ LAST_YEAR → to_z w16 n ≡ pos n

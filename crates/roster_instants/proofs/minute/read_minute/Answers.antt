@@ -10,9 +10,29 @@ pub returns-then-not-has_shape : goal.returns-then-not-has_shape
 returns-then-not-has_shape c =
     instant-unshaped c.args.text.now (sym c.has_shape.ensures.value ∙ c.if-not-has_shape.true)
 
+pub number_at-year-requires-clause-digits : goal.number_at-year-requires-clause-digits
+number_at-year-requires-clause-digits c =
+    digits_at (codes "0000-00-00T00:00Z") c.args.text.now 0 4 refl
+    (sym c.has_shape.ensures.value ∙ c.if-not-has_shape.false)
+
+pub number_at-hour-requires-clause-digits : goal.number_at-hour-requires-clause-digits
+number_at-hour-requires-clause-digits c =
+    digits_at (codes "0000-00-00T00:00Z") c.args.text.now 11 13 refl
+    (sym c.has_shape.ensures.value ∙ c.if-not-has_shape.false)
+
 pub number_at-minute-requires-clause-digits : goal.number_at-minute-requires-clause-digits
 number_at-minute-requires-clause-digits c =
     digits_at (codes "0000-00-00T00:00Z") c.args.text.now 14 16 refl
+    (sym c.has_shape.ensures.value ∙ c.if-not-has_shape.false)
+
+pub number_at-requires-clause-digits : goal.number_at-requires-clause-digits
+number_at-requires-clause-digits c =
+    digits_at (codes "0000-00-00T00:00Z") c.args.text.now 5 7 refl
+    (sym c.has_shape.ensures.value ∙ c.if-not-has_shape.false)
+
+pub number_at-requires-2-clause-digits : goal.number_at-requires-2-clause-digits
+number_at-requires-2-clause-digits c =
+    digits_at (codes "0000-00-00T00:00Z") c.args.text.now 8 10 refl
     (sym c.has_shape.ensures.value ∙ c.if-not-has_shape.false)
 
 pub returns-then-not-is_in_range : goal.returns-then-not-is_in_range

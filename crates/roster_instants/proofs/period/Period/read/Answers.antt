@@ -1,6 +1,7 @@
-use Rattle.std.proofs.Common.{◌∙◌, sym, ap, Some}
+use Rattle.std.proofs.Common.{◌∙◌, sym, ap, Some, codes, refl}
 use Rattle.roster_model.specs.Calendar.{Period}
 use Rattle.std.specs.Int.{is_in_range}
+use Rattle.roster_instants.proofs.TextLemmas.{digits_at}
 use Rattle.roster_instants.proofs.CalendarLemmas.{period-unshaped, period-no_year, period-no_month, period-read, same_period}
 use Rattle.roster_model.specs.declared.limits.TheConstants.{FIRST_MONTH_YEAR, LAST_MONTH_YEAR}
 use Rattle.roster_instants.proofs.period.Period.read.Goals as goal
@@ -9,6 +10,16 @@ use Rattle.roster_instants.proofs.period.Period.read.Goals.{then-not-is_in_range
 pub returns-then-not-has_shape : goal.returns-then-not-has_shape
 returns-then-not-has_shape c =
     period-unshaped c.args.text.now (sym c.has_shape.ensures.value ∙ c.if-not-has_shape.true)
+
+pub number_at-year-requires-clause-digits : goal.number_at-year-requires-clause-digits
+number_at-year-requires-clause-digits c =
+    digits_at (codes "0000-00") c.args.text.now 0 4 refl
+    (sym c.has_shape.ensures.value ∙ c.if-not-has_shape.false)
+
+pub number_at-month-requires-clause-digits : goal.number_at-month-requires-clause-digits
+number_at-month-requires-clause-digits c =
+    digits_at (codes "0000-00") c.args.text.now 5 7 refl
+    (sym c.has_shape.ensures.value ∙ c.if-not-has_shape.false)
 
 pub returns-then-not-is_in_range : goal.returns-then-not-is_in_range
 returns-then-not-is_in_range c =
