@@ -150,11 +150,11 @@ impl Board {
         ensures part { IfOk result (λ piece. piece ≡ lower span.now) }
         ensures same { OnErr result (self.new ≡ self.old) }
     {
-        let middle = span.lo + (span.hi - span.lo) / 2;
-        let kept = part_of(self.alloc, span, span.lo, middle)?;
-        let lower = part_of(self.alloc, span, span.lo, middle)?;
-        let upper = part_of(self.alloc, span, middle, span.hi)?;
         self.pending.reserve(1)?;
+        let middle = span.lo + (span.hi - span.lo) / 2;
+        let lower = part_of(self.alloc, span, span.lo, middle)?;
+        let (lower, kept) = with_copy(self.alloc, lower)?;
+        let upper = part_of(self.alloc, span, middle, span.hi)?;
         self.pending.push_reserved(upper);
         self.hands[worker] = Some(lower);
         Ok(Piece::of(kept))
@@ -169,8 +169,8 @@ impl Board {
         ensures same { OnErr result (self.new ≡ self.old) }
     {
         let width = self.widths[span.path.as_slice().len() + 1];
-        let kept = below(self.alloc, span, width)?;
         let lower = below(self.alloc, span, width)?;
+        let (lower, kept) = with_copy(self.alloc, lower)?;
         self.hands[worker] = Some(lower);
         Ok(Piece::of(kept))
     }
@@ -181,8 +181,8 @@ impl Board {
         ensures step { IfOk result (λ _. step self.old (Event.Back worker) ≡ Some self.new) }
         ensures same { OnErr result (self.new ≡ self.old) }
     {
-        let pending = copy_of(self.alloc, span)?;
         self.pending.reserve(1)?;
+        let pending = copy_of(self.alloc, span)?;
         self.pending.push_reserved(pending);
         self.hands[worker] = None;
         Ok(())
@@ -194,8 +194,8 @@ impl Board {
         ensures step { IfOk result (λ _. step self.old (Event.Finish worker) ≡ Some self.new) }
         ensures same { OnErr result (self.new ≡ self.old) }
     {
-        let finished = copy_of(self.alloc, span)?;
         self.finished.reserve(1)?;
+        let finished = copy_of(self.alloc, span)?;
         self.finished.push_reserved((worker, finished));
         self.hands[worker] = None;
         Ok(())
@@ -259,6 +259,14 @@ pub(crate) fn copy_of(alloc: Global, span: &Span) -> Result<Span, AllocError>
     ensures { IfOk result (λ copy. copy ≡ span.now) }
 {
     part_of(alloc, span, span.lo, span.hi)
+}
+
+/// The span, and the same again.
+fn with_copy(alloc: Global, span: Span) -> Result<(Span, Span), AllocError>
+    ensures { IfOk result (λ both. (both.0 ≡ span) × (both.1 ≡ span)) }
+{
+    let copy = copy_of(alloc, &span)?;
+    Ok((span, copy))
 }
 
 /// The path with the first line of the range, and so many lines of the next person.
