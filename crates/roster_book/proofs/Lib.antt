@@ -1,6 +1,7 @@
 pub mod Fields
 pub mod FormFacts
 pub mod Gather
+pub mod KindFound
 pub mod SectorTable
 pub mod Tables
 pub mod Drafts

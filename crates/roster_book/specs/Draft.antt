@@ -4,7 +4,7 @@ use Rattle.roster_model.specs.Record.{Record, Command, next_row}
 use Rattle.roster_model.specs.Code as model
 use Rattle.roster_model.specs.Calendar.{Days}
 use Rattle.roster_model.specs.Zone.{ZoneRefusal}
-use Rattle.roster_model.specs.Problem.{Problem, tables_in}
+use Rattle.roster_model.specs.Problem.{Problem, in_order, tables_in}
 use Rattle.roster_model.specs.Faults.{IsFaultlessSoFar, code_of}
 use Rattle.roster_model.specs.records.Base.{Base, base_at}
 use Rattle.roster_model.specs.records.Assign.{Assign, assigns_in}
@@ -23,6 +23,10 @@ use Rattle.roster_problem.specs.declared.step.Step.{Step}
 -- the tables, with the duties that are kept apart
 abbrev pub tables_of_draft : Draft → Problem
 tables_of_draft d = record (tables_of d.tables) { duties = d.duties }
+
+-- the same, with the duties in their order in time
+abbrev pub problem_of_draft : Draft → Problem
+problem_of_draft d = record (tables_of_draft d) { duties = in_order d.duties }
 
 -- what is kept: the tables, who is assigned to pairings, and the steps
 pub record Contents : Type 0 where

@@ -1,5 +1,5 @@
 -- How the definitions see this crate's enums, and how a refusal is told.
-use Rattle.std.specs.Prelude.{◌≡◌, ℕ, Option, Some, None}
+use Rattle.std.specs.Prelude.{◌≡◌, ℕ, Bool, true, false, Option, Some, None}
 use Rattle.roster_book.specs.declared.code.Code.{Code}
 use Rattle.roster_book.specs.declared.code.Code.TheVariants as codes
 use Rattle.roster_book.specs.declared.fault.BookFault.{BookFault}
@@ -43,6 +43,14 @@ kind_of kinds.Leave = record_model.LeaveRecord
 kind_of kinds.Cost = record_model.CostRecord
 kind_of kinds.Assign = record_model.AssignRecord
 kind_of kinds.Step = record_model.StepRecord
+
+-- a book for the command may have records of the kind
+abbrev pub is_for : record_model.Kind → record_model.Command → Bool
+is_for record_model.AssignRecord record_model.Check = true
+is_for record_model.AssignRecord command = false
+is_for record_model.StepRecord record_model.Replay = true
+is_for record_model.StepRecord command = false
+is_for kind command = true
 
 abbrev pub move_of : Move → replayed.Move
 move_of moves.Take = replayed.ToTake

@@ -1,19 +1,20 @@
 //! What is kept of the records taken so far.
 
 ghost use Rattle.std.specs.Prelude.{◌≡◌, ◌≢◌, ◌<◌, ◌∷◌, [], ℕ, List, Option, Some, None, MatchResult, IfErr};
-ghost use Rattle.std.specs.Prelude.{IsErrOf, option_map, vec_len};
+ghost use Rattle.std.specs.Prelude.{IfOk, IsErrOf, option_map, vec_len};
 ghost use Rattle.std.specs.List.{list_any};
 ghost use Rattle.csv.specs.Records.{fields_of};
 ghost use Rattle.roster_model.specs.Code as model;
 ghost use Rattle.roster_model.specs.Record as records;
 ghost use Rattle.roster_model.specs.Record.{Record};
 ghost use Rattle.roster_model.specs.Problem.{home_of};
-ghost use Rattle.roster_model.specs.Faults.{code_of, first_fault, pairing_without_duty};
+ghost use Rattle.roster_model.specs.Faults.{code_of, first_fault, pairing_without_duty, IsFaultless};
 ghost use Rattle.roster_model.specs.records.Pairing as pairings;
 ghost use Rattle.roster_model.specs.records.Duty.{is_held_by_pairing, last_duty};
 ghost use Rattle.roster_book.specs.Draft.{HasRecords, IsDraftOf, Judges, Pushes, base_of_pairing};
-ghost use Rattle.roster_book.specs.Draft.{contents_of, tables_of_draft};
+ghost use Rattle.roster_book.specs.Draft.{contents_of, problem_of_draft, tables_of_draft};
 ghost use Rattle.roster_book.specs.Reading.{IsBookOf, TellsFirst};
+ghost use Rattle.roster_problem.specs.Sound.{IsSound};
 ghost use Rattle.roster_problem.specs.View.{command_of};
 ghost use Rattle.roster_book.specs.View as view;
 
@@ -25,8 +26,8 @@ use crate::record::assign::Assign;
 use crate::record::period;
 use crate::refusal::Refusal;
 use csv::ByteRecord;
-use roster_problem::{Base, BookTables, Command, Duty, Holder, Problem, Steps};
-use std::alloc::Global;
+use roster_problem::{Base, BookTables, Command, Duty, Holder, Places, Problem, Steps};
+use std::alloc::{AllocError, Global};
 
 /// The tables of the records taken so far, who is assigned to pairings, and the steps. Duties are in the
 /// order of their records.
@@ -89,11 +90,20 @@ impl Draft {
             return Err(Refusal::Fault(Code::NoDuty).at(row));
         }
         let assigned = self.assigned(alloc)?;
+        Ok(self.with_roster(alloc, assigned)?)
+    }
+
+    // The book with this roster. Its records have no fault.
+    fn with_roster(self, alloc: Global, assigned: Places) -> Result<Book, AllocError>
+        requires sound { IsSound (problem_of_draft self) }
+        requires faultless { IsFaultless (problem_of_draft self) }
+        ensures { IfOk result (λ book. (book.problem ≡ problem_of_draft self)
+            × (book.assigned ≡ assigned) × (book.steps ≡ self.steps)) }
+    {
         let mut tables = self.tables;
         tables.duties = self.duties.into_vec();
-        let problem = Problem::new(alloc, tables)?;
         Ok(Book {
-            problem,
+            problem: Problem::new(alloc, tables)?,
             assigned,
             steps: self.steps,
         })

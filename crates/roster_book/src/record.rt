@@ -3,11 +3,11 @@
 
 ghost use Rattle.std.specs.Prelude.{◌≡◌, List, option_map};
 ghost use Rattle.csv.specs.Records.{fields_of};
-ghost use Rattle.roster_model.specs.Record.{Record, PeriodRecord, is_of};
+ghost use Rattle.roster_model.specs.Record.{Record, PeriodRecord, is_of, word_of};
 ghost use Rattle.roster_model.specs.Faults.{kind_in};
 ghost use Rattle.roster_problem.specs.View.{command_of};
 ghost use Rattle.roster_book.specs.Draft.{HasRecords, IsDraftOf, Takes, contents_of};
-ghost use Rattle.roster_book.specs.View.{kind_of};
+ghost use Rattle.roster_book.specs.View.{is_for, kind_of};
 
 pub(crate) mod assign;
 mod base;
@@ -47,33 +47,77 @@ pub(crate) enum Kind {
     Step,
 }
 
+impl Kind {
+    // All kinds.
+    const ALL: [Kind; 11] = [
+        Kind::Period,
+        Kind::Weight,
+        Kind::Base,
+        Kind::Crew,
+        Kind::Pairing,
+        Kind::Duty,
+        Kind::Sector,
+        Kind::Leave,
+        Kind::Cost,
+        Kind::Assign,
+        Kind::Step,
+    ];
+
+    // The word with which its records begin.
+    fn word(self) -> &'static str
+        ensures { result.now ≡ word_of (kind_of self) }
+    {
+        match self {
+            Kind::Period => "period",
+            Kind::Weight => "weight",
+            Kind::Base => "base",
+            Kind::Crew => "crew",
+            Kind::Pairing => "pairing",
+            Kind::Duty => "duty",
+            Kind::Sector => "sector",
+            Kind::Leave => "leave",
+            Kind::Cost => "cost",
+            Kind::Assign => "assign",
+            Kind::Step => "step",
+        }
+    }
+
+    // Whether a book for the command may have its records.
+    fn is_for(self, command: Command) -> bool
+        ensures { result ≡ is_for (kind_of self) (command_of command) }
+    {
+        match self {
+            Kind::Assign => command == Command::Check,
+            Kind::Step => command == Command::Replay,
+            _ => true,
+        }
+    }
+}
+
+// Whether the record is of the kind.
+fn is_of(kind: Kind, fields: &ByteRecord) -> bool
+    ensures { result ≡ is_of (kind_of kind) (fields_of fields.now) }
+{
+    field(fields, 0) == kind.word().as_bytes()
+}
+
 /// Whether it is the record of a period.
 pub(crate) fn is_period(fields: &ByteRecord) -> bool
     ensures { result ≡ is_of PeriodRecord (fields_of fields.now) }
 {
-    field(fields, 0) == b"period".as_slice()
+    is_of(Kind::Period, fields)
 }
 
 /// The kind that the first field names, if a book for the command may have it.
 pub(crate) fn kind_in(command: Command, fields: &ByteRecord) -> Option<Kind>
     ensures { option_map kind_of result ≡ kind_in (command_of command) (fields_of fields.now) }
 {
-    if is_period(fields) {
-        return Some(Kind::Period);
+    for kind in Kind::ALL {
+        if kind.is_for(command) && is_of(kind, fields) {
+            return Some(kind);
+        }
     }
-    match field(fields, 0) {
-        b"weight" => Some(Kind::Weight),
-        b"base" => Some(Kind::Base),
-        b"crew" => Some(Kind::Crew),
-        b"pairing" => Some(Kind::Pairing),
-        b"duty" => Some(Kind::Duty),
-        b"sector" => Some(Kind::Sector),
-        b"leave" => Some(Kind::Leave),
-        b"cost" => Some(Kind::Cost),
-        b"assign" if command == Command::Check => Some(Kind::Assign),
-        b"step" if command == Command::Replay => Some(Kind::Step),
-        _ => None,
-    }
+    None
 }
 
 impl Draft {
