@@ -58,7 +58,7 @@ fn find_no_period(alloc: Global, seen: Seen<'_>) -> Result<Finding, AllocError> 
 /// The kind that a word may stand for if it is written otherwise.
 fn kind_alike(word: &[u8]) -> Option<Kind> {
     let trimmed = word.trim_ascii();
-    for kind in Kind::ALL {
+    for &kind in &Kind::ALL {
         if trimmed.eq_ignore_ascii_case(kind.word().as_bytes()) {
             return Some(kind);
         }

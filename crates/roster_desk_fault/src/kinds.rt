@@ -68,19 +68,12 @@ impl Kind {
 
     /// The kind that the word names.
     pub(crate) fn read(word: &[u8]) -> Option<Kind> {
-        match word {
-            b"period" => Some(Kind::Period),
-            b"weight" => Some(Kind::Weight),
-            b"base" => Some(Kind::Base),
-            b"crew" => Some(Kind::Crew),
-            b"pairing" => Some(Kind::Pairing),
-            b"duty" => Some(Kind::Duty),
-            b"sector" => Some(Kind::Sector),
-            b"leave" => Some(Kind::Leave),
-            b"cost" => Some(Kind::Cost),
-            b"assign" => Some(Kind::Assign),
-            _ => None,
+        for &kind in &Kind::ALL {
+            if kind.word().as_bytes() == word {
+                return Some(kind);
+            }
         }
+        None
     }
 
     /// The word that names the kind.

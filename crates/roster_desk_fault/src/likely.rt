@@ -88,29 +88,36 @@ fn reports_of(rows: &[Row], pairings: &[&[u8]], days: &BaseDays) -> (usize, usiz
     (all, night)
 }
 
+/// How many duties the base's pairings have, and how many of them report at night; none if its clocks aren't
+/// known, or show UTC.
+fn reports_at(alloc: Global, rows: &[Row], row: &Row) -> Result<(usize, usize), AllocError> {
+    let seen = Seen {
+        rows,
+        at: rows.len(),
+        row,
+    };
+    match seen.days_at(alloc, row.field(1))? {
+        Some(days) if !shows_utc(&days) => {
+            let pairings = pairings_of(alloc, rows, row.field(1))?;
+            Ok(reports_of(rows, pairings.as_slice(), &days))
+        }
+        _ => Ok((0, 0)),
+    }
+}
+
 /// Warnings of bases whose duties mostly report at night, as if their times were local.
 pub(crate) fn nights(alloc: Global, rows: &[Row]) -> Result<Vec<Warning>, AllocError> {
     let mut warnings = Vec::new(alloc);
     for (at, row) in rows.iter().enumerate() {
-        if !row.is(Kind::Base) {
-            continue;
-        }
-        let seen = Seen {
-            rows,
-            at: rows.len(),
-            row,
-        };
-        let Some(days) = seen.days_at(alloc, row.field(1))? else {
-            continue;
-        };
-        let pairings = pairings_of(alloc, rows, row.field(1))?;
-        let (all, night) = reports_of(rows, pairings.as_slice(), &days);
-        if all >= MANY_REPORTS && night > all / 2 && !shows_utc(&days) {
-            let why = format!(in alloc;
-                "{night} of {all} duties of its pairings report from 23:00 to 05:00 by its clocks; \
-                 local times may stand for UTC"
-            )?;
-            warn(&mut warnings, alloc, at, why.as_str())?;
+        if row.is(Kind::Base) {
+            let (all, night) = reports_at(alloc, rows, row)?;
+            if all >= MANY_REPORTS && night > all / 2 {
+                let why = format!(in alloc;
+                    "{night} of {all} duties of its pairings report from 23:00 to 05:00 by its clocks; \
+                     local times may stand for UTC"
+                )?;
+                warn(&mut warnings, alloc, at, why.as_str())?;
+            }
         }
     }
     Ok(warnings)

@@ -1,7 +1,7 @@
 //! The records of a book, each with its line in the file.
 
 use crate::kinds::Kind;
-use csv::{ByteRecord, ReaderBuilder};
+use csv::{ByteRecord, Reader, ReaderBuilder};
 use std::alloc::{AllocError, Global};
 
 /// A record.
@@ -100,6 +100,49 @@ fn past_line_ends(bytes: &[u8], from: usize) -> usize {
     bytes.len()
 }
 
+/// Where the record begins, as the reader tells it: line ends may stand before it.
+fn begin_of(fields: &ByteRecord, bytes: &[u8]) -> usize {
+    let from = fields.position().map_or(0, |position| position.byte());
+    usize::try_from(from).unwrap_or(bytes.len())
+}
+
+/// The next record, if there is one.
+fn next_of(alloc: Global, reader: &mut Reader<&[u8]>) -> Result<Option<ByteRecord>, AllocError> {
+    let mut fields = ByteRecord::new(alloc);
+    match reader.read_byte_record(&mut fields) {
+        Ok(true) => Ok(Some(fields)),
+        Ok(false) => Ok(None),
+        Err(_) => Err(AllocError),
+    }
+}
+
+/// Puts all records that the reader has behind the others.
+fn push_rows(
+    alloc: Global,
+    rows: &mut Vec<Row>,
+    reader: &mut Reader<&[u8]>,
+    bytes: &[u8],
+) -> Result<(), AllocError> {
+    let mut reached = Line { at: 0, line: 1 };
+    // Each record takes a byte at least.
+    for _ in 0..bytes.len() {
+        let Some(fields) = next_of(alloc, reader)? else {
+            break;
+        };
+        reached = passed(
+            bytes,
+            reached,
+            past_line_ends(bytes, begin_of(&fields, bytes)),
+        );
+        rows.push(Row {
+            fields,
+            line: reached.line,
+            left_out: false,
+        })?;
+    }
+    Ok(())
+}
+
 /// The records of the book in the bytes, as a check reads them. The n-th is that of row n + 1.
 pub(crate) fn read_rows(alloc: Global, bytes: &[u8]) -> Result<Vec<Row>, AllocError> {
     let mut reader = ReaderBuilder::new()
@@ -107,24 +150,7 @@ pub(crate) fn read_rows(alloc: Global, bytes: &[u8]) -> Result<Vec<Row>, AllocEr
         .flexible(true)
         .from_reader(alloc, bytes);
     let mut rows = Vec::new(alloc);
-    let mut reached = Line { at: 0, line: 1 };
-    // Each record takes a byte at least.
-    for _ in 0..bytes.len() {
-        let mut fields = ByteRecord::new(alloc);
-        match reader.read_byte_record(&mut fields) {
-            Ok(true) => {}
-            Ok(false) => break,
-            Err(_) => return Err(AllocError),
-        }
-        let from = fields.position().map_or(0, |position| position.byte());
-        let from = usize::try_from(from).unwrap_or(bytes.len());
-        reached = passed(bytes, reached, past_line_ends(bytes, from));
-        rows.push(Row {
-            fields,
-            line: reached.line,
-            left_out: false,
-        })?;
-    }
+    push_rows(alloc, &mut rows, &mut reader, bytes)?;
     Ok(rows)
 }
 

@@ -55,10 +55,16 @@ fn first_of(fault: BookFault) -> Result<First, AllocError> {
 
 /// The first fault of the book in the bytes, as a check tells it.
 fn first_fault(alloc: Global, bytes: &[u8]) -> Result<Option<First>, AllocError> {
-    match read(alloc, bytes) {
-        Ok(_) => Ok(None),
-        Err(fault) => Ok(Some(first_of(fault)?)),
+    match read(alloc, bytes).err() {
+        None => Ok(None),
+        Some(fault) => Ok(Some(first_of(fault)?)),
     }
+}
+
+/// The first fault of the records that aren't left out.
+fn first_kept(alloc: Global, rows: &[Row]) -> Result<Option<First>, AllocError> {
+    let text = kept_text(alloc, rows)?;
+    first_fault(alloc, text.as_slice())
 }
 
 /// The name of the field at the place of the record, as the description of the format has it.
@@ -115,6 +121,24 @@ fn push_found(
     push_line(out, b"  wanted  ", found.wanted.as_bytes())
 }
 
+/// Appends the number of the record at the place, its line, the record itself, and what the code says.
+fn push_head(
+    alloc: Global,
+    out: &mut Vec<u8>,
+    at: usize,
+    row: &Row,
+    code: u8,
+) -> Result<(), AllocError> {
+    let (number, line) = (at.saturating_add(1), row.line);
+    let head = format!(in alloc; "FAULT {number} {code}\n  line    {line}\n  record  ")?;
+    out.extend_from_slice(head.as_bytes())?;
+    push_record(alloc, out, row)?;
+    push_all(
+        out,
+        &[b"\n  code    the record ", sentence(code).as_bytes(), b"\n"],
+    )
+}
+
 /// Appends what is wrong with the record at the place.
 fn push_fault(
     alloc: Global,
@@ -126,16 +150,8 @@ fn push_fault(
     let Some(row) = rows.get(at) else {
         return Ok(());
     };
+    push_head(alloc, out, at, row, code)?;
     let found = find(alloc, Seen { rows, at, row }, code)?;
-    let (number, line) = (at.saturating_add(1), row.line);
-    let head = format!(in alloc; "FAULT {number} {code}\n  line    {line}\n  record  ")?;
-    out.extend_from_slice(head.as_bytes())?;
-    push_record(alloc, out, row)?;
-    out.extend_from_slice(b"\n")?;
-    push_all(
-        out,
-        &[b"  code    the record ", sentence(code).as_bytes(), b"\n"],
-    )?;
     push_found(alloc, out, row, &found)?;
     match found.other {
         Some(other) => push_other(alloc, out, rows, other),
@@ -192,7 +208,7 @@ fn push_crowded(
 fn good_text(alloc: Global, rows: &[Row], problem: &Problem) -> Result<Vec<u8>, AllocError> {
     let mut out = Vec::new(alloc);
     out.extend_from_slice(b"NO FAULT\n")?;
-    for kind in Kind::ALL {
+    for &kind in &Kind::ALL {
         let (word, records) = (kind.word(), count(rows, kind));
         let line = match kind.most() {
             Some(most) => format!(in alloc; "  {word:<8}{records} of {most} at most\n")?,
@@ -222,6 +238,36 @@ fn push_end(
     out.extend_from_slice(line.as_bytes())
 }
 
+/// Appends the faults of a refused book, of which this is the first, or that it has no record.
+fn push_faults(
+    alloc: Global,
+    out: &mut Vec<u8>,
+    rows: &mut Vec<Row>,
+    first: First,
+) -> Result<(), AllocError> {
+    if rows.is_empty() {
+        out.extend_from_slice(b"FAULT 1 1\n  code    the book has no record\n")?;
+        return out.extend_from_slice(b"  wanted  period and the month: period,2024-06\n");
+    }
+    let mut next = Some(first);
+    let mut told = 0;
+    for n in 0..MOST_TOLD {
+        let Some(fault) = next else { break };
+        // A book that lacks its month can't be judged further.
+        if n > 0 && fault.code == NO_PERIOD {
+            break;
+        }
+        let Some(at) = kept_at(rows, fault.row.saturating_sub(1)) else {
+            break;
+        };
+        push_fault(alloc, out, rows, at, fault.code)?;
+        told = n + 1;
+        leave_out(rows, at);
+        next = first_kept(alloc, rows)?;
+    }
+    push_end(alloc, out, told, next)
+}
+
 /// The faults of the book in the bytes, the first one as a check tells it, and each later one as if the
 /// faulty records before it weren't there; at most [`MOST_TOLD`]. If there is none, how many records of each
 /// kind there are, and the first person whose legal sets are too many for `solve`. It is valid UTF-8.
@@ -232,28 +278,6 @@ pub fn fault_text(alloc: Global, bytes: &[u8]) -> Result<Vec<u8>, AllocError> {
         Err(fault) => first_of(fault)?,
     };
     let mut out = Vec::new(alloc);
-    if rows.is_empty() {
-        out.extend_from_slice(b"FAULT 1 1\n  code    the book has no record\n")?;
-        out.extend_from_slice(b"  wanted  period and the month: period,2024-06\n")?;
-        return Ok(out);
-    }
-    let mut next = Some(first);
-    let mut told = 0;
-    for n in 0..MOST_TOLD {
-        let Some(fault) = next else { break };
-        // A book that lacks its month can't be judged further.
-        if n > 0 && fault.code == NO_PERIOD {
-            break;
-        }
-        let Some(at) = kept_at(&rows, fault.row.saturating_sub(1)) else {
-            break;
-        };
-        push_fault(alloc, &mut out, &rows, at, fault.code)?;
-        told = n + 1;
-        leave_out(&mut rows, at);
-        let text = kept_text(alloc, &rows)?;
-        next = first_fault(alloc, text.as_slice())?;
-    }
-    push_end(alloc, &mut out, told, next)?;
+    push_faults(alloc, &mut out, &mut rows, first)?;
     Ok(out)
 }

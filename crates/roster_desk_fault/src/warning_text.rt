@@ -67,7 +67,7 @@ pub fn warn_text(alloc: Global, bytes: &[u8]) -> Result<Vec<u8>, AllocError> {
     let rows = read_rows(alloc, bytes)?;
     let mut out = Vec::new(alloc);
     let mut told = 0usize;
-    for sign in Sign::ALL {
+    for &sign in &Sign::ALL {
         let warnings = sign.warnings(alloc, &rows)?;
         let more = push_warnings(alloc, &mut out, &rows, sign.word(), &warnings)?;
         told = told.saturating_add(more);

@@ -16,28 +16,54 @@ enum Side {
     Middle,
 }
 
-/// Where the zone of a well-known name lies. Names that several zones have aren't known here.
+/// Well-known names of zones, and where they lie. Names that several zones have aren't among them.
+const NAMES: [(&str, Side); 29] = [
+    ("UTC", Side::Middle),
+    ("GMT", Side::Middle),
+    ("WET", Side::Middle),
+    ("CET", Side::East),
+    ("MET", Side::East),
+    ("EET", Side::East),
+    ("MSK", Side::East),
+    ("TRT", Side::East),
+    ("SAST", Side::East),
+    ("CAT", Side::East),
+    ("EAT", Side::East),
+    ("WAT", Side::East),
+    ("PKT", Side::East),
+    ("WIB", Side::East),
+    ("SGT", Side::East),
+    ("HKT", Side::East),
+    ("JST", Side::East),
+    ("KST", Side::East),
+    ("AWST", Side::East),
+    ("ACST", Side::East),
+    ("AEST", Side::East),
+    ("NZST", Side::East),
+    ("AST", Side::West),
+    ("EST", Side::West),
+    ("MST", Side::West),
+    ("PST", Side::West),
+    ("AKST", Side::West),
+    ("HST", Side::West),
+    ("NST", Side::West),
+];
+
+/// Where the zone of a well-known name lies.
 fn side_of_name(name: &[u8]) -> Option<Side> {
-    match name {
-        b"UTC" | b"GMT" | b"WET" => Some(Side::Middle),
-        b"CET" | b"MET" | b"EET" | b"MSK" | b"TRT" | b"SAST" | b"CAT" | b"EAT" | b"WAT" => {
-            Some(Side::East)
+    for (known, side) in &NAMES {
+        if known.as_bytes() == name {
+            return Some(*side);
         }
-        b"PKT"
-        | b"WIB"
-        | b"SGT"
-        | b"HKT"
-        | b"JST"
-        | b"KST"
-        | b"AWST"
-        | b"ACST"
-        | b"AEST"
-        | b"NZST" => Some(Side::East),
-        b"AST" | b"EST" | b"MST" | b"PST" | b"AKST" | b"HST" | b"NST" => Some(Side::West),
-        _ if name.starts_with(b"<+00") || name.starts_with(b"<-00") => Some(Side::Middle),
-        _ if name.starts_with(b"<+") => Some(Side::East),
-        _ if name.starts_with(b"<-") => Some(Side::West),
-        _ => None,
+    }
+    if name.starts_with(b"<+00") || name.starts_with(b"<-00") {
+        Some(Side::Middle)
+    } else if name.starts_with(b"<+") {
+        Some(Side::East)
+    } else if name.starts_with(b"<-") {
+        Some(Side::West)
+    } else {
+        None
     }
 }
 
