@@ -87,22 +87,39 @@ fn keep<'a>(alloc: Global) -> Arg<'a> {
     )
 }
 
+/// A command with its arguments, and with examples of it.
+fn command<'a>(
+    alloc: Global,
+    name: &'a str,
+    about: &'a str,
+    examples: &'a str,
+    args: Vec<Arg<'a>>,
+) -> Result<Command<'a>, AllocError> {
+    Command::new(alloc, name)
+        .about(about)
+        .after_help(examples)
+        .args(args)
+}
+
 /// `plan`, with its book, what it may take, its start, and what is told and kept on the way.
 fn plan<'a>(alloc: Global) -> Result<Command<'a>, AllocError> {
-    Command::new(alloc, "plan")
-        .about("Writes a legal roster of the book, however large it is, and a bound of its cost")
-        .after_help(
-            "Examples:
+    command(
+        alloc,
+        "plan",
+        "Writes a legal roster of the book, however large it is, and a bound of its cost",
+        "Examples:
   roster-desk plan book.csv > plan.txt
   roster-desk plan --effort 9 --start plan.txt --keep better.txt book.csv",
-        )
-        .arg(book(alloc))?
-        .arg(effort(alloc))?
-        .arg(workers(alloc))?
-        .arg(sets(alloc))?
-        .arg(start(alloc))?
-        .arg(progress(alloc))?
-        .arg(keep(alloc))
+        vec![in alloc;
+            book(alloc),
+            effort(alloc),
+            workers(alloc),
+            sets(alloc),
+            start(alloc),
+            progress(alloc),
+            keep(alloc),
+        ]?,
+    )
 }
 
 /// `why`, with its book and report, and what it may be asked of.
@@ -111,31 +128,28 @@ fn why<'a>(alloc: Global) -> Result<Command<'a>, AllocError> {
         .long("pairing")
         .value_name("PAIRING")
         .help("Only this pairing, open or not");
-    Command::new(alloc, "why")
-        .about("Tells of each open pairing who could have it at what cost, and why others mustn't")
-        .after_help(
-            "Examples:
+    command(
+        alloc,
+        "why",
+        "Tells of each open pairing who could have it at what cost, and why others mustn't",
+        "Examples:
   roster-desk why book.csv plan.txt
   roster-desk why --pairing OUT-BACK --person ANNA book.csv plan.txt",
-        )
-        .arg(book(alloc))?
-        .arg(report(alloc))?
-        .arg(pairing)?
-        .arg(person(alloc))
+        vec![in alloc; book(alloc), report(alloc), pairing, person(alloc)]?,
+    )
 }
 
 /// `limits`, with its book and report, and whom it may be asked of.
 fn limits<'a>(alloc: Global) -> Result<Command<'a>, AllocError> {
-    Command::new(alloc, "limits")
-        .about("Tells how much of each limit each person uses, and what is left")
-        .after_help(
-            "Examples:
+    command(
+        alloc,
+        "limits",
+        "Tells how much of each limit each person uses, and what is left",
+        "Examples:
   roster-desk limits book.csv plan.txt
   roster-desk limits --person ANNA book.csv plan.txt",
-        )
-        .arg(book(alloc))?
-        .arg(report(alloc))?
-        .arg(person(alloc))
+        vec![in alloc; book(alloc), report(alloc), person(alloc)]?,
+    )
 }
 
 /// `table`, with its book and report, and what its rows are.
@@ -144,90 +158,109 @@ fn table<'a>(alloc: Global) -> Result<Command<'a>, AllocError> {
         .long("persons")
         .action(ArgAction::SetTrue)
         .help("A row for each person, with sums");
-    Command::new(alloc, "table")
-        .about("Writes CSV for a spreadsheet: who has which pairings, duties and leaves, and when")
-        .after_help(
-            "Examples:
+    command(
+        alloc,
+        "table",
+        "Writes CSV for a spreadsheet: who has which pairings, duties and leaves, and when",
+        "Examples:
   roster-desk table book.csv plan.txt > table.csv
   roster-desk table --persons book.csv plan.txt > persons.csv",
-        )
-        .arg(book(alloc))?
-        .arg(report(alloc))?
-        .arg(persons)
+        vec![in alloc; book(alloc), report(alloc), persons]?,
+    )
 }
 
 /// `chart`, with its book and report.
 fn chart<'a>(alloc: Global) -> Result<Command<'a>, AllocError> {
-    Command::new(alloc, "chart")
-        .about("Draws the roster as a page for a browser")
-        .after_help(
-            "Examples:
+    command(
+        alloc,
+        "chart",
+        "Draws the roster as a page for a browser",
+        "Examples:
   roster-desk chart book.csv plan.txt > chart.html",
-        )
-        .arg(book(alloc))?
-        .arg(report(alloc))
+        vec![in alloc; book(alloc), report(alloc)]?,
+    )
 }
 
 /// `diff`, with its book and its two reports.
 fn diff<'a>(alloc: Global) -> Result<Command<'a>, AllocError> {
-    Command::new(alloc, "diff")
-        .about("Tells which pairings move from one roster to another, and what that changes")
-        .after_help(
-            "Examples:
+    command(
+        alloc,
+        "diff",
+        "Tells which pairings move from one roster to another, and what that changes",
+        "Examples:
   roster-desk diff book.csv plan.txt better.txt",
-        )
-        .arg(book(alloc))?
-        .arg(needed(alloc, "report"))?
-        .arg(needed(alloc, "other"))
+        vec![in alloc;
+            book(alloc),
+            needed(alloc, "report"),
+            needed(alloc, "other"),
+        ]?,
+    )
 }
 
 /// `assigns`, with its report.
 fn assigns<'a>(alloc: Global) -> Result<Command<'a>, AllocError> {
-    Command::new(alloc, "assigns")
-        .about("Writes the assign records that give a book the roster of a report or plan")
-        .after_help(
-            "Examples:
+    command(
+        alloc,
+        "assigns",
+        "Writes the assign records that give a book the roster of a report or plan",
+        "Examples:
   roster-desk assigns plan.txt > assigns.csv",
-        )
-        .arg(needed(alloc, "report"))
+        vec![in alloc; needed(alloc, "report")]?,
+    )
 }
 
 /// `fault`, with its book.
 fn fault<'a>(alloc: Global) -> Result<Command<'a>, AllocError> {
-    Command::new(alloc, "fault")
-        .about(
-            "Tells which records of a refused book have faults, and what is wanted in their fields",
-        )
-        .after_help(
-            "Examples:
+    command(
+        alloc,
+        "fault",
+        "Tells which records of a refused book have faults, and what is wanted in their fields",
+        "Examples:
   roster-desk fault book.csv",
-        )
-        .arg(book(alloc))
+        vec![in alloc; book(alloc)]?,
+    )
 }
 
 /// `warn`, with its book.
 fn warn<'a>(alloc: Global) -> Result<Command<'a>, AllocError> {
-    Command::new(alloc, "warn")
-        .about("Tells what is likely a mistake in a book without a fault")
-        .after_help(
-            "Examples:
+    command(
+        alloc,
+        "warn",
+        "Tells what is likely a mistake in a book without a fault",
+        "Examples:
   roster-desk warn book.csv",
-        )
-        .arg(book(alloc))
+        vec![in alloc; book(alloc)]?,
+    )
+}
+
+/// Adds a command.
+fn add<'a>(
+    commands: &mut Vec<Command<'a>>,
+    command: Result<Command<'a>, AllocError>,
+) -> Result<(), AllocError> {
+    commands.push(command?)?;
+    Ok(())
+}
+
+/// Adds all commands.
+fn add_all<'a>(alloc: Global, commands: &mut Vec<Command<'a>>) -> Result<(), AllocError> {
+    add(commands, plan(alloc))?;
+    add(commands, why(alloc))?;
+    add(commands, limits(alloc))?;
+    add(commands, table(alloc))?;
+    add(commands, chart(alloc))?;
+    add(commands, diff(alloc))?;
+    add(commands, assigns(alloc))?;
+    add(commands, fault(alloc))?;
+    add(commands, warn(alloc))
 }
 
 /// The program's command line.
 pub(crate) fn desk<'a>(alloc: Global) -> Result<Command<'a>, AllocError> {
+    let mut commands = Vec::new(alloc);
+    add_all(alloc, &mut commands)?;
     Command::new(alloc, "roster-desk")
         .about("Helps a planner with the books of roster")
         .subcommand_required(true)
-        .subcommand(plan(alloc)?)?
-        .subcommand(why(alloc)?)?
-        .subcommand(limits(alloc)?)?
-        .subcommand(table(alloc)?)?
-        .subcommand(chart(alloc)?)?
-        .subcommand(diff(alloc)?)?
-        .subcommand(assigns(alloc)?)?
-        .subcommand(fault(alloc)?)?
-        .subcommand(warn(alloc)?)
+        .subcommands(commands)
 }

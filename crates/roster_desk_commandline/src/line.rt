@@ -1,8 +1,8 @@
 //! What the words of the command line ask for.
 
 use crate::commands::desk;
-use clap::ArgMatches;
 use clap::error::ErrorKind;
+use clap::{ArgMatches, Command};
 use std::alloc::{AllocError, Global};
 
 /// How much is tried if nothing is said of it.
@@ -115,11 +115,16 @@ impl From<AllocError> for LineFault {
 /// What the words ask for. The first word is the program's name.
 pub fn read_line<'a>(alloc: Global, words: &'a [String]) -> Result<Line<'a>, LineFault> {
     let mut command = desk(alloc)?;
-    let matches = match command.try_get_matches_from_mut(words) {
-        Ok(matches) => matches,
+    line_of(&mut command, words)
+}
+
+/// What the words ask for by the program's command line.
+fn line_of<'a>(command: &mut Command<'a>, words: &'a [String]) -> Result<Line<'a>, LineFault> {
+    let found = match command.try_get_matches_from_mut(words) {
+        Ok(matches) => asked(&matches),
         Err(error) => return Err(refusal(error)),
     };
-    match asked(&matches) {
+    match found {
         Some(line) => Ok(line),
         None => Err(LineFault::Refused(command.error(
             ErrorKind::InvalidSubcommand,
@@ -130,25 +135,23 @@ pub fn read_line<'a>(alloc: Global, words: &'a [String]) -> Result<Line<'a>, Lin
 
 /// The command in the matches.
 fn asked<'a>(matches: &ArgMatches<'a>) -> Option<Line<'a>> {
-    if let Some(line) = planned(matches) {
-        return Some(Line::Plan(line));
+    let (command, found) = matches.subcommand()?;
+    match command {
+        "plan" => planned(found),
+        "why" => why(found),
+        "limits" => limits(found),
+        "table" => told(found, rows_of(found)),
+        "chart" => told(found, Question::Chart),
+        "diff" => differences(found),
+        "assigns" => assigns(found),
+        "fault" => of_records(found, Page::Fault),
+        "warn" => of_records(found, Page::Warn),
+        _ => None,
     }
-    if let Some(found) = matches.subcommand_matches("assigns") {
-        return Some(Line::Assigns(found.get_str("report")?));
-    }
-    if let Some(line) = page_asked(matches, "fault", Page::Fault) {
-        return Some(Line::Page(line));
-    }
-    if let Some(line) = page_asked(matches, "warn", Page::Warn) {
-        return Some(Line::Page(line));
-    }
-    let line = told(matches)?;
-    Some(Line::Tell(line))
 }
 
 /// The plan in the matches.
-fn planned<'a>(matches: &ArgMatches<'a>) -> Option<PlanLine<'a>> {
-    let found = matches.subcommand_matches("plan")?;
+fn planned<'a>(found: &ArgMatches<'a>) -> Option<Line<'a>> {
     let book = found.get_str("book")?;
     let effort = found.get_one::<u32>("effort").unwrap_or(USUAL_EFFORT);
     let workers = found.get_one::<usize>("workers").unwrap_or(1);
@@ -156,7 +159,7 @@ fn planned<'a>(matches: &ArgMatches<'a>) -> Option<PlanLine<'a>> {
     let start = found.get_str("start");
     let progress = found.get_flag("progress");
     let keep = found.get_str("keep");
-    Some(PlanLine {
+    Some(Line::Plan(PlanLine {
         book,
         effort,
         workers,
@@ -164,29 +167,26 @@ fn planned<'a>(matches: &ArgMatches<'a>) -> Option<PlanLine<'a>> {
         start,
         progress,
         keep,
-    })
+    }))
 }
 
-/// What is to be told by the matches.
-fn told<'a>(matches: &ArgMatches<'a>) -> Option<TellLine<'a>> {
-    if let Some(found) = matches.subcommand_matches("why") {
-        let pairing = found.get_str("pairing");
-        let person = found.get_str("person");
-        return asked_of(found, Question::Why { pairing, person });
-    }
-    if let Some(found) = matches.subcommand_matches("limits") {
-        let person = found.get_str("person");
-        return asked_of(found, Question::Limits { person });
-    }
-    if let Some(found) = matches.subcommand_matches("table") {
-        return asked_of(found, rows_of(found));
-    }
-    if let Some(found) = matches.subcommand_matches("chart") {
-        return asked_of(found, Question::Chart);
-    }
-    let found = matches.subcommand_matches("diff")?;
+/// The question that `why` in the matches asks.
+fn why<'a>(found: &ArgMatches<'a>) -> Option<Line<'a>> {
+    let pairing = found.get_str("pairing");
+    let person = found.get_str("person");
+    told(found, Question::Why { pairing, person })
+}
+
+/// The question that `limits` in the matches asks.
+fn limits<'a>(found: &ArgMatches<'a>) -> Option<Line<'a>> {
+    let person = found.get_str("person");
+    told(found, Question::Limits { person })
+}
+
+/// The question that `diff` in the matches asks.
+fn differences<'a>(found: &ArgMatches<'a>) -> Option<Line<'a>> {
     let other = found.get_str("other")?;
-    asked_of(found, Question::Differences { other })
+    told(found, Question::Differences { other })
 }
 
 /// What the rows of the table in the matches are.
@@ -199,21 +199,26 @@ fn rows_of<'a>(found: &ArgMatches<'a>) -> Question<'a> {
 }
 
 /// The question, of the book and the report in the matches.
-fn asked_of<'a>(found: &ArgMatches<'a>, question: Question<'a>) -> Option<TellLine<'a>> {
+fn told<'a>(found: &ArgMatches<'a>, question: Question<'a>) -> Option<Line<'a>> {
     let book = found.get_str("book")?;
     let report = found.get_str("report");
-    Some(TellLine {
+    Some(Line::Tell(TellLine {
         question,
         book,
         report,
-    })
+    }))
 }
 
-/// The book in the matches, if the command that tells this of it is asked.
-fn page_asked<'a>(matches: &ArgMatches<'a>, command: &str, page: Page) -> Option<PageLine<'a>> {
-    let found = matches.subcommand_matches(command)?;
+/// The report in the matches, of which `assign` records are wanted.
+fn assigns<'a>(found: &ArgMatches<'a>) -> Option<Line<'a>> {
+    let report = found.get_str("report")?;
+    Some(Line::Assigns(report))
+}
+
+/// The book in the matches, and what is to be told of it.
+fn of_records<'a>(found: &ArgMatches<'a>, page: Page) -> Option<Line<'a>> {
     let book = found.get_str("book")?;
-    Some(PageLine { book, page })
+    Some(Line::Page(PageLine { book, page }))
 }
 
 /// clap's want of memory by its own name.
