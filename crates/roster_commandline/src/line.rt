@@ -1,7 +1,8 @@
 //! The command line.
 
 ghost use Rattle.std.specs.Prelude.{◌≡◌, ◌≢◌, ◌≤◌, ℕ, List, true, false, IfOk, IfErr, Some, map, []};
-ghost use Rattle.clap.specs.Words.{app_of, takes, fault_of, kind_of, with_subcommand, HasKind, Kinds};
+ghost use Rattle.clap.specs.Words.{app_of, takes, fault_of, kind_of, new_app, with_subcommand};
+ghost use Rattle.clap.specs.Words.{HasKind, Kinds};
 ghost use Rattle.roster_commandline.specs.Line.{roster_app, command_name, demanding_app, number_spelled};
 ghost use Rattle.roster_commandline.specs.Line.{solve_app, spelling, workers_asked, HasWorkers, NamesMemory};
 ghost use Rattle.roster_commandline.specs.Line.{TellsKind};
@@ -69,17 +70,38 @@ fn solver<'a>(alloc: Global) -> Result<clap::Command<'a>, AllocError>
         .subcommand(solve)
 }
 
+/// The command line with one command more, which has no arguments.
+fn with_command<'a>(
+    alloc: Global,
+    line: clap::Command<'a>,
+    name: &'a str,
+    about: &'a str,
+) -> Result<clap::Command<'a>, AllocError>
+    requires { (views.out-Command line).has_globals ≡ false }
+    ensures app { IfOk result
+        (λ c. app_of c ≡ with_subcommand (app_of line.entry) (new_app name.now).top) }
+    ensures local { IfOk result (λ c. (views.out-Command c).has_globals ≡ false) }
+{
+    line.subcommand(clap::Command::new(alloc, name).about(about))
+}
+
 /// The program's command line.
 fn roster<'a>(alloc: Global) -> Result<clap::Command<'a>, AllocError>
     ensures app { IfOk result (λ c. app_of c ≡ roster_app) }
     ensures local { IfOk result (λ c. (views.out-Command c).has_globals ≡ false) }
 {
-    let roster = solver(alloc)?.subcommand(clap::Command::new(alloc, "check").about(
+    let checker = with_command(
+        alloc,
+        solver(alloc)?,
+        "check",
         "Judges the roster that the book on standard input gives",
-    ))?;
-    roster.subcommand(clap::Command::new(alloc, "replay").about(
+    )?;
+    with_command(
+        alloc,
+        checker,
+        "replay",
         "Writes the best roster of the book on standard input, which may give steps of a search",
-    ))
+    )
 }
 
 /// The number of workers in the matches of `solve`.
