@@ -4,7 +4,7 @@ ghost use Rattle.std.specs.Prelude.{◌≡◌, ◌<◌, length};
 
 use crate::persons::duties_with;
 use crate::sentences::counted;
-use crate::words::{day, push_all, time};
+use crate::words::{day, push_all, push_time};
 use roster_instants::BaseDays;
 use roster_problem::{Limit, Problem};
 use roster_reasons::{Amount, standing};
@@ -21,27 +21,15 @@ fn push_use(
 ) -> Result<(), AllocError> {
     match amount {
         Amount::Run(run) => {
-            let minutes = time(alloc, run.minutes)?;
-            let most = time(alloc, run.most)?;
             let to = day(alloc, problem.period(), days.month_days(), run.last)?;
-            out.extend_from_slice(minutes.as_bytes())?;
-            out.extend_from_slice(counted(limit))?;
-            push_all(out, &[to.as_bytes(), b" of ", most.as_bytes()])
+            push_time(alloc, out, run.minutes, counted(limit))?;
+            push_all(out, &[to.as_bytes(), b" of "])?;
+            push_time(alloc, out, run.most, b"")
         }
         Amount::Month(month) => {
-            let flown = time(alloc, month.flown)?;
-            let carried = time(alloc, month.carried)?;
-            let most = time(alloc, month.most)?;
-            push_all(
-                out,
-                &[
-                    flown.as_bytes(),
-                    b" of flight in the month and ",
-                    carried.as_bytes(),
-                    b" before it of ",
-                    most.as_bytes(),
-                ],
-            )
+            push_time(alloc, out, month.flown, b" of flight in the month and ")?;
+            push_time(alloc, out, month.carried, b" before it of ")?;
+            push_time(alloc, out, month.most, b"")
         }
     }
 }
@@ -58,12 +46,12 @@ pub fn push_limit(
     requires { k < length problem.now.persons }
 {
     let person = problem.person(k).id.as_bytes();
-    let left = time(alloc, amount.left())?;
     push_all(out, &[person, b" "])?;
     out.extend_from_slice(limit.rule().word().as_bytes())?;
     out.extend_from_slice(b": ")?;
     push_use(alloc, out, problem, problem.days_of(k), limit, amount)?;
-    push_all(out, &[b", ", left.as_bytes(), b" left"])
+    out.extend_from_slice(b", ")?;
+    push_time(alloc, out, amount.left(), b" left")
 }
 
 /// Appends the lines of person `k`, one for each limit.

@@ -3,7 +3,7 @@
 ghost use Rattle.std.specs.Prelude.{◌<◌, length};
 
 use crate::times::{push_times, times_in_leave, times_of_block, times_of_rest, times_shared};
-use crate::words::{day, duty_name, pairing_name, push_all, time};
+use crate::words::{day, duty_name, pairing_name, push_all, push_time, time};
 use crate::zones::Zones;
 use roster_instants::BaseDays;
 use roster_model::profile::BETWEEN_RECURRENT_RESTS;
@@ -67,31 +67,18 @@ fn push_rest(
     list: &DutyList,
     short: ShortRest,
 ) -> Result<(), AllocError> {
-    let rest = time(alloc, short.rest)?;
-    let needed = time(alloc, short.needed)?;
-    let missing = time(alloc, short.needed.saturating_sub(short.rest))?;
     let before = duty_name(list, short.before);
     let after = duty_name(list, short.before.saturating_add(1));
-    push_all(
-        out,
-        &[
-            rest.as_bytes(),
-            b" of rest between ",
-            before,
-            b" and ",
-            after,
-        ],
-    )?;
+    push_time(alloc, out, short.rest, b" of rest between ")?;
+    push_all(out, &[before, b" and ", after])?;
     push_times(alloc, out, zones, base, times_of_rest(list, short))?;
-    push_all(
+    out.extend_from_slice(b", ")?;
+    push_time(alloc, out, short.needed, b" needed, ")?;
+    push_time(
+        alloc,
         out,
-        &[
-            b", ",
-            needed.as_bytes(),
-            b" needed, ",
-            missing.as_bytes(),
-            b" short",
-        ],
+        short.needed.saturating_sub(short.rest),
+        b" short",
     )
 }
 
@@ -106,33 +93,14 @@ fn push_recovery(
     block: LongBlock,
 ) -> Result<(), AllocError> {
     let most = u64::from(BETWEEN_RECURRENT_RESTS);
-    let minutes = time(alloc, block.minutes)?;
-    let allowed = time(alloc, most)?;
-    let over = time(alloc, block.minutes.saturating_sub(most))?;
     let first = duty_name(list, block.first);
     let last = duty_name(list, block.last);
-    push_all(
-        out,
-        &[
-            minutes.as_bytes(),
-            b" from ",
-            first,
-            b" to ",
-            last,
-            b" without a recurrent rest",
-        ],
-    )?;
+    push_time(alloc, out, block.minutes, b" from ")?;
+    push_all(out, &[first, b" to ", last, b" without a recurrent rest"])?;
     push_times(alloc, out, zones, base, times_of_block(list, block))?;
-    push_all(
-        out,
-        &[
-            b", ",
-            allowed.as_bytes(),
-            b" allowed, ",
-            over.as_bytes(),
-            b" too long",
-        ],
-    )
+    out.extend_from_slice(b", ")?;
+    push_time(alloc, out, most, b" allowed, ")?;
+    push_time(alloc, out, block.minutes.saturating_sub(most), b" too long")
 }
 
 /// What the limit counts in a run of days.
@@ -155,44 +123,24 @@ fn push_run(
     limit: Limit,
     run: RunOfDays,
 ) -> Result<(), AllocError> {
-    let minutes = time(alloc, run.minutes)?;
-    let allowed = time(alloc, run.most)?;
-    let over = time(alloc, run.minutes.saturating_sub(run.most))?;
-    out.extend_from_slice(minutes.as_bytes())?;
-    out.extend_from_slice(counted(limit))?;
-    out.extend_from_slice(to)?;
-    push_all(
+    push_time(alloc, out, run.minutes, counted(limit))?;
+    push_all(out, &[to, b", "])?;
+    push_time(alloc, out, run.most, b" allowed, ")?;
+    push_time(
+        alloc,
         out,
-        &[
-            b", ",
-            allowed.as_bytes(),
-            b" allowed, ",
-            over.as_bytes(),
-            b" too much",
-        ],
+        run.minutes.saturating_sub(run.most),
+        b" too much",
     )
 }
 
 /// Appends how much flight there is in the month and before it, and how much there may be.
 fn push_month(alloc: Global, out: &mut Vec<u8>, month: MonthFlight) -> Result<(), AllocError> {
-    let carried = time(alloc, month.carried)?;
-    let flown = time(alloc, month.flown)?;
-    let allowed = time(alloc, month.most)?;
     let both = month.carried.saturating_add(month.flown);
-    let over = time(alloc, both.saturating_sub(month.most))?;
-    push_all(
-        out,
-        &[
-            flown.as_bytes(),
-            b" of flight in the month and ",
-            carried.as_bytes(),
-            b" before it, ",
-            allowed.as_bytes(),
-            b" allowed, ",
-            over.as_bytes(),
-            b" too much",
-        ],
-    )
+    push_time(alloc, out, month.flown, b" of flight in the month and ")?;
+    push_time(alloc, out, month.carried, b" before it, ")?;
+    push_time(alloc, out, month.most, b" allowed, ")?;
+    push_time(alloc, out, both.saturating_sub(month.most), b" too much")
 }
 
 /// Appends which days off in a row there are.

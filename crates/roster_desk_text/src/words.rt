@@ -21,6 +21,17 @@ pub fn time(alloc: Global, minutes: u64) -> Result<String, AllocError> {
     format!(in alloc; "{hours}:{tens}{ones}")
 }
 
+/// Appends minutes as hours and minutes, and the words behind them.
+pub(crate) fn push_time(
+    alloc: Global,
+    out: &mut Vec<u8>,
+    minutes: u64,
+    behind: &[u8],
+) -> Result<(), AllocError> {
+    let text = time(alloc, minutes)?;
+    push_all(out, &[text.as_bytes(), behind])
+}
+
 /// A date as in `2024-03-09`.
 fn date(alloc: Global, year: i16, month: u8, day: usize) -> Result<String, AllocError> {
     let (month_tens, month_ones) = (month / 10, month % 10);
