@@ -6,13 +6,14 @@ use Rattle.std.proofs.lemmas.Int.{ints, to_z-of_z}
 use Rattle.std.proofs.lemmas.List.{get_or_append_left, get_or_push, length_push}
 use Rattle.std.proofs.lemmas.List.Elements.{All-nil, All-push, All-weaker}
 use Rattle.std.proofs.lemmas.Option.{get_or_from_slice_get, slice_get-get_or, slice_get_within}
+use Rattle.roster_model.specs.declared.limits.TheConstants.{MOST_PAIRINGS}
 use Rattle.roster_model.specs.Problem.{Problem}
 use Rattle.roster_model.specs.Rules.{is_among, IsLegal}
 use Rattle.roster_model.proofs.SetLemmas.{is_among-here}
 use Rattle.roster_model.proofs.PushLemmas.{each-push}
 use Rattle.roster_cost.specs.Amounts.{IsWithin}
 use Rattle.roster_pricing.specs.declared.network.Network.{Network}
-use Rattle.roster_pricing.specs.declared.parts.TheConstants.{MOST_TERM, MOST_VALUE}
+use Rattle.roster_pricing.specs.declared.parts.TheConstants.{MOST_LEAST, MOST_TERM, MOST_VALUE}
 use Rattle.roster_pricing.specs.Chains.{chain_value, followers_of, next_state, value_at, IsBehind, IsChain, IsRow, IsTail}
 use Rattle.roster_pricing.specs.Networks.{AreRows, AreTails, IsNetwork}
 use Rattle.roster_pricing.proofs.ChainLemmas.{chain-cons, chain-nil, is_among-more, next_inside, single_among, IsChain-cons, IsChain-nil}
@@ -55,6 +56,20 @@ value_told values p within inside =
     let here : IsWithin MOST_VALUE (value_at values p) = within p (pos 0) inside in
     let fits : FitsSigned w64 (value_at values p) = search rules in
     to_z-of_z w64 (value_at values p) fits
+
+pub value_within : (values : List ℤ) (p : ℕ) → All (IsWithin MOST_VALUE) values → p < length values
+    → IsWithin MOST_VALUE (to_z w64 (of_z w64 (value_at values p)))
+value_within values p within inside =
+    subst (IsWithin MOST_VALUE) (sym (value_told values p within inside)) (within p (pos 0) inside)
+
+-- amounts of a row are small
+pub row_small : (problem : Problem) (network : Network) (values : List ℤ) (rows : List (List ℤ)) (i : ℕ)
+    (row : List ℤ) → AreRows problem network values rows → length problem.pairings ≤ MOST_PAIRINGS
+    → i < length rows → row ≡ get_or rows i row → All (IsWithin MOST_LEAST) row
+row_small problem network values rows i row are few inside is =
+    let most : ℕ = MOST_TERM + length rows * MOST_VALUE in
+    subst (All (IsWithin MOST_LEAST)) (sym is)
+    (All-within-more most MOST_LEAST (get_or rows i row) (omega (arith, few, are.few)) (are.within i row inside))
 
 -- what a row is lowered to by a pairing, in the words of the network
 pub lowered : (values after row : List ℤ) (steps : List ℕ) (long states f p step : ℕ)

@@ -63,6 +63,14 @@ pub record AreTails (problem : Problem) (network : Network) (values : List ℤ)
       → IsTail network values (length problem.pairings - i) tail
   pub within : All (λ tail. All (IsWithin (MOST_TERM + length tails * MOST_VALUE)) tail) tails
 
+-- the rows of so many of the last pairings, and the tails, which are one more
+pub record AreSoFar (problem : Problem) (network : Network) (values : List ℤ)
+    (rows tails : List (List ℤ)) (back : ℕ) : Type 0 where
+  pub are_rows : AreRows problem network values rows
+  pub long : length rows ≡ back
+  pub are_tails : AreTails problem network values tails
+  pub longer : length tails ≡ back + 1
+
 -- the network of each person
 pub record AreNetworks (problem : Problem) (networks : List Network) : Type 0 where
   pub covers : length networks ≡ length problem.persons

@@ -46,18 +46,17 @@ impl Columns {
     /// Adds one, by its pairings and what it costs without prices.
     pub(crate) fn push(&mut self, places: &[u16], cost: i64) -> Result<(), AllocError> {
         self.places.extend_from_slice(places)?;
-        self.ends.push(self.places.len())?;
-        self.costs.push(cost)?;
-        Ok(())
+        self.end(cost)
     }
 
     /// Adds the one whose pairings are in the set, and what it costs without prices.
     pub(crate) fn push_set(&mut self, set: &Set, cost: i64) -> Result<(), AllocError> {
-        let mut from = 0;
-        while let Some(p) = set.first_from(from) {
-            self.places.push(p as u16)?;
-            from = p + 1;
-        }
+        add_places(&mut self.places, set)?;
+        self.end(cost)
+    }
+
+    // Ends the one whose pairings stand behind those of the others.
+    fn end(&mut self, cost: i64) -> Result<(), AllocError> {
         self.ends.push(self.places.len())?;
         self.costs.push(cost)?;
         Ok(())
@@ -90,22 +89,19 @@ impl Columns {
     ) -> Result<(), AllocError> {
         for i in 0..others.len() {
             if self.len() < most && others.value(i, prices) > least {
-                self.copy(others, i)?;
+                self.push(others.places(i), amount_at(&others.costs, i))?;
             }
         }
         Ok(())
     }
 
-    fn copy(&mut self, others: &Columns, i: usize) -> Result<(), AllocError> {
-        let (start, end) = others.range(i);
-        for j in start..end {
-            if let Some(place) = others.places.get(j) {
-                self.places.push(*place)?;
-            }
+    // The pairings of column i.
+    fn places(&self, i: usize) -> &[u16] {
+        let (start, end) = self.range(i);
+        match self.places.get(start..end) {
+            Some(places) => places,
+            None => &[],
         }
-        self.ends.push(self.places.len())?;
-        self.costs.push(amount_at(&others.costs, i))?;
-        Ok(())
     }
 
     /// Adds to the covers of pairings the shares of the columns, which are larger the nearer a column is to
@@ -161,6 +157,16 @@ fn weighed(values: &mut [i64], least: i64, softness: i64) -> i64 {
         sum = sum.wrapping_add(weight);
     }
     sum
+}
+
+// Adds the pairings of the set.
+fn add_places(places: &mut Vec<u16>, set: &Set) -> Result<(), AllocError> {
+    let mut from = 0;
+    while let Some(p) = set.first_from(from) {
+        places.push(p as u16)?;
+        from = p + 1;
+    }
+    Ok(())
 }
 
 fn end_at(ends: &[usize], i: usize) -> usize {

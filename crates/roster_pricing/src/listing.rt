@@ -55,19 +55,34 @@ pub(crate) fn renew_at(
 fn renew(alloc: Global, known: &Known<'_>, columns: &mut Columns) -> Result<(), AllocError> {
     for _ in 0..16 {
         let reach = columns.reach;
-        let limit = known.least.wrapping_add(reach);
         let mut listed = Columns::new(alloc, reach);
-        if list(alloc, known, limit, &mut listed)? || reach <= LEAST_REACH {
-            if listed.len() < FEWEST_COLUMNS {
-                listed.reach = (reach.wrapping_mul(8) / 5).min(MOST_REACH);
-            }
-            listed.keep_above(columns, known.prices, limit, 4 * MOST_COLUMNS)?;
+        if list_anew(alloc, known, columns, &mut listed)? {
             *columns = listed;
             return Ok(());
         }
         columns.reach = reach.wrapping_mul(3) / 5;
     }
     Ok(())
+}
+
+/// Lists all chains within the reach of the list, and adds the known columns that cost more; false if the
+/// chains are too many.
+fn list_anew(
+    alloc: Global,
+    known: &Known<'_>,
+    columns: &Columns,
+    listed: &mut Columns,
+) -> Result<bool, AllocError> {
+    let reach = listed.reach;
+    let limit = known.least.wrapping_add(reach);
+    if !list(alloc, known, limit, listed)? && reach > LEAST_REACH {
+        return Ok(false);
+    }
+    if listed.len() < FEWEST_COLUMNS {
+        listed.reach = (reach.wrapping_mul(8) / 5).min(MOST_REACH);
+    }
+    listed.keep_above(columns, known.prices, limit, 4 * MOST_COLUMNS)?;
+    Ok(true)
 }
 
 /// Lists the chains that bring at most so much; false if there are too many.
@@ -79,6 +94,17 @@ fn list(
 ) -> Result<bool, AllocError> {
     let mut path: Vec<u16> = Vec::new(alloc);
     let mut spots: Vec<Spot> = Vec::new(alloc);
+    list_from(known, limit, &mut path, &mut spots, columns)
+}
+
+/// The same, over an empty path and no spots.
+fn list_from(
+    known: &Known<'_>,
+    limit: i64,
+    path: &mut Vec<u16>,
+    spots: &mut Vec<Spot>,
+    columns: &mut Columns,
+) -> Result<bool, AllocError> {
     spots.push(Spot {
         next: known.network.first,
         state: 0,
@@ -86,41 +112,56 @@ fn list(
         cost: 0,
         from: 0,
     })?;
-    end(known, &path, 0, 0, 0, limit, columns)?;
+    end(known, path, 0, 0, 0, limit, columns)?;
     for _ in 0..MOST_TRIES {
         let Some(spot) = spots.pop() else {
             return Ok(true);
         };
-        let Some(p) = spot.next.first_from(spot.from) else {
-            let _ = path.pop();
-            continue;
-        };
-        let onward = behind(known, &spot, p);
-        let here = Spot {
-            from: p + 1,
-            ..spot
-        };
-        spots.push(here)?;
-        let Some(onward) = onward else { continue };
-        if least_from(known, p, &onward) > limit {
-            continue;
-        }
-        path.push(p as u16)?;
-        end(
-            known,
-            &path,
-            onward.state,
-            onward.value,
-            onward.cost,
-            limit,
-            columns,
-        )?;
+        go_on(known, spot, limit, path, spots, columns)?;
         if columns.len() > MOST_COLUMNS {
             return Ok(false);
         }
-        spots.push(onward)?;
     }
     Ok(false)
+}
+
+/// Goes on from the spot that the chain has come to: with the next pairing behind it, or back if there is
+/// none.
+fn go_on(
+    known: &Known<'_>,
+    spot: Spot,
+    limit: i64,
+    path: &mut Vec<u16>,
+    spots: &mut Vec<Spot>,
+    columns: &mut Columns,
+) -> Result<(), AllocError> {
+    let Some(p) = spot.next.first_from(spot.from) else {
+        let _ = path.pop();
+        return Ok(());
+    };
+    let onward = behind(known, &spot, p);
+    spots.push(Spot {
+        from: p + 1,
+        ..spot
+    })?;
+    let Some(onward) = onward else {
+        return Ok(());
+    };
+    if least_from(known, p, &onward) > limit {
+        return Ok(());
+    }
+    path.push(p as u16)?;
+    end(
+        known,
+        path,
+        onward.state,
+        onward.value,
+        onward.cost,
+        limit,
+        columns,
+    )?;
+    spots.push(onward)?;
+    Ok(())
 }
 
 /// Adds the chain that ends here if it brings at most so much.

@@ -11,7 +11,7 @@ use std::alloc::{AllocError, Global};
 use std::thread::{Threads, for_each_mut};
 
 /// A pairing that has a price, and what it costs to leave it open, in parts of a cost unit.
-#[derive(Clone, Copy, Debug)]
+#[derive(Clone, Copy)]
 pub(crate) struct Covered {
     pub(crate) place: usize,
     pub(crate) penalty: i64,
@@ -59,13 +59,26 @@ pub(crate) fn ascend<R: Threads + Sync>(
     let mut portions = portions_of(alloc, threads, seen, center.len())?;
     for _ in 0..STEPS {
         cover_all(rt, threads, seen, &way, &mut portions);
-        let mut covers = vec![in alloc; 0; center.len()]?;
-        let sum = added(&portions, &mut covers)?;
-        let terms = sum_of_terms(&way.prices, covered);
-        judge(alloc, &mut way, sum.wrapping_add(terms))?;
-        advance(&mut way, &covers, center, covered, stride);
+        step(alloc, &mut way, &portions, center, covered, stride)?;
     }
     Ok(way.best)
+}
+
+/// Takes the prices if what they cost is the most so far, and moves them by the covers of all portions.
+fn step(
+    alloc: Global,
+    way: &mut Way,
+    portions: &[Portion],
+    center: &[i64],
+    covered: &[Covered],
+    stride: i64,
+) -> Result<(), AllocError> {
+    let mut covers = vec![in alloc; 0; center.len()]?;
+    let sum = added(portions, &mut covers)?;
+    let terms = sum_of_terms(&way.prices, covered);
+    judge(alloc, way, sum.wrapping_add(terms))?;
+    advance(way, &covers, center, covered, stride);
+    Ok(())
 }
 
 /// As many portions as there are columns for, each for a thread of its own.
@@ -81,11 +94,7 @@ fn portions_of(
     }
     let mut portions = Vec::new(alloc);
     for _ in 0..threads.min(columns / COLUMNS_FOR_A_THREAD).max(1) {
-        portions.push(Portion {
-            values: Vec::new(alloc),
-            covers: vec![in alloc; 0; pairings]?,
-            cost: Ok(0),
-        })?;
+        portions.push(Portion::new(alloc, pairings)?)?;
     }
     Ok(portions)
 }
@@ -110,6 +119,16 @@ fn cover_all<R: Threads + Sync>(
 }
 
 impl Portion {
+    /// One of no columns.
+    fn new(alloc: Global, pairings: usize) -> Result<Portion, AllocError> {
+        let covers = vec![in alloc; 0; pairings]?;
+        Ok(Portion {
+            values: Vec::new(alloc),
+            covers,
+            cost: Ok(0),
+        })
+    }
+
     /// Covers with the columns of one person of each so many, from the `nth` on. What they cost.
     fn cover(
         &mut self,

@@ -30,7 +30,7 @@ use std::marker::Model;
 use std::thread::Threads;
 
 /// What prices say of the rosters of a base: those in which nobody else flies.
-#[derive(Debug, Drop)]
+#[derive(Drop)]
 pub(crate) struct Look {
     /// No legal roster of the base costs less, in cost units.
     pub(crate) bound: i64,
@@ -41,7 +41,7 @@ pub(crate) struct Look {
 }
 
 /// What the reduced costs of persons are at least, and their sum, in parts of a cost unit.
-#[derive(Debug, Drop)]
+#[derive(Drop)]
 pub(crate) struct Leasts {
     sum: i64,
     each: Vec<i64>,

@@ -1,12 +1,12 @@
 //! Rows of least values of chains, for each state of flight.
 
-ghost use Rattle.std.specs.Prelude.{◌≡◌, ◌≢◌, ◌⊎◌, ◌<◌, ◌≤◌, ◌+◌, ◌-◌, ◌*◌, ◌+ℤ◌, ◌≤ℤ◌, ℕ, true, false, All};
-ghost use Rattle.std.specs.Prelude.{IfOk, IfSome, List, MatchOption, length};
+ghost use Rattle.std.specs.Prelude.{◌≡◌, ◌≢◌, ◌⊎◌, ◌<◌, ◌≤◌, ◌+◌, ◌-◌, ◌*◌, ◌+ℤ◌, ◌≤ℤ◌, [], ℕ, true, false};
+ghost use Rattle.std.specs.Prelude.{All, IfOk, IfSome, List, MatchOption, OnOk, length};
 ghost use Rattle.roster_model.specs.Rules.{is_among};
 ghost use Rattle.roster_cost.specs.Amounts.{IsWithin};
 ghost use Rattle.roster_pricing.specs.Chains.{followers_of, next_state as plain_next_state, value_at, IsRow};
 ghost use Rattle.roster_pricing.specs.Chains.{IsTail};
-ghost use Rattle.roster_pricing.specs.Networks.{AreRows, IsNetwork};
+ghost use Rattle.roster_pricing.specs.Networks.{AreRows, AreSoFar, IsNetwork};
 
 use crate::network::Network;
 use crate::parts::{MOST_AMOUNT, MOST_TERM, MOST_VALUE};
@@ -17,7 +17,7 @@ use std::alloc::{AllocError, Global};
 use std::marker::Model;
 
 /// For each state of flight a value. Contracts see their list.
-#[derive(Debug, Drop)]
+#[derive(Drop)]
 pub(crate) struct Row {
     values: Vec<i64>,
 }
@@ -171,25 +171,66 @@ pub(crate) fn rows_of(
     ensures rows { IfOk result (λ rows. AreRows problem.now network.now values.now rows.items) }
     ensures all { IfOk result (λ rows. length rows.items ≡ length problem.now.pairings) }
 {
+    let mut rows = Vec::new(alloc);
+    let mut tails = tails_of_end(alloc, problem, k, network, values)?;
+    for back in 0..problem.pairings().len() {
+        add_row(
+            alloc, problem, k, network, values, &mut rows, &mut tails, back,
+        )?;
+    }
+    Ok(rows)
+}
+
+/// The tail behind all pairings alone.
+fn tails_of_end(
+    alloc: Global,
+    problem: &Problem,
+    k: usize,
+    network: &Network,
+    values: &[i64],
+) -> Result<Vec<Row>, AllocError>
+    requires network { IsNetwork problem.now k network.now }
+    ensures { IfOk result (λ tails. AreSoFar problem.now network.now values.now [] tails.items 0) }
+{
+    let end = end_of_all(alloc, problem, k, network, values)?;
+    let mut tails = Vec::new(alloc);
+    tails.push(end)?;
+    Ok(tails)
+}
+
+/// Adds the row of the pairing behind which there are so many others, and the tail from it on.
+fn add_row(
+    alloc: Global,
+    problem: &Problem,
+    k: usize,
+    network: &Network,
+    values: &[i64],
+    rows: &mut Vec<Row>,
+    tails: &mut Vec<Row>,
+    back: usize,
+) -> Result<(), AllocError>
+    requires network { IsNetwork problem.now k network.now }
+    requires covers { length values.now ≡ length problem.now.pairings }
+    requires values { All (IsWithin MOST_VALUE) values.now }
+    requires some { back < length problem.now.pairings }
+    requires so_far { AreSoFar problem.now network.now values.now rows.old.items tails.old.items back }
+    ensures { OnOk result
+        (AreSoFar problem.now network.now values.now rows.new.items tails.new.items (back + 1)) }
+{
     part_of_legal_is_legal();
     problem.is_sound();
     let count = problem.pairings().len();
-    let mut rows = Vec::new(alloc);
-    let mut tails = Vec::new(alloc);
-    tails.push(end_of_all(alloc, problem, k, network, values)?)?;
-    for back in 0..count {
-        let p = count - 1 - back;
-        let followers = network.followers[p];
-        let from = all_from(&network.first, &followers, p, count);
-        let tail = &tails[count - from];
-        let row = row_behind(
-            alloc, problem, k, network, values, &rows, &followers, tail, from,
-        )?;
-        let longer = longer_tail(alloc, problem, k, network, values, &tails[back], &row, p)?;
-        rows.push(row)?;
-        tails.push(longer)?;
-    }
-    Ok(rows)
+    let p = count - 1 - back;
+    let followers = network.followers[p];
+    let from = all_from(&network.first, &followers, p, count);
+    let tail = &tails[count - from];
+    let row = row_behind(
+        alloc, problem, k, network, values, rows, &followers, tail, from,
+    )?;
+    let longer = longer_tail(alloc, problem, k, network, values, &tails[back], &row, p)?;
+    rows.push(row)?;
+    tails.push(longer)?;
+    Ok(())
 }
 
 /// The place behind the last pairing after `p` that a chain may begin with and that may not follow `p`.

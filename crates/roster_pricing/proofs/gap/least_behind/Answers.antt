@@ -1,26 +1,34 @@
-use Rattle.std.proofs.Common.{◌≡◌, ℕ, ◌+◌, ◌-◌, ◌*◌, ◌<◌, List, length, get_or, Some, sym, ap, ◌∙◌, subst, arith, ℤ, pos, ◌+ℤ◌, w64, to_z, of_z, FitsSigned, rules}
+use Rattle.std.proofs.Common.{◌≡◌, ℕ, ◌-◌, ◌<◌, List, length, get_or, Some, sym, ap, ◌∙◌, subst, arith, ℤ, pos, ◌+ℤ◌, w64, to_z, of_z, FitsSigned, rules}
 use Rattle.std.specs.Prelude.{All, slice_get}
 use Rattle.std.proofs.lemmas.Int.{ints, to_z-of_z}
 use Rattle.std.proofs.lemmas.Option.{get_or_from_slice_get, slice_get-get_or}
 use Rattle.roster_cost.specs.Amounts.{IsWithin}
-use Rattle.roster_pricing.specs.declared.parts.TheConstants.{MOST_LEAST, MOST_TERM, MOST_VALUE}
+use Rattle.roster_pricing.specs.declared.parts.TheConstants.{MOST_AMOUNT, MOST_LEAST, MOST_VALUE}
 use Rattle.roster_pricing.specs.Chains.{next_state, value_at}
 use Rattle.roster_pricing.proofs.GapLemmas.{least_behind_is}
-use Rattle.roster_pricing.proofs.RowLemmas.{All-within-more}
+use Rattle.roster_pricing.proofs.RowLemmas.{row_small, value_within, All-within-more}
 use Rattle.roster_pricing.proofs.gap.least_behind.Goals as goal
 
 -- amounts of a row are small
 row_within : (c : goal.After-led) → All (IsWithin MOST_LEAST) c.all.result.now
 row_within c =
-    let few = c.is_sound.ensures.sound.pairings in
-    let most : ℕ = MOST_TERM + length c.args.rows.now * MOST_VALUE in
-    let there =
-    c.requires.rows.within (length c.args.rows.now - 1 - c.args.p) c.index-rows-rows.result
-    (omega (arith, c.requires.all, c.requires.place)) in
-    let row : All (IsWithin most) c.index-rows-rows.result =
-    subst (All (IsWithin most)) (sym c.index-rows-rows.is) there in
     subst (All (IsWithin MOST_LEAST)) (sym c.all.ensures)
-    (All-within-more most MOST_LEAST c.index-rows-rows.result (omega (arith, few, c.requires.all)) row)
+    (row_small c.args.problem.now c.args.network.now c.args.values.now c.args.rows.now (length c.args.rows.now - 1 - c.args.p) c.index-rows-rows.result
+    c.requires.rows c.is_sound.ensures.sound.pairings
+    (omega (arith, c.requires.all, c.requires.place)) c.index-rows-rows.is)
+
+pub led-requires-clause-after : goal.led-requires-clause-after
+led-requires-clause-after c =
+    subst (All (IsWithin MOST_AMOUNT)) (sym c.all.ensures)
+    (All-within-more MOST_LEAST MOST_AMOUNT c.index-rows-rows.result (omega arith)
+    (row_small c.args.problem.now c.args.network.now c.args.values.now c.args.rows.now (length c.args.rows.now - 1 - c.args.p) c.index-rows-rows.result
+    c.requires.rows c.is_sound.ensures.sound.pairings
+    (omega (arith, c.requires.all, c.requires.place)) c.index-rows-rows.is))
+
+pub led-requires-clause-value : goal.led-requires-clause-value
+led-requires-clause-value c =
+    value_within c.args.values.now c.args.p c.requires.values
+    (omega (arith, c.requires.covers, c.requires.place))
 
 pub overflow_add-result : goal.overflow_add-result
 overflow_add-result c =

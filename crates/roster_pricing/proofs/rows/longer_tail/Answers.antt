@@ -1,9 +1,22 @@
-use Rattle.std.proofs.Common.{◌≡◌, false, length, subst, sym, ap, ◌∙◌, arith, ◌≤ℤ◌}
+use Rattle.std.proofs.Common.{◌≡◌, ◌+◌, false, length, subst, sym, ap, ◌∙◌, arith, ◌≤ℤ◌}
+use Rattle.std.specs.Prelude.{All}
 use Rattle.roster_model.specs.Rules.{is_among}
+use Rattle.roster_cost.specs.Amounts.{IsWithin}
+use Rattle.roster_pricing.specs.declared.parts.TheConstants.{MOST_VALUE}
 use Rattle.roster_pricing.specs.Chains.{value_at, IsTail}
-use Rattle.roster_pricing.proofs.RowLemmas.{lowered, tail_more, tail_same}
+use Rattle.roster_pricing.proofs.RowLemmas.{lowered, tail_more, tail_same, value_within}
 use Rattle.roster_pricing.proofs.rows.longer_tail.Goals as goal
 use Rattle.roster_pricing.proofs.rows.longer_tail.Goals.{then-has, else-has}
+
+pub relax-requires-clause-same : goal.relax-requires-clause-same
+relax-requires-clause-same c =
+    c.requires.row.covers
+    ∙ sym (ap length (c.in_ok-longer.ensures ∙ c.all.ensures) ∙ c.requires.tail.covers)
+
+pub relax-requires-clause-value : goal.relax-requires-clause-value
+relax-requires-clause-value c =
+    value_within c.args.values.now c.args.p c.requires.values
+    (omega (arith, c.requires.covers, c.requires.place))
 
 pub returns-clause-tail : goal.returns-clause-tail
 returns-clause-tail c =
@@ -26,4 +39,15 @@ returns-clause-tail c =
           let none : is_among network.first p ≡ false = sym c.has.ensures.value ∙ w.if-has.false in
           subst (IsTail network values p) (sym (w.longer-is ∙ copied))
           (tail_same network values c.args.tail.now p none c.requires.tail)
+    ]
+
+pub returns-clause-within : goal.returns-clause-within
+returns-clause-within c most behind before =
+    let copied : c.in_ok-longer.longer ≡ c.args.tail.now = c.in_ok-longer.ensures ∙ c.all.ensures in
+    elim c.if-has.branch [
+      | then-has w ↦
+          subst (All (IsWithin (most + MOST_VALUE))) (sym w.longer-is)
+          (w.relax.ensures.within most behind
+          (subst (All (IsWithin (most + MOST_VALUE))) (sym copied) before))
+      | else-has w ↦ subst (All (IsWithin (most + MOST_VALUE))) (sym (w.longer-is ∙ copied)) before
     ]

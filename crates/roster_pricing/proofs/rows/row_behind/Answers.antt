@@ -1,12 +1,12 @@
 use Rattle.std.proofs.Common.{◌≡◌, ◌+◌, ◌-◌, ◌*◌, ◌<◌, List, length, get_or, Some, subst, sym, ap, ◌∙◌, inl, inr, arith, ℤ, ◌+ℤ◌, ◌≤ℤ◌}
 use Rattle.std.specs.Prelude.{All, slice_get}
-use Rattle.std.proofs.lemmas.Option.{get_or_from_slice_get}
+use Rattle.std.proofs.lemmas.Option.{get_or_from_slice_get, slice_get-get_or}
 use Rattle.std.proofs.lemmas.Bool.{cases_eq, cases_lt, false≢true}
 use Rattle.std.proofs.lemmas.Int.{ints}
 use Rattle.roster_cost.specs.Amounts.{IsWithin}
-use Rattle.roster_pricing.specs.declared.parts.TheConstants.{MOST_TERM, MOST_VALUE}
+use Rattle.roster_pricing.specs.declared.parts.TheConstants.{MOST_AMOUNT, MOST_LEAST, MOST_TERM, MOST_VALUE}
 use Rattle.roster_pricing.specs.Chains.{next_state, value_at}
-use Rattle.roster_pricing.proofs.RowLemmas.{lowered, row_is, All-within-more}
+use Rattle.roster_pricing.proofs.RowLemmas.{lowered, row_is, row_small, value_within, All-within-more}
 use Rattle.roster_pricing.proofs.rows.row_behind.Goals as goal
 
 -- the place of the pairing
@@ -30,6 +30,34 @@ row_within c =
     let done = c.requires.done c.in-Some.q c.in-Some.ensures.place.2 c.in-Some.ensures.place.1 in
     subst (All (IsWithin (MOST_TERM + length c.args.rows.now * MOST_VALUE))) (sym c.index-rows-count.is)
     (c.requires.rows.within (length c.pairings-count.result.now - 1 - c.in-Some.q) c.index-rows-count.result (omega (arith, count, done)))
+
+pub relax-requires-clause-same : goal.relax-requires-clause-same
+relax-requires-clause-same c =
+    let rows = c.args.rows.now in
+    let q = c.in-Some.q in
+    let row = c.index-rows-count.result in
+    let count = ap length c.pairings-count.ensures.value in
+    let among = c.requires.alone q c.in-Some.ensures.place.2 in
+    let done = c.requires.done q c.in-Some.ensures.place.2 c.in-Some.ensures.place.1 in
+    let at = slice_get-get_or rows (length c.pairings-count.result.now - 1 - q) row (omega (arith, count, done)) ∙ ap (λ (r : List ℤ). Some r) (sym c.index-rows-count.is) in
+    (c.requires.rows.each q row ((c.requires.network.alone q).0 among).0 (subst (λ n. slice_get rows (n - 1 - q) ≡ Some row) count at)).covers
+    ∙ sym c.loop-q.invariant.covers
+
+pub relax-requires-clause-value : goal.relax-requires-clause-value
+relax-requires-clause-value c =
+    let among = c.requires.alone c.in-Some.q c.in-Some.ensures.place.2 in
+    let place = ((c.requires.network.alone c.in-Some.q).0 among).0 in
+    value_within c.args.values.now c.in-Some.q c.requires.values (omega (arith, c.requires.covers, place))
+
+pub relax-requires-clause-after : goal.relax-requires-clause-after
+relax-requires-clause-after c =
+    let problem = c.args.problem.now in
+    let row = c.index-rows-count.result in
+    let count = ap length c.pairings-count.ensures.value in
+    let done = c.requires.done c.in-Some.q c.in-Some.ensures.place.2 c.in-Some.ensures.place.1 in
+    All-within-more MOST_LEAST MOST_AMOUNT row (omega arith)
+    (row_small problem c.args.network.now c.args.values.now c.args.rows.now (length c.pairings-count.result.now - 1 - c.in-Some.q) row
+    c.requires.rows c.is_sound.ensures.sound.pairings (omega (arith, count, done)) c.index-rows-count.is)
 
 pub loop-q-preserved : goal.loop-q-preserved
 loop-q-preserved c =

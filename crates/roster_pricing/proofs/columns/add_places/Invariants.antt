@@ -1,6 +1,6 @@
 use Rattle.std.proofs.Common.{◌-◌, ◌≤◌}
 use Rattle.roster_model.specs.declared.limits.TheConstants.{MOST_PAIRINGS}
-use Rattle.roster_pricing.proofs.columns.Columns.push_set.Given as goal
+use Rattle.roster_pricing.proofs.columns.add_places.Given as goal
 
 -- no pairing is past the last
 abbrev pub invariant-loop-p : goal.invariant-loop-p
