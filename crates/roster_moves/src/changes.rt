@@ -4,14 +4,14 @@ use roster_problem::Set;
 use std::alloc::{AllocError, Global};
 
 /// A person's place, and the set that they are to have.
-#[derive(Debug, Drop)]
+#[derive(Drop)]
 pub(crate) struct Change {
     pub(crate) person: usize,
     pub(crate) set: Set,
 }
 
 /// Changes that are made together, at most one for each person.
-#[derive(Debug, Drop)]
+#[derive(Drop)]
 pub(crate) struct Changes {
     list: Vec<Change>,
 }

@@ -2,6 +2,7 @@
 
 use crate::search::Search;
 use crate::sets::{only, without};
+use crate::tables::Tables;
 use roster_problem::Set;
 use std::alloc::AllocError;
 
@@ -121,21 +122,9 @@ impl<'a> Search<'a> {
             return Ok(());
         }
         let (first, second) = (self.set(holder), self.set(k));
-        let begin = self.tables.begin(p);
-        let (mut from_first, mut from_second) = (only(p), Set::empty());
         let days = self.days();
-        if days > 0 {
-            let last = begin.wrapping_add(days.wrapping_mul(DAY));
-            from_first = self.tables.between(&first, begin, last);
-            from_second = self.tables.between(&second, begin, last);
-        }
-        for _ in 0..MOST_ROUNDS {
-            from_second = from_second.or(&self.tables.meeting(&second, &from_first));
-            from_first = from_first.or(&self.tables.meeting(&first, &from_second));
-        }
-        if !without(&from_first, &self.tables.able(k)).is_empty()
-            || !without(&from_second, &self.tables.able(holder)).is_empty()
-        {
+        let (from_first, from_second) = exchanged(&self.tables, &first, &second, p, days);
+        if !can_fly(&self.tables, k, &from_first) || !can_fly(&self.tables, holder, &from_second) {
             return Ok(());
         }
         self.changes
@@ -152,4 +141,39 @@ impl<'a> Search<'a> {
             _ => 100,
         }
     }
+}
+
+// What two persons give each other of their sets: the pairing, or what begins in so many days from it on, and
+// what that hinders.
+fn exchanged(tables: &Tables<'_>, first: &Set, second: &Set, p: usize, days: i64) -> (Set, Set) {
+    if days > 0 {
+        let begin = tables.begin(p);
+        let last = begin.wrapping_add(days.wrapping_mul(DAY));
+        let from_first = tables.between(first, begin, last);
+        let from_second = tables.between(second, begin, last);
+        return with_hindered(tables, first, second, &from_first, &from_second);
+    }
+    with_hindered(tables, first, second, &only(p), &Set::empty())
+}
+
+// These, and what of each set can't be flown with what comes from the other.
+fn with_hindered(
+    tables: &Tables<'_>,
+    first: &Set,
+    second: &Set,
+    from_first: &Set,
+    from_second: &Set,
+) -> (Set, Set) {
+    let mut from_first = *from_first;
+    let mut from_second = *from_second;
+    for _ in 0..MOST_ROUNDS {
+        from_second = from_second.or(&tables.meeting(second, &from_first));
+        from_first = from_first.or(&tables.meeting(first, &from_second));
+    }
+    (from_first, from_second)
+}
+
+// Whether person `k` can fly each pairing of the set alone.
+fn can_fly(tables: &Tables<'_>, k: usize, set: &Set) -> bool {
+    without(set, &tables.able(k)).is_empty()
 }

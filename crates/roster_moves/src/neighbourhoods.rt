@@ -68,20 +68,13 @@ impl Neighbourhoods {
         problem: &Problem,
         sought: &[bool],
     ) -> Result<Neighbourhoods, AllocError> {
-        let mut persons = Vec::new(alloc);
-        for (k, person) in problem.persons().iter().enumerate() {
-            if is_sought(sought, person.base) {
-                persons.push(k)?;
-            }
-        }
-        let mut sizes = Vec::new(alloc);
-        for size in FIRST_SIZES {
-            sizes.push(size)?;
-        }
+        let persons = persons_of(alloc, problem, sought)?;
+        let begins = times(alloc, problem, false)?;
+        let sizes = first_sizes(alloc)?;
         Ok(Neighbourhoods {
             random: Random::new(SEED),
             persons,
-            begins: times(alloc, problem, false)?,
+            begins,
             sizes,
             kind: 0,
         })
@@ -127,21 +120,24 @@ impl Neighbourhoods {
 
     // Some persons of one base: a few, half of them, or all.
     fn persons(&mut self, alloc: Global, problem: &Problem) -> Result<Vec<usize>, AllocError> {
-        let mut left = Vec::new(alloc);
         let i = self.random.below(self.persons.len());
         let k = self.persons.get(i).copied().unwrap_or(0);
-        if let Some(first) = problem.persons().get(k) {
-            for (k, person) in problem.persons().iter().enumerate() {
-                if person.base == first.base {
-                    left.push(k)?;
-                }
-            }
-        }
+        let mut left = mates_of(alloc, problem, k)?;
         let count = match self.kind {
             0 => (self.size() / PARTS) as usize,
             1 => left.len().saturating_add(1) / 2,
             _ => left.len(),
         };
+        self.chosen(alloc, &mut left, count)
+    }
+
+    // So many of those that are left, by chance.
+    fn chosen(
+        &mut self,
+        alloc: Global,
+        left: &mut Vec<usize>,
+        count: usize,
+    ) -> Result<Vec<usize>, AllocError> {
         let mut chosen = Vec::new(alloc);
         for _ in 0..count {
             let i = self.random.below(left.len());
@@ -187,6 +183,39 @@ impl Neighbourhoods {
         let minutes = i64::from(self.size()).wrapping_mul(DAY / i64::from(2 * PARTS));
         (middle.wrapping_sub(minutes), middle.wrapping_add(minutes))
     }
+}
+
+// Who is of a base that is sought.
+fn persons_of(alloc: Global, problem: &Problem, sought: &[bool]) -> Result<Vec<usize>, AllocError> {
+    let mut persons = Vec::new(alloc);
+    for (k, person) in problem.persons().iter().enumerate() {
+        if is_sought(sought, person.base) {
+            persons.push(k)?;
+        }
+    }
+    Ok(persons)
+}
+
+// How large the kinds of neighbourhoods are at first.
+fn first_sizes(alloc: Global) -> Result<Vec<u32>, AllocError> {
+    let mut sizes = Vec::new(alloc);
+    for size in FIRST_SIZES {
+        sizes.push(size)?;
+    }
+    Ok(sizes)
+}
+
+// All who are of the same base as person `k`.
+fn mates_of(alloc: Global, problem: &Problem, k: usize) -> Result<Vec<usize>, AllocError> {
+    let mut mates = Vec::new(alloc);
+    if let Some(first) = problem.persons().get(k) {
+        for (k, person) in problem.persons().iter().enumerate() {
+            if person.base == first.base {
+                mates.push(k)?;
+            }
+        }
+    }
+    Ok(mates)
 }
 
 // The base of the first of the persons.

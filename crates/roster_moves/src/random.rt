@@ -3,7 +3,7 @@
 ghost use Rattle.std.specs.Prelude.{◌<◌};
 
 /// The generator that is known as SplitMix64.
-#[derive(Debug, Drop)]
+#[derive(Drop)]
 pub(crate) struct Random {
     state: u64,
 }

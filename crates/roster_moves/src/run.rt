@@ -27,9 +27,24 @@ pub fn improved_by_changes(
     ensures { IfOk result (λ found. IsLegalRoster problem.now found.items) }
 {
     let mut draft = Draft::new(alloc, problem, start)?;
-    let mut search = Search::new(alloc, problem, start, sought, seed)?;
-    run(&mut draft, &mut search, tries)?;
+    improve(alloc, problem, start, sought, tries, seed, &mut draft)?;
     draft.best(alloc)
+}
+
+/// Makes a run that begins with the given places.
+fn improve(
+    alloc: Global,
+    problem: &Problem,
+    start: &[u16],
+    sought: &[bool],
+    tries: u32,
+    seed: u64,
+    draft: &mut Draft<'_>,
+) -> Result<(), AllocError>
+    ensures { draft.new ≡ draft.old }
+{
+    let mut search = Search::new(alloc, problem, start, sought, seed)?;
+    run(draft, &mut search, tries)
 }
 
 /// Makes the run of so many tries.

@@ -33,23 +33,11 @@ impl<'a> Search<'a> {
         sought: &[bool],
         seed: u64,
     ) -> Result<Search<'a>, AllocError> {
+        let pairings = pairings_of(alloc, problem, sought)?;
         let tables = Tables::new(alloc, problem)?;
-        let mut sets = Vec::new(alloc);
-        let mut lines = Vec::new(alloc);
-        for k in 0..tables.persons() {
-            let set = set_of(places, k);
-            lines.push(tables.line(k, &set))?;
-            sets.push(set)?;
-        }
-        let mut pairings = Vec::new(alloc);
-        let mut theirs = Set::empty();
-        for (p, pairing) in problem.pairings().iter().enumerate() {
-            if is_sought(sought, pairing.base) {
-                pairings.push(p)?;
-                add(&mut theirs, p);
-            }
-        }
-        let open = set_of(places, usize::from(open_number(problem))).and(&theirs);
+        let sets = sets_of(alloc, places, tables.persons())?;
+        let lines = lines_of(alloc, &tables, &sets)?;
+        let open = open_of(problem, places, &pairings);
         Ok(Search {
             tables,
             random: Random::new(seed),
@@ -141,8 +129,50 @@ pub(crate) fn set_of(places: &[u16], number: usize) -> Set {
     let mut set = Set::empty();
     for (p, place) in places.iter().enumerate() {
         if usize::from(*place) == number {
-            crate::sets::add(&mut set, p);
+            add(&mut set, p);
         }
     }
     set
+}
+
+/// The sets of so many persons.
+fn sets_of(alloc: Global, places: &[u16], persons: usize) -> Result<Vec<Set>, AllocError> {
+    let mut sets = Vec::new(alloc);
+    for k in 0..persons {
+        sets.push(set_of(places, k))?;
+    }
+    Ok(sets)
+}
+
+/// What each person's set costs.
+fn lines_of(alloc: Global, tables: &Tables<'_>, sets: &[Set]) -> Result<Vec<i64>, AllocError> {
+    let mut lines = Vec::new(alloc);
+    for (k, set) in sets.iter().enumerate() {
+        lines.push(tables.line(k, set))?;
+    }
+    Ok(lines)
+}
+
+/// The pairings of bases that are sought.
+fn pairings_of(
+    alloc: Global,
+    problem: &Problem,
+    sought: &[bool],
+) -> Result<Vec<usize>, AllocError> {
+    let mut pairings = Vec::new(alloc);
+    for (p, pairing) in problem.pairings().iter().enumerate() {
+        if is_sought(sought, pairing.base) {
+            pairings.push(p)?;
+        }
+    }
+    Ok(pairings)
+}
+
+/// Which of the pairings are open.
+fn open_of(problem: &Problem, places: &[u16], pairings: &[usize]) -> Set {
+    let mut theirs = Set::empty();
+    for p in pairings {
+        add(&mut theirs, *p);
+    }
+    set_of(places, usize::from(open_number(problem))).and(&theirs)
 }

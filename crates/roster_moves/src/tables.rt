@@ -19,64 +19,97 @@ const MOST_ASKED: usize = 3;
 #[derive(Drop)]
 pub(crate) struct Tables<'a> {
     problem: &'a Problem,
-    // By person.
+    crew: Crew,
+    flights: Flights,
+}
+
+/// What is looked up by person.
+#[derive(Drop)]
+struct Crew {
     able: Vec<Set>,
     fixed: Vec<i64>,
     targets: Vec<i64>,
-    // By pairing.
+}
+
+/// What is looked up by pairing.
+#[derive(Drop)]
+struct Flights {
     rivals: Vec<Set>,
     minutes: Vec<i64>,
     begins: Vec<i64>,
     penalties: Vec<i64>,
 }
 
+impl Crew {
+    /// What the persons of a problem can fly, and what of their targets is left.
+    fn new(alloc: Global, problem: &Problem) -> Result<Crew, AllocError> {
+        let able = all_able(alloc, problem)?;
+        let fixed = fixed_minutes(alloc, problem)?;
+        let targets = targets(alloc, problem)?;
+        Ok(Crew {
+            able,
+            fixed,
+            targets,
+        })
+    }
+}
+
+impl Flights {
+    /// The pairings of a problem, of which persons can fly these.
+    fn new(alloc: Global, problem: &Problem, able: &[Set]) -> Result<Flights, AllocError> {
+        let begins = times(alloc, problem, false)?;
+        let rivals = all_rivals(alloc, problem, able, &begins)?;
+        let minutes = minutes(alloc, problem)?;
+        let penalties = penalties(alloc, problem)?;
+        Ok(Flights {
+            rivals,
+            minutes,
+            begins,
+            penalties,
+        })
+    }
+}
+
 impl<'a> Tables<'a> {
     /// The tables of a problem.
     pub(crate) fn new(alloc: Global, problem: &'a Problem) -> Result<Tables<'a>, AllocError> {
-        let able = all_able(alloc, problem)?;
-        let begins = times(alloc, problem, false)?;
-        let ends = times(alloc, problem, true)?;
-        let rivals = all_rivals(alloc, problem, &able, &begins, &ends)?;
+        let crew = Crew::new(alloc, problem)?;
+        let flights = Flights::new(alloc, problem, &crew.able)?;
         Ok(Tables {
             problem,
-            able,
-            fixed: fixed_minutes(alloc, problem)?,
-            targets: targets(alloc, problem)?,
-            rivals,
-            minutes: minutes(alloc, problem)?,
-            begins,
-            penalties: penalties(alloc, problem)?,
+            crew,
+            flights,
         })
     }
 
     /// How many persons there are.
     pub(crate) fn persons(&self) -> usize {
-        self.able.len()
+        self.crew.able.len()
     }
 
     /// How many pairings there are.
     pub(crate) fn pairings(&self) -> usize {
-        self.rivals.len()
+        self.flights.rivals.len()
     }
 
     /// The pairings that person `k` can fly alone.
     pub(crate) fn able(&self, k: usize) -> Set {
-        set_at(&self.able, k)
+        set_at(&self.crew.able, k)
     }
 
     /// The pairings that nobody flies with the one at place `p`.
     pub(crate) fn rivals(&self, p: usize) -> Set {
-        set_at(&self.rivals, p)
+        set_at(&self.flights.rivals, p)
     }
 
     /// When the pairing at place `p` begins.
     pub(crate) fn begin(&self, p: usize) -> i64 {
-        amount_at(&self.begins, p)
+        amount_at(&self.flights.begins, p)
     }
 
     /// What it costs to leave the pairing at place `p` open.
     pub(crate) fn penalty(&self, p: usize) -> i64 {
-        amount_at(&self.penalties, p)
+        amount_at(&self.flights.penalties, p)
     }
 
     /// What it costs to leave a set open.
@@ -93,15 +126,15 @@ impl<'a> Tables<'a> {
     /// What the set costs with person `k`.
     pub(crate) fn line(&self, k: usize, set: &Set) -> i64 {
         let mut units: i64 = 0;
-        let mut flight = amount_at(&self.fixed, k);
+        let mut flight = amount_at(&self.crew.fixed, k);
         let mut from = 0;
         while let Some(p) = set.first_from(from) {
             units = units.wrapping_add(self.problem.units(k, p));
-            flight = flight.wrapping_add(amount_at(&self.minutes, p));
+            flight = flight.wrapping_add(amount_at(&self.flights.minutes, p));
             from = p + 1;
         }
         let missed = flight
-            .wrapping_sub(amount_at(&self.targets, k))
+            .wrapping_sub(amount_at(&self.crew.targets, k))
             .wrapping_abs();
         units.wrapping_add(missed.wrapping_mul(i64::from(self.problem.weight())))
     }
@@ -205,11 +238,11 @@ fn all_rivals(
     problem: &Problem,
     able: &[Set],
     begins: &[i64],
-    ends: &[i64],
 ) -> Result<Vec<Set>, AllocError> {
+    let ends = times(alloc, problem, true)?;
     let mut rivals = Vec::new(alloc);
     for p in 0..problem.pairings().len() {
-        rivals.push(rivals_of(alloc, problem, able, begins, ends, p)?)?;
+        rivals.push(rivals_of(alloc, problem, able, begins, &ends, p)?)?;
     }
     Ok(rivals)
 }
