@@ -24,7 +24,7 @@ use roster_problem::{Problem, Set};
 use std::alloc::{AllocError, Global};
 
 /// The way to a line, and what is written of the lines before it.
-#[derive(Debug, Drop)]
+#[derive(Drop)]
 struct Copying {
     path: Path,
     writer: Writer,

@@ -13,7 +13,7 @@ use roster_problem::Set;
 use std::alloc::{AllocError, Global};
 
 /// Which of the choices so far are live, how many, and what some and what all of their lines have.
-#[derive(Debug, Drop)]
+#[derive(Drop)]
 pub(crate) struct Marker {
     pub(crate) marks: Vec<bool>,
     pub(crate) possible: Set,

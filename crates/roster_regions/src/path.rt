@@ -12,7 +12,7 @@ use std::alloc::{AllocError, Global};
 use std::marker::Model;
 
 /// The pairings on the way to a choice, from the first on. Contracts see it as their list.
-#[derive(Debug, Drop)]
+#[derive(Drop)]
 pub(crate) struct Path {
     lasts: Vec<u16>,
 }

@@ -10,7 +10,7 @@ use roster_problem::{Problem, Set, open_number};
 use std::alloc::{AllocError, Global};
 
 /// Who may have a pairing.
-#[derive(Clone, Copy, Debug)]
+#[derive(Clone, Copy)]
 pub(crate) enum Holders {
     /// No person: it is open.
     Nobody,
@@ -21,7 +21,7 @@ pub(crate) enum Holders {
 }
 
 /// Pairings that somebody may have, that two persons or more may have, and that somebody must have.
-#[derive(Debug, Drop)]
+#[derive(Drop)]
 struct Claims {
     possible: Set,
     contested: Set,

@@ -19,7 +19,7 @@ use std::alloc::{AllocError, Global};
 const MOST_ROUNDS: usize = 32;
 
 /// What each person's line and each pairing adds at least, and what a cost leaves over.
-#[derive(Debug, Drop)]
+#[derive(Drop)]
 pub(crate) struct Bounds {
     pub(crate) values: Vec<i64>,
     pub(crate) terms: Vec<i64>,

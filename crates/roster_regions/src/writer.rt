@@ -15,7 +15,7 @@ use std::alloc::{AllocError, Global};
 
 /// The choices that are written, how many are live, and what some and what all of their lines have. The
 /// last of them has so many of its first pairings in common with the reader's path.
-#[derive(Debug, Drop)]
+#[derive(Drop)]
 pub(crate) struct Writer {
     pub(crate) choices: Vec<Choice>,
     pub(crate) possible: Set,
