@@ -82,14 +82,14 @@ fn runs_of_days(rt: HostRuntime) {
             ("AMS", "2024-04-06T06:00Z", "2024-04-06T07:00Z"),
         ],
     );
-    let cases: [(&[u16], [i64; 3]); 5] = [
+    let cases: &[(&[u16], [i64; 3])] = &[
         (&[0, 1, 2, 3, 4, 5], [3600, 3780, 3780]),
         (&[0, 1, 2, 3, 4], [3300, 3300, 3300]),
         (&[7, 6], [240, 660, 660]),
         (&[10, 9, 8], [180, 240, 240]),
         (&[], [0, 0, 0]),
     ];
-    for (positions, minutes) in cases {
+    for &(positions, minutes) in cases {
         has_greatest_duty(&rt, &days, &list_of(&rt, &duties, positions), minutes);
     }
 }
@@ -237,7 +237,7 @@ fn the_first_limit_that_is_broken(rt: HostRuntime) {
             (Flown::Operated, "2024-03-18T00:00Z", "2024-03-20T02:01Z"),
         ],
     );
-    let cases: [(&[u16], u32, u32, Option<Rule>); 12] = [
+    let cases: &[(&[u16], u32, u32, Option<Rule>)] = &[
         (&[], 54000, 60000, None),
         (&[0], 53760, 59760, None),
         (&[0], 53761, 59761, Some(Rule::FlightYear)),
@@ -251,14 +251,14 @@ fn the_first_limit_that_is_broken(rt: HostRuntime) {
         (&[8, 9], 0, 0, None),
         (&[8, 10], 0, 0, Some(Rule::Flight28)),
     ];
-    for (positions, year, eleven, broken) in cases {
+    for &(positions, year, eleven, broken) in cases {
         assert!(rt; first_broken(&rt, &days, &duties, positions, year, eleven) == broken);
     }
 }
 
 // Asks for limits one after another.
 fn are_judged(rt: &impl Abort, mut limits: ListLimits<'_>) {
-    for (limit, holds) in [
+    for &(limit, holds) in &[
         (Limit::Flight12, false),
         (Limit::Duty7, false),
         (Limit::FlightYear, true),

@@ -5,7 +5,7 @@ use roster_instants::{BaseDays, Period, common, read_minute};
 
 #[test]
 fn instants_are_read(rt: HostRuntime) {
-    for (text, minutes) in [
+    for &(text, minutes) in &[
         ("2024-03-04T06:00Z", 28_492_200),
         ("1970-01-01T00:00Z", 0),
         ("1970-01-02T00:01Z", 1441),
@@ -20,7 +20,7 @@ fn instants_are_read(rt: HostRuntime) {
 
 #[test]
 fn other_texts_are_no_instants(rt: HostRuntime) {
-    for text in [
+    for &text in &[
         "",
         "2024-02-30T06:00Z",
         "2023-02-29T06:00Z",
@@ -47,7 +47,7 @@ fn other_texts_are_no_instants(rt: HostRuntime) {
 
 #[test]
 fn months_are_read(rt: HostRuntime) {
-    for (text, year, month) in [
+    for &(text, year, month) in &[
         ("2024-03", 2024, 3),
         ("1971-01", 1971, 1),
         ("9997-12", 9997, 12),
@@ -56,7 +56,7 @@ fn months_are_read(rt: HostRuntime) {
         assert!(rt; period.year() == year, "{text}");
         assert!(rt; period.month() == month, "{text}");
     }
-    for text in [
+    for &text in &[
         "2024-13", "2024-00", "1970-12", "9998-01", "2024-3", "2024-031", "2024/03", "+024-03", "",
     ] {
         assert!(rt; Period::read(text.as_bytes()).is_none(), "{text}");
@@ -65,7 +65,7 @@ fn months_are_read(rt: HostRuntime) {
 
 #[test]
 fn the_shortest_and_the_last_window(rt: HostRuntime) {
-    for (text, month_days) in [
+    for &(text, month_days) in &[
         ("2024-03", 31),
         ("2023-02", 28),
         ("2024-02", 29),
@@ -87,7 +87,7 @@ fn minutes_in_common(rt: HostRuntime) {
     let seven = minute(&rt, "2024-03-04T07:00Z");
     let nine = minute(&rt, "2024-03-04T09:00Z");
     let midnight = minute(&rt, "2024-03-05T00:00Z");
-    for (a, b, c, d, shared) in [
+    for &(a, b, c, d, shared) in &[
         (six, nine, seven, midnight, 120),
         (seven, midnight, six, nine, 120),
         (six, midnight, seven, nine, 120),

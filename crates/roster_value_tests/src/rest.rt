@@ -30,7 +30,7 @@ fn the_rest_needed_is_the_greater(rt: HostRuntime) {
         "2024-03-04T19:00Z",
     );
     let (at_home, away) = ("AMS", "BER");
-    for (release, station, minutes) in [
+    for &(release, station, minutes) in &[
         (short, at_home, 720),
         (short, away, 600),
         (middle, away, 660),
@@ -69,7 +69,7 @@ fn neighbours_keep_their_rest(rt: HostRuntime) {
             ("AMS", "2024-03-06T14:00Z", "2024-03-06T16:00Z"),
         ],
     );
-    let lists: [(&[u16], bool); 8] = [
+    let lists: &[(&[u16], bool)] = &[
         (&[], true),
         (&[4], true),
         (&[0, 1, 1], false),
@@ -79,7 +79,7 @@ fn neighbours_keep_their_rest(rt: HostRuntime) {
         (&[0, 1, 5], true),
         (&[1, 3, 5], false),
     ];
-    for (positions, is_kept) in lists {
+    for &(positions, is_kept) in lists {
         assert!(rt; keeps_rest(&rt, &home, &duties, positions) == is_kept);
     }
 }
@@ -87,7 +87,7 @@ fn neighbours_keep_their_rest(rt: HostRuntime) {
 #[test]
 fn recurrent_rests_have_their_length_and_nights(rt: HostRuntime) {
     let days = march(&rt);
-    for (from, to, is_recurrent_rest) in [
+    for &(from, to, is_recurrent_rest) in &[
         // 36 hours with two nights, and a minute less.
         ("2024-03-04T22:00Z", "2024-03-06T10:00Z", true),
         ("2024-03-04T22:00Z", "2024-03-06T09:59Z", false),
@@ -141,7 +141,7 @@ fn two_days_are_off_twice(rt: HostRuntime) {
             ("AMS", "2024-03-16T23:00Z", "2024-03-17T01:00Z"),
         ],
     );
-    let lists: [(&[u16], bool); 9] = [
+    let lists: &[(&[u16], bool)] = &[
         (&[], true),
         (&[1, 0], true),
         (&[2, 0], false),
@@ -152,7 +152,7 @@ fn two_days_are_off_twice(rt: HostRuntime) {
         (&[5, 0], false),
         (&[1, 7], true),
     ];
-    for (positions, is_kept) in lists {
+    for &(positions, is_kept) in lists {
         assert!(rt; has_days_off(&rt, &days, &duties, positions) == is_kept);
     }
 }

@@ -2,23 +2,23 @@
 
 use crate::given::{duties, duty, list_of, minute, name};
 use roster_model::limits::{MOST_PAIRINGS, MOST_PERSONS};
-use roster_problem::{Cost, Costs, DutyList, Name, Places, Rule, Sector, Set};
+use roster_problem::{Cost, Costs, Duty, DutyList, Name, Places, Rule, Sector, Set};
 use std::process::Abort;
 use std::test::Fail;
 
 #[test]
 fn identifiers_are_told(rt: HostRuntime) {
-    for text in ["A", "a-1_", "0123456789abcdef"] {
+    for &text in &["A", "a-1_", "0123456789abcdef"] {
         assert!(rt; name(&rt, text).as_bytes() == text.as_bytes(), "{text}");
     }
-    for text in ["", "-A", "_A", "A B", "A.", "0123456789abcdefg", "Å"] {
+    for &text in &["", "-A", "_A", "A B", "A.", "0123456789abcdefg", "Å"] {
         assert!(rt; Name::new(text.as_bytes()).is_none(), "{text}");
     }
 }
 
 #[test]
 fn rules_have_words(rt: HostRuntime) {
-    let words = [
+    let words = &[
         "BASE",
         "OVERLAP",
         "LEAVE",
@@ -32,10 +32,10 @@ fn rules_have_words(rt: HostRuntime) {
         "FLIGHT12",
         "DAYS2",
     ];
-    for (rule, word) in Rule::ALL.iter().zip(words) {
+    for (rule, &word) in Rule::ALL.iter().zip(words) {
         assert!(rt; rule.word() == word);
-        for other in Rule::ALL {
-            assert!(rt; (*rule == other) == (other.word() == word));
+        for other in &Rule::ALL {
+            assert!(rt; (rule == other) == (other.word() == word));
         }
     }
 }
@@ -57,7 +57,7 @@ fn set_of(places: &[usize]) -> Set {
 #[test]
 fn a_set_has_what_was_put_into_it(rt: HostRuntime) {
     let set = set_of(&[200, 3, 64, 63, LAST, 3]);
-    for (place, is_in) in [
+    for &(place, is_in) in &[
         (3, true),
         (63, true),
         (64, true),
@@ -90,7 +90,7 @@ fn sets_are_equal_where_they_have_the_same_pairings(rt: HostRuntime) {
 #[test]
 fn a_set_is_gone_over_in_ascending_order(rt: HostRuntime) {
     let set = set_of(&[200, 3, 64, 63, LAST]);
-    for (from, first) in [
+    for &(from, first) in &[
         (0, Some(3)),
         (3, Some(3)),
         (4, Some(63)),
@@ -153,10 +153,9 @@ fn a_duty_list_has_the_duties_at_its_positions(rt: HostRuntime) {
     assert!(rt; no_duty.is_empty());
 }
 
-#[test]
-fn a_duty_has_sectors_that_follow_each_other(rt: HostRuntime) -> Result<(), Fail> {
-    let mut duty = duty(&rt, "AMS", "2024-03-04T06:00Z", "2024-03-04T14:00Z");
-    for (operates, off, on, is_taken) in [
+// Gives a duty of 4 March from 06:00 to 14:00 the sectors that it takes.
+fn takes_sectors(rt: &impl Abort, duty: &mut Duty) -> Result<(), Fail> {
+    for &(operates, off, on, is_taken) in &[
         (false, "2024-03-04T05:59Z", "2024-03-04T07:00Z", false),
         (false, "2024-03-04T06:00Z", "2024-03-04T06:00Z", false),
         (false, "2024-03-04T06:00Z", "2024-03-04T08:00Z", true),
@@ -164,7 +163,7 @@ fn a_duty_has_sectors_that_follow_each_other(rt: HostRuntime) -> Result<(), Fail
         (true, "2024-03-04T08:00Z", "2024-03-04T14:01Z", false),
         (true, "2024-03-04T08:00Z", "2024-03-04T14:00Z", true),
     ] {
-        let (off, on) = (minute(&rt, off), minute(&rt, on));
+        let (off, on) = (minute(rt, off), minute(rt, on));
         let sector = Sector { operates, off, on };
         assert!(rt; duty.is_in_sequence(sector) == is_taken);
         if is_taken {
@@ -174,6 +173,12 @@ fn a_duty_has_sectors_that_follow_each_other(rt: HostRuntime) -> Result<(), Fail
     assert!(rt; duty.sectors.len() == 2);
     assert!(rt; duty.sectors[1].on == duty.release);
     Ok(())
+}
+
+#[test]
+fn a_duty_has_sectors_that_follow_each_other(rt: HostRuntime) -> Result<(), Fail> {
+    let mut duty = duty(&rt, "AMS", "2024-03-04T06:00Z", "2024-03-04T14:00Z");
+    takes_sectors(&rt, &mut duty)
 }
 
 #[test]
@@ -188,9 +193,13 @@ fn places_are_given_back(rt: HostRuntime) -> Result<(), Fail> {
 #[test]
 fn costs_are_found_by_person_and_pairing(rt: HostRuntime) -> Result<(), Fail> {
     let mut costs = Costs::new(rt.alloc());
-    let last = (MOST_PERSONS - 1, MOST_PAIRINGS - 1);
-    let given = [(3, 7, -5), (last.0, last.1, 9), (0, 0, 0), (7, 3, 1)];
-    for (person, pairing, units) in given {
+    let given = &[
+        (3, 7, -5),
+        (MOST_PERSONS - 1, LAST, 9),
+        (0, 0, 0),
+        (7, 3, 1),
+    ];
+    for &(person, pairing, units) in given {
         assert!(rt; person < MOST_PERSONS && pairing < MOST_PAIRINGS);
         assert!(rt; costs.given(person, pairing).is_none());
         costs.push(Cost {
@@ -200,11 +209,11 @@ fn costs_are_found_by_person_and_pairing(rt: HostRuntime) -> Result<(), Fail> {
         })?;
     }
     assert!(rt; costs.len() == 4);
-    for (person, pairing, units) in given {
+    for &(person, pairing, units) in given {
         assert!(rt; costs.given(person, pairing) == Some(units));
     }
     // Not the next row's first place.
-    for (person, pairing) in [(3, 8), (0, 3), (2, 7 + MOST_PAIRINGS), (MOST_PERSONS, 0)] {
+    for &(person, pairing) in &[(3, 8), (0, 3), (2, 7 + MOST_PAIRINGS), (MOST_PERSONS, 0)] {
         assert!(rt; costs.given(person, pairing).is_none());
     }
     Ok(())

@@ -11,6 +11,11 @@ fn build(alloc: Global, rt: &impl Abort, zone: &str, month: &str) -> Result<Base
     BaseDays::build(alloc, zone, period)
 }
 
+/// Why a zone text has no days in a month, if it has none.
+fn fault(alloc: Global, rt: &impl Abort, zone: &str, month: &str) -> Option<ZoneFault> {
+    build(alloc, rt, zone, month).err()
+}
+
 /// Checks rows of a zone: a month, a day of its window (35 is the first of the month), and the
 /// instants of 00:00, 08:00 and 22:00 on that day.
 fn check(alloc: Global, rt: &impl Abort, zone: &str, rows: &[&str]) {
@@ -209,7 +214,7 @@ fn daylight_time_all_year(rt: HostRuntime) {
 // The first and the last window, at the offsets farthest from UTC.
 #[test]
 fn the_first_and_the_last_month(rt: HostRuntime) {
-    for (zone, month, i, midnight) in [
+    for &(zone, month, i, midnight) in &[
         ("UTC0", "2024-03", 80, "2024-04-15T00:00Z"),
         ("AAA-24:59", "1971-01", 0, "1970-11-25T23:01Z"),
         ("AAA24:59", "1971-01", 0, "1970-11-28T00:59Z"),
@@ -226,7 +231,7 @@ fn the_first_and_the_last_month(rt: HostRuntime) {
 
 #[test]
 fn zones_with_days(rt: HostRuntime) {
-    for (zone, month) in [
+    for &(zone, month) in &[
         // names of three and of fifteen bytes, in angle brackets too
         ("ABC0", "2024-03"),
         ("ABCDEFGHIJKLMNO0", "2024-03"),
@@ -236,13 +241,13 @@ fn zones_with_days(rt: HostRuntime) {
         // clocks shifted by half a day, at an hour of the night
         ("AAA0BBB-12,M3.5.0/9,M10.5.0/20", "2024-03"),
     ] {
-        assert!(rt; build(rt.alloc(), &rt, zone, month).is_ok(), "{zone}");
+        assert!(rt; fault(rt.alloc(), &rt, zone, month).is_none(), "{zone}");
     }
 }
 
 #[test]
 fn texts_that_are_no_zone(rt: HostRuntime) {
-    for zone in [
+    for &zone in &[
         "",
         "UTC",
         "UTC0 ",
@@ -270,14 +275,14 @@ fn texts_that_are_no_zone(rt: HostRuntime) {
         "EST5EDT,366,10",
         "EST5EDT;M3.2.0;M11.1.0",
     ] {
-        let refused = build(rt.alloc(), &rt, zone, "2024-03");
-        assert!(rt; matches!(refused, Err(ZoneFault::Refused)), "{zone}");
+        let told = fault(rt.alloc(), &rt, zone, "2024-03");
+        assert!(rt; matches!(told, Some(ZoneFault::Refused)), "{zone}");
     }
 }
 
 #[test]
 fn instants_that_are_no_whole_minutes(rt: HostRuntime) {
-    for (zone, month) in [
+    for &(zone, month) in &[
         ("LMT-0:01:15", "2024-03"),
         ("LMT0:00:59", "1971-01"),
         ("AAA0BBB-0:59:30,M3.5.0,M10.5.0", "2024-03"),
@@ -286,14 +291,14 @@ fn instants_that_are_no_whole_minutes(rt: HostRuntime) {
         // these don't rise either
         ("AAA0BBB-24:00:30,M3.5.0/0,M10.5.0/12", "2024-03"),
     ] {
-        let refused = build(rt.alloc(), &rt, zone, month);
-        assert!(rt; matches!(refused, Err(ZoneFault::NotMinutes)), "{zone}");
+        let told = fault(rt.alloc(), &rt, zone, month);
+        assert!(rt; matches!(told, Some(ZoneFault::NotMinutes)), "{zone}");
     }
 }
 
 #[test]
 fn days_that_do_not_rise(rt: HostRuntime) {
-    for zone in [
+    for &zone in &[
         // the whole of 31 March is skipped, so 1 April begins when it does
         "AAA0BBB-24,M3.5.0/0,M10.5.0/12",
         // its 22:00 is skipped, and stands for a later instant than the next midnight
@@ -301,16 +306,16 @@ fn days_that_do_not_rise(rt: HostRuntime) {
         // its 08:00 is skipped, and stands for a later instant than its 22:00
         "AAA0BBB-15,M3.5.0/7,M10.5.0/23",
     ] {
-        let refused = build(rt.alloc(), &rt, zone, "2024-03");
-        assert!(rt; matches!(refused, Err(ZoneFault::NotRising)), "{zone}");
-        assert!(rt; build(rt.alloc(), &rt, zone, "2024-01").is_ok(), "{zone}");
+        let told = fault(rt.alloc(), &rt, zone, "2024-03");
+        assert!(rt; matches!(told, Some(ZoneFault::NotRising)), "{zone}");
+        assert!(rt; fault(rt.alloc(), &rt, zone, "2024-01").is_none(), "{zone}");
     }
 }
 
 #[test]
 fn days_and_mornings_by_instants(rt: HostRuntime) {
     let days = build(rt.alloc(), &rt, LISBON, "2024-03").expect(&rt, LISBON);
-    for (text, day, mornings) in [
+    for &(text, day, mornings) in &[
         ("2024-01-25T23:59Z", None, 0),
         ("2024-01-26T00:00Z", Some(0), 0),
         ("2024-01-26T07:59Z", Some(0), 0),
