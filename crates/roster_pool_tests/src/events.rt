@@ -19,16 +19,13 @@ use std::test::Fail;
 
 /// With 64 workers: who may take.
 fn takes<L: Ledger>(rt: &impl Abort, alloc: Global, state: &mut PoolState<L>) {
-    assert_eq!(rt; state.workers(), 64);
-    assert_eq!(rt; refusal(state.take(64, 0)), Some(PoolFault::NotYours));
-    assert_eq!(rt; refusal(state.take(0, 0)), None);
-    assert_eq!(rt; refusal(state.take(0, 0)), Some(PoolFault::NotYours));
-    assert_eq!(rt; refusal(state.take(1, 0)), Some(PoolFault::Nothing));
+    assert!(rt; state.workers() == 64);
+    assert!(rt; refusal(state.take(64, 0)) == Some(PoolFault::NotYours));
+    assert!(rt; refusal(state.take(0, 0)).is_none());
+    assert!(rt; refusal(state.take(0, 0)) == Some(PoolFault::NotYours));
+    assert!(rt; refusal(state.take(1, 0)) == Some(PoolFault::Nothing));
     let root = piece(alloc, 0, 36);
-    assert_eq!(rt;
-        split_refusal(state.descend(0, root)),
-        (Some(PoolFault::CannotSplit), 0, 36)
-    );
+    assert!(rt; split_refusal(state.descend(0, root)) == (Some(PoolFault::CannotSplit), 0, 36));
 }
 
 /// A pool isn't closed while a worker has a span.
@@ -65,33 +62,21 @@ fn refuses<L: Ledger>(
     share: &mut Share<L>,
     best: Arc<Roster>,
 ) {
-    assert_eq!(rt; refusal(state.take(0, 0)), None);
+    assert!(rt; refusal(state.take(0, 0)).is_none());
     let whole = piece(alloc, 0, 36);
-    assert_eq!(rt; split_refusal(state.halve(0, whole)), (None, 0, 18));
+    assert!(rt; split_refusal(state.halve(0, whole)) == (None, 0, 18));
     let whole = piece(alloc, 0, 36);
-    assert_eq!(rt;
-        split_refusal(state.halve(0, whole)),
-        (Some(PoolFault::NotYours), 0, 36)
-    );
+    assert!(rt; split_refusal(state.halve(0, whole)) == (Some(PoolFault::NotYours), 0, 36));
     let whole = piece(alloc, 0, 36);
-    assert_eq!(rt;
-        back_refusal(state.back(0, whole)),
-        Some(PoolFault::NotYours)
-    );
+    assert!(rt; back_refusal(state.back(0, whole)) == Some(PoolFault::NotYours));
     let done = Done {
         piece: piece(alloc, 0, 36),
         best,
     };
-    assert_eq!(rt;
-        finish_refusal(state.finish(0, done, share)),
-        Some(PoolFault::NotYours)
-    );
+    assert!(rt; finish_refusal(state.finish(0, done, share)) == Some(PoolFault::NotYours));
     let half = piece(alloc, 0, 18);
-    assert_eq!(rt;
-        back_refusal(state.back(1, half)),
-        Some(PoolFault::NotYours)
-    );
-    assert_eq!(rt; state.pending(), 1);
+    assert!(rt; back_refusal(state.back(1, half)) == Some(PoolFault::NotYours));
+    assert!(rt; state.pending() == 1);
 }
 
 /// Each call with what is the worker's.
@@ -106,10 +91,10 @@ fn goes_on<L: Ledger>(
         piece: piece(alloc, 0, 18),
         best,
     };
-    assert_eq!(rt; finish_refusal(state.finish(0, done, share)), None);
-    assert_eq!(rt; refusal(state.take(1, 0)), None);
+    assert!(rt; finish_refusal(state.finish(0, done, share)).is_none());
+    assert!(rt; refusal(state.take(1, 0)).is_none());
     let rest = piece(alloc, 18, 36);
-    assert_eq!(rt; back_refusal(state.back(1, rest)), None);
+    assert!(rt; back_refusal(state.back(1, rest)).is_none());
     assert!(rt; !state.at_rest());
 }
 
@@ -123,12 +108,14 @@ fn refuses_and_goes_on<L: Ledger>(
     requires parts { blank.parts ≡ L.parts }
     requires one_each { blank.parts ≡ 2 }
 {
+    let refused = no_pairings(alloc)?;
+    let taken = no_pairings(alloc)?;
     let (mut state, mut shares) = match PoolState::<L>::start(alloc, &WIDTHS, 2, blank) {
         Ok(started) => started,
         Err((_, refused)) => return Err(refused),
     };
-    refuses(rt, alloc, &mut state, &mut shares[0], no_pairings(alloc)?);
-    goes_on(rt, alloc, &mut state, &mut shares[0], no_pairings(alloc)?);
+    refuses(rt, alloc, &mut state, &mut shares[0], refused);
+    goes_on(rt, alloc, &mut state, &mut shares[0], taken);
     assert!(rt;
         state.history()
             == [

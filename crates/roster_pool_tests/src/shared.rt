@@ -30,10 +30,10 @@ fn has_given(given: Result<Option<Piece>, PoolFault>) -> Result<bool, PoolFault>
 
 /// Worker 0 takes the root and gives it back, and worker 1 takes it.
 fn changes_hands<L: Ledger, R: Wait + Abort>(rt: &R, alloc: Global, pool: &Pool<L>) {
-    assert_eq!(rt; has_given(pool.wait_take(rt, 0)), Ok(true));
+    assert!(rt; has_given(pool.wait_take(rt, 0)) == Ok(true));
     let root = piece(alloc, 0, 36);
-    assert_eq!(rt; back_refusal(pool.back(rt, 0, root)), None);
-    assert_eq!(rt; has_given(pool.wait_take(rt, 1)), Ok(true));
+    assert!(rt; back_refusal(pool.back(rt, 0, root)).is_none());
+    assert!(rt; has_given(pool.wait_take(rt, 1)) == Ok(true));
 }
 
 /// Worker 1 finishes it, and nothing is left.
@@ -48,17 +48,17 @@ fn ends<L: Ledger, R: Wait + Abort>(
         piece: piece(alloc, 0, 36),
         best,
     };
-    assert_eq!(rt; finish_refusal(pool.finish(rt, 1, done, share)), None);
-    assert_eq!(rt; has_given(pool.wait_take(rt, 0)), Ok(false));
-    assert_eq!(rt; has_given(pool.wait_take(rt, 2)), Err(PoolFault::NotYours));
+    assert!(rt; finish_refusal(pool.finish(rt, 1, done, share)).is_none());
+    assert!(rt; has_given(pool.wait_take(rt, 0)) == Ok(false));
+    assert!(rt; has_given(pool.wait_take(rt, 2)) == Err(PoolFault::NotYours));
 }
 
 /// What is finished is the root, by worker 1.
 fn is_finished_by_1(rt: &impl Abort, closed: &Closed) {
-    assert_eq!(rt; closed.count(), 1);
+    assert!(rt; closed.count() == 1);
     assert!(rt; closed.widths() == WIDTHS.as_slice());
     for (worker, span) in closed.finished() {
-        assert_eq!(rt; (*worker, span.lo, span.hi), (1, 0, 36));
+        assert!(rt; (*worker, span.lo, span.hi) == (1, 0, 36));
     }
 }
 
@@ -72,13 +72,14 @@ fn takes_turns<L: Ledger, R: Wait + Abort>(
     requires parts { blank.parts ≡ L.parts }
     requires one_each { blank.parts ≡ 2 }
 {
+    let best = no_pairings(alloc)?;
     let (state, mut shares) = match PoolState::<L>::start(alloc, &WIDTHS, 2, blank) {
         Ok(started) => started,
         Err((_, refused)) => return Err(refused),
     };
     let pool = Pool::new(state);
     changes_hands(rt, alloc, &pool);
-    ends(rt, alloc, &pool, &mut shares[1], no_pairings(alloc)?);
+    ends(rt, alloc, &pool, &mut shares[1], best);
     let state = pool.into_state();
     assert!(rt;
         state.history()
@@ -99,14 +100,14 @@ fn takes_turns<L: Ledger, R: Wait + Abort>(
 
 /// Worker 0 takes the root, splits it as far as it goes, and forgoes it.
 fn splits<L: Ledger, R: Wait + Abort>(rt: &R, alloc: Global, pool: &Pool<L>) {
-    assert_eq!(rt; has_given(pool.wait_take(rt, 0)), Ok(true));
+    assert!(rt; has_given(pool.wait_take(rt, 0)) == Ok(true));
     assert!(rt; pool.short(rt));
-    for (hi, middle) in [(36, 18), (18, 9), (9, 4), (4, 2), (2, 1)] {
+    for &(hi, middle) in &[(36, 18), (18, 9), (9, 4), (4, 2), (2, 1)] {
         let part = piece(alloc, 0, hi);
-        assert_eq!(rt; split_refusal(pool.halve(rt, 0, part)), (None, 0, middle));
+        assert!(rt; split_refusal(pool.halve(rt, 0, part)) == (None, 0, middle));
     }
     let line = piece(alloc, 0, 1);
-    assert_eq!(rt; split_refusal(pool.descend(rt, 0, line)), (None, 0, 36));
+    assert!(rt; split_refusal(pool.descend(rt, 0, line)) == (None, 0, 36));
     assert!(rt; !pool.short(rt));
 }
 
@@ -156,9 +157,9 @@ fn stops<L: Ledger, R: Wait + Abort>(rt: &R, alloc: Global, blank: Blank) -> Res
     };
     let pool = Pool::new(state);
     pool.stop(rt);
-    assert_eq!(rt; has_given(pool.wait_take(rt, 0)), Ok(false));
+    assert!(rt; has_given(pool.wait_take(rt, 0)) == Ok(false));
     let state = pool.into_state();
-    assert_eq!(rt; state.pending(), 1);
+    assert!(rt; state.pending() == 1);
     assert!(rt; state.close(shares).is_err());
     Ok(())
 }
@@ -238,7 +239,7 @@ fn has_all_lines(rt: &impl Abort, closed: &Closed) {
             lines += (span.hi - span.lo).min(36);
         }
     }
-    assert_eq!(rt; lines, 36);
+    assert!(rt; lines == 36);
     assert!(rt; closed.count() > 1);
 }
 
@@ -252,11 +253,11 @@ fn shares_out<L: Ledger + Send + Sync, R: Threads + Wait + Abort + Sync>(
     requires parts { blank.parts ≡ L.parts }
     requires one_each { blank.parts ≡ 2 }
 {
+    let best = no_pairings(alloc)?;
     let (state, mut shares) = match PoolState::<L>::start(alloc, &WIDTHS, 2, blank) {
         Ok(started) => started,
         Err((_, refused)) => return Err(refused),
     };
-    let best = no_pairings(alloc)?;
     let second = shares.remove(1);
     let first = shares.remove(0);
     let pool = Pool::new(state);
