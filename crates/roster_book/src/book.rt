@@ -3,7 +3,7 @@
 use roster_problem::{Places, Problem, Steps};
 
 /// The book that was read.
-#[derive(Debug, Drop)]
+#[derive(Drop)]
 pub struct Book {
     /// What is to be rostered.
     pub problem: Problem,

@@ -5,7 +5,7 @@ ghost use Rattle.roster_model.specs.Code.{number_of_code};
 ghost use Rattle.roster_book.specs.View.{code_of};
 
 /// What may be wrong with a record. Of what is wrong with one record the first is told.
-#[derive(Clone, Copy, Debug, PartialEq, Eq)]
+#[derive(Clone, Copy, PartialEq, Eq)]
 pub enum Code {
     /// The first record is no period.
     NoPeriod,

@@ -15,7 +15,7 @@ use std::marker::Model;
 
 /// A line for each of the first persons, no two of which share a pairing. Its rosters are the legal ones
 /// that give these persons these lines.
-#[derive(Debug, Drop)]
+#[derive(Drop)]
 pub struct Node<'a> {
     alloc: Global,
     pub(crate) tables: &'a Tables<'a>,

@@ -18,7 +18,7 @@ pub const MOST_PRICE: u32 = 1_000_000_000;
 /// Prices, each no further than `MOST_PRICE` from 0. Contracts see them as a list.
 ///
 /// They needn't be good: any prices give lower bounds.
-#[derive(Debug, Drop)]
+#[derive(Drop)]
 pub struct Prices {
     prices: Vec<i64>,
 }

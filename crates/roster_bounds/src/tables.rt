@@ -22,7 +22,7 @@ use std::sync::Arc;
 
 /// A problem, the table of its lines, and a price for each pairing, with what bounds need of each
 /// person. It may know the best roster, so that a search needn't look for one that comes before it.
-#[derive(Debug, Drop)]
+#[derive(Drop)]
 pub struct Tables<'a> {
     problem: &'a Problem,
     table: &'a Table,

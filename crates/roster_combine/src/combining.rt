@@ -19,7 +19,7 @@ use std::alloc::{AllocError, Global};
 use std::sync::Arc;
 
 /// The best roster, and whether the search for it had to begin again.
-#[derive(Debug, Drop)]
+#[derive(Drop)]
 pub struct Solved {
     /// The roster.
     pub roster: Arc<Roster>,

@@ -6,7 +6,7 @@ use roster_problem::Roster;
 use std::sync::{Arc, Wait};
 
 /// How far a worker is with a part of the search.
-#[derive(Debug, Clone, Copy, PartialEq, Eq)]
+#[derive(Clone, Copy, PartialEq, Eq)]
 pub enum Point {
     /// A part is in hand, and is about to be searched.
     Ready,
@@ -23,7 +23,7 @@ pub trait Gate {
 }
 
 /// A gate that does nothing.
-#[derive(Debug, Clone, Copy, Drop)]
+#[derive(Clone, Copy, Drop)]
 pub struct Open;
 
 impl Gate for Open {

@@ -15,7 +15,7 @@ use std::marker::Model;
 
 /// What a roster costs, and its list of places, which is borrowed. Keys are in the order of rosters:
 /// by cost, and then by the lists from the front.
-#[derive(Debug, Drop)]
+#[derive(Drop)]
 pub struct Key<'a> {
     /// What the roster costs, in cost units, by whoever made the key.
     pub cost: i64,

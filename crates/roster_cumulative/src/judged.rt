@@ -26,7 +26,7 @@ const MOST_LOAD: u64 = u16::MAX as u64;
 const IN_A_TURN: usize = 16;
 
 /// A sum, and the most that there may be of it, in minutes.
-#[derive(Clone, Copy, Debug)]
+#[derive(Clone, Copy)]
 struct CappedSum {
     total: u64,
     most: u64,

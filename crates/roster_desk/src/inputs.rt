@@ -14,7 +14,7 @@ pub(crate) const STANDARD_INPUT: &str = "-";
 const MOST_REPORT_BYTES: u64 = 1 << 20;
 
 /// Why an input wasn't read.
-#[derive(Clone, Copy, Debug)]
+#[derive(Clone, Copy)]
 pub(crate) enum InputFault<'a> {
     /// The file at the path can't be opened.
     Unopened(&'a str),

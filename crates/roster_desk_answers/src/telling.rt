@@ -27,7 +27,7 @@ pub struct Inputs {
 }
 
 /// Why nothing was told, if that isn't the book's fault.
-#[derive(Debug, Drop)]
+#[derive(Drop)]
 pub enum Untold<'a> {
     /// The book doesn't have a name that is asked for.
     Unknown(Unknown),

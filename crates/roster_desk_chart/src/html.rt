@@ -39,7 +39,7 @@ pub(crate) fn percent(alloc: Global, share: u64) -> Result<String, AllocError> {
 }
 
 /// Something that is drawn in a row: where it begins and how wide it is, in hundredths of a percent.
-#[derive(Clone, Copy, Debug)]
+#[derive(Clone, Copy)]
 pub(crate) struct Place {
     pub(crate) left: u64,
     pub(crate) width: u64,

@@ -9,7 +9,7 @@ use std::alloc::{AllocError, Global};
 const USUAL_EFFORT: u32 = 5;
 
 /// What the words ask for.
-#[derive(Debug, Drop)]
+#[derive(Drop)]
 pub enum Line<'a> {
     /// A plan of a book.
     Plan(PlanLine<'a>),
@@ -22,7 +22,7 @@ pub enum Line<'a> {
 }
 
 /// A plan of a book.
-#[derive(Debug, Drop)]
+#[derive(Drop)]
 pub struct PlanLine<'a> {
     /// The path of the book, or `-`.
     pub book: &'a str,
@@ -41,7 +41,7 @@ pub struct PlanLine<'a> {
 }
 
 /// What is told of a roster of a book.
-#[derive(Clone, Copy, Debug)]
+#[derive(Clone, Copy)]
 pub struct TellLine<'a> {
     /// What is asked.
     pub question: Question<'a>,
@@ -52,7 +52,7 @@ pub struct TellLine<'a> {
 }
 
 /// What is asked of a roster.
-#[derive(Clone, Copy, Debug)]
+#[derive(Clone, Copy)]
 pub enum Question<'a> {
     /// Who could have a pairing, and why others mustn't.
     Why {
@@ -80,7 +80,7 @@ pub enum Question<'a> {
 }
 
 /// What is to be told of the records of a book.
-#[derive(Clone, Copy, Debug)]
+#[derive(Clone, Copy)]
 pub enum Page {
     /// Their faults.
     Fault,
@@ -89,7 +89,7 @@ pub enum Page {
 }
 
 /// What is told of the records of a book.
-#[derive(Clone, Copy, Debug)]
+#[derive(Clone, Copy)]
 pub struct PageLine<'a> {
     /// The path of the book, or `-`.
     pub book: &'a str,
@@ -98,7 +98,7 @@ pub struct PageLine<'a> {
 }
 
 /// Why the words ask for nothing.
-#[derive(Debug, Drop)]
+#[derive(Drop)]
 pub enum LineFault {
     /// They are refused, or ask for help, as `clap`'s error tells.
     Refused(clap::Error),

@@ -11,7 +11,7 @@ use std::alloc::{AllocError, Global};
 use std::str;
 
 /// What is wrong with a record.
-#[derive(Debug, Drop)]
+#[derive(Drop)]
 pub(crate) struct Finding {
     /// The place of the field, from 0 for the kind.
     pub(crate) field: usize,

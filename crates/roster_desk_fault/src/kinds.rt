@@ -6,7 +6,7 @@ use roster_model::limits::{
 };
 
 /// What a record is about.
-#[derive(Clone, Copy, Debug, PartialEq, Eq)]
+#[derive(Clone, Copy, PartialEq, Eq)]
 pub(crate) enum Kind {
     Period,
     Weight,
@@ -21,7 +21,7 @@ pub(crate) enum Kind {
 }
 
 /// The form of a field.
-#[derive(Clone, Copy, Debug, PartialEq, Eq)]
+#[derive(Clone, Copy, PartialEq, Eq)]
 pub(crate) enum Form {
     /// A month.
     Month,
@@ -44,7 +44,7 @@ pub(crate) enum Form {
 }
 
 /// A field of a kind.
-#[derive(Clone, Copy, Debug)]
+#[derive(Clone, Copy)]
 pub(crate) struct Field {
     /// Its name in the description of the format.
     pub(crate) name: &'static str,

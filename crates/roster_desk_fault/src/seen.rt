@@ -18,7 +18,7 @@ pub(crate) struct Seen<'a> {
 }
 
 /// Another record that a fault is about.
-#[derive(Clone, Copy, Debug)]
+#[derive(Clone, Copy)]
 pub(crate) struct Other {
     /// Its place among all records.
     pub(crate) place: usize,
@@ -27,7 +27,7 @@ pub(crate) struct Other {
 }
 
 /// When something begins and ends.
-#[derive(Clone, Copy, Debug)]
+#[derive(Clone, Copy)]
 pub(crate) struct Span {
     pub(crate) from: Minute,
     pub(crate) to: Minute,

@@ -28,7 +28,7 @@ const NO_PERIOD: u8 = 1;
 const CROWDED: u8 = 15;
 
 /// The first fault of a book.
-#[derive(Clone, Copy, Debug)]
+#[derive(Clone, Copy)]
 struct First {
     // The row of the record, from 1.
     row: usize,

@@ -8,7 +8,7 @@ use std::alloc::{AllocError, Global};
 const MOST_OF_A_WORD: usize = 5;
 
 /// What is likely a mistake in a record.
-#[derive(Debug, Drop)]
+#[derive(Drop)]
 pub(crate) struct Warning {
     /// The place of the record.
     pub(crate) at: usize,

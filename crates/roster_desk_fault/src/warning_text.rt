@@ -8,7 +8,7 @@ use crate::zones::zones;
 use std::alloc::{AllocError, Global};
 
 /// What is looked for.
-#[derive(Clone, Copy, Debug)]
+#[derive(Clone, Copy)]
 enum Sign {
     Zone,
     Night,

@@ -6,7 +6,7 @@ use crate::warning::{Warning, warn};
 use std::alloc::{AllocError, Global};
 
 /// Where a zone lies.
-#[derive(Clone, Copy, Debug, PartialEq, Eq)]
+#[derive(Clone, Copy, PartialEq, Eq)]
 enum Side {
     /// Its clocks are ahead of UTC.
     East,

@@ -7,7 +7,7 @@ use roster_problem::Problem;
 use roster_reports::{pairing_named, person_named};
 
 /// What is asked for, by places of the book: all that are open, and all persons, if nothing is named.
-#[derive(Clone, Copy, Debug)]
+#[derive(Clone, Copy)]
 pub struct Asked {
     /// The pairing.
     pub pairing: Option<usize>,
@@ -16,7 +16,7 @@ pub struct Asked {
 }
 
 /// A name that the book doesn't have.
-#[derive(Clone, Copy, Debug, PartialEq, Eq)]
+#[derive(Clone, Copy, PartialEq, Eq)]
 pub enum Unknown {
     /// A pairing's.
     Pairing,

@@ -8,7 +8,7 @@ use roster_reports::Wrong;
 use std::process::ExitCode;
 
 /// How a run ended.
-#[derive(Clone, Copy, Debug, PartialEq, Eq)]
+#[derive(Clone, Copy, PartialEq, Eq)]
 pub enum Status {
     /// The plan was written, or the report of the best roster.
     Answered,

@@ -8,7 +8,7 @@ use roster_reasons::{DutyInLeave, LongBlock, SharedDuties, ShortRest};
 use std::alloc::{AllocError, Global};
 
 /// From one instant to another.
-#[derive(Clone, Copy, Debug)]
+#[derive(Clone, Copy)]
 pub(crate) struct Times {
     from: Minute,
     to: Minute,

@@ -54,7 +54,7 @@ impl From<AllocError> for ZoneFault {
 /// after its last. Its days are numbered from 0, so the month's first day is day `DAYS_BEFORE`. Each
 /// day's 00:00, 08:00 and 22:00 and the next day's 00:00 follow one another, and the month is no longer
 /// than `MOST_MONTH_MINUTES`. The type keeps both.
-#[derive(Debug, Drop)]
+#[derive(Drop)]
 pub struct BaseDays {
     month_days: usize,
     mid: Vec<Minute>,

@@ -15,7 +15,7 @@ use std::marker::Model;
 const LAST_DATE: u32 = 2_932_896;
 
 /// An instant: whole minutes since 1970-01-01T00:00Z, from 0 to [`LAST_INSTANT`], which the type keeps.
-#[derive(Clone, Copy, Debug, Drop, PartialEq, Eq, PartialOrd, Ord)]
+#[derive(Clone, Copy, Drop, PartialEq, Eq, PartialOrd, Ord)]
 pub struct Minute {
     minutes: i64,
 }

@@ -8,7 +8,7 @@ use roster_model::limits::{FIRST_MONTH_YEAR, LAST_MONTH_YEAR};
 use std::marker::Model;
 
 /// A month of a year, from 1971-01 to 9997-12, which the type keeps.
-#[derive(Clone, Copy, Debug)]
+#[derive(Clone, Copy)]
 pub struct Period {
     year: i16,
     month: i8,

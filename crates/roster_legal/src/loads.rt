@@ -17,7 +17,7 @@ use std::marker::Model;
 
 /// What a pairing takes of each judged sum, in minutes, and the days of the month that it makes busy, as
 /// the bits of a word; nothing is said of one that isn't looked at.
-#[derive(Debug, Drop)]
+#[derive(Drop)]
 pub(crate) struct Load {
     pub(crate) minutes: Vec<u16>,
     pub(crate) busy: u32,
@@ -25,7 +25,7 @@ pub(crate) struct Load {
 
 /// What the rules of a person see of the problem's duties, and of some pairings: each is looked at once.
 /// Contracts see the problem, the person, and these pairings.
-#[derive(Debug, Drop)]
+#[derive(Drop)]
 pub struct Loads<'a> {
     problem: &'a Problem,
     person: usize,

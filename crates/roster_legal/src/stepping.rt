@@ -15,7 +15,7 @@ use std::alloc::{AllocError, Global};
 use std::marker::Model;
 
 /// Memory of sets that are done with.
-#[derive(Debug, Drop)]
+#[derive(Drop)]
 pub struct Spare {
     alloc: Global,
     lists: Vec<Vec<u16>>,
@@ -51,7 +51,7 @@ impl Spare {
 
 /// A legal set of a person, with its duties, what they leave of the judged sums, and the days of the
 /// month that they make busy, as the bits of a word. Contracts see the set, and what stands behind it.
-#[derive(Debug, Drop)]
+#[derive(Drop)]
 pub struct JudgedSet<'a> {
     pub(crate) loads: &'a Loads<'a>,
     set: Set,

@@ -10,7 +10,7 @@ use std::alloc::{AllocError, Global};
 
 /// For a person, the pairings that are legal alone, and for each pairing the later ones that are legal
 /// with it and its minutes of flight in the month.
-#[derive(Debug, Drop)]
+#[derive(Drop)]
 pub struct Pairs {
     /// The pairings that are legal alone.
     pub alone: Set,

@@ -12,7 +12,7 @@ use roster_problem::{Problem, Set};
 
 /// A line by its number, with those of the pairings `among` that may stand behind its own. Its cost units
 /// and the minutes of flight in the month, fixed duties included, are those of its set.
-#[derive(Debug, Drop)]
+#[derive(Drop)]
 pub(crate) struct Stem {
     pub(crate) set: Set,
     pub(crate) number: usize,

@@ -44,7 +44,7 @@ pub trait Wanted {
 }
 
 /// All lines are wanted.
-#[derive(Clone, Copy, Debug)]
+#[derive(Clone, Copy)]
 pub(crate) struct Everything;
 
 impl Wanted for Everything {
@@ -62,7 +62,7 @@ impl Wanted for Everything {
 
 /// The lines between two sets are wanted: those that hold all of the first, and nothing but what is in one
 /// of the two.
-#[derive(Clone, Copy, Debug)]
+#[derive(Clone, Copy)]
 pub struct Between {
     /// What each of them holds.
     pub must: Set,

@@ -15,7 +15,7 @@ use std::marker::Model;
 
 /// A line: the set of an earlier one, its parent, with one more pairing behind, and what that costs. Of
 /// two lines in a row the later one has all pairings but its last from the front of the earlier one.
-#[derive(Clone, Copy, Debug)]
+#[derive(Clone, Copy)]
 pub struct Row {
     /// What the line costs, in cost units.
     pub cost: i64,
@@ -32,7 +32,7 @@ const _: () = prove!(size_of::<Row>() <= 16);
 
 /// The lines of a person in their order, each once, from the empty one on. Contracts see them as a list
 /// of entries, each with a line's set and cost.
-#[derive(Debug, Drop)]
+#[derive(Drop)]
 pub struct Lines {
     lines: Vec<Row>,
 }

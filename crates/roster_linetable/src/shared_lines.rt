@@ -8,7 +8,7 @@ use std::marker::Model;
 use std::sync::Arc;
 
 /// The lines of a person. Copies of it are one list in memory.
-#[derive(Debug, Drop)]
+#[derive(Drop)]
 pub struct SharedLines {
     lines: Arc<Lines, Global>,
 }

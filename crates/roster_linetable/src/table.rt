@@ -13,7 +13,7 @@ use std::alloc::{AllocError, Global};
 use std::marker::Model;
 
 /// The lines of each person with what they cost, in book order.
-#[derive(Debug, Drop)]
+#[derive(Drop)]
 pub struct Table {
     persons: Vec<SharedLines>,
 }

@@ -53,7 +53,7 @@ pub struct Neighbourhoods {
 }
 
 /// A neighbourhood of a roster.
-#[derive(Debug, Drop)]
+#[derive(Drop)]
 pub struct Neighbourhood {
     /// What each person must keep and may have beside.
     pub wanted: Vec<Between>,

@@ -21,7 +21,7 @@ const FIRST_PART: u32 = 16;
 const MOST_GAPS: u32 = 8;
 
 /// What is found.
-#[derive(Debug, Drop)]
+#[derive(Drop)]
 pub(crate) enum Found {
     /// The best roster of the base, with its cost.
     Best(Roster),

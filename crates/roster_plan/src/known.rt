@@ -10,7 +10,7 @@ use roster_problem::{Places, Problem, Roster};
 use roster_search::costs_fit;
 
 /// A plan. Whoever is given one is promised what stands beside each field.
-#[derive(Debug, Drop)]
+#[derive(Drop)]
 pub struct Planned {
     /// A legal roster with its cost.
     pub roster: Roster,

@@ -23,7 +23,7 @@ const LINES_IN_A_GAP: usize = 6_000_000;
 const FEWEST_WORK: u64 = 1 << 19;
 
 /// What a plan may take. It is the same plan for any number of workers.
-#[derive(Clone, Copy, Debug)]
+#[derive(Clone, Copy)]
 pub struct Means {
     /// How much is tried, from 0 to 9: each one more doubles it. What is more counts as 9.
     pub effort: u32,

@@ -21,7 +21,7 @@ use roster_problem::{Problem, Roster};
 use std::alloc::{AllocError, Global};
 
 /// What is known of a month: of each base apart, and of all of it.
-#[derive(Debug, Drop)]
+#[derive(Drop)]
 pub(crate) struct Month {
     pub(crate) parts: Vec<Part>,
     pub(crate) planned: Planned,

@@ -24,7 +24,7 @@ use roster_search::{Searched, least_within};
 use std::alloc::{AllocError, Global};
 
 /// A roster that is at least as good as a known one.
-#[derive(Debug, Drop)]
+#[derive(Drop)]
 pub(crate) struct Nearby {
     /// The roster.
     pub(crate) roster: Roster,

@@ -26,7 +26,7 @@ use roster_search::{all_open, costs_fit, merged};
 use std::alloc::{AllocError, Global};
 
 /// What is known of a base: of the rosters in which only its persons fly.
-#[derive(Debug, Drop)]
+#[derive(Drop)]
 pub(crate) struct Part {
     /// Such a roster, which is legal, with its cost.
     pub(crate) roster: Roster,

@@ -9,7 +9,7 @@ use std::fmt;
 use std::fmt::{Display, Formatter};
 
 /// A step of a plan.
-#[derive(Clone, Copy, Debug, PartialEq, Eq)]
+#[derive(Clone, Copy, PartialEq, Eq)]
 pub enum Step {
     /// What is legal of the given roster was kept.
     Start,
@@ -53,7 +53,7 @@ pub trait Watcher {
 }
 
 /// Nobody, for a plan of which only the end is wanted.
-#[derive(Clone, Copy, Debug)]
+#[derive(Clone, Copy)]
 pub struct Unwatched;
 
 impl Watcher for Unwatched {

@@ -17,7 +17,7 @@ use roster_regions::Region;
 use std::alloc::{AllocError, Global};
 
 /// Prices, and the bound that they give.
-#[derive(Debug, Drop)]
+#[derive(Drop)]
 pub(crate) struct Reached {
     pub(crate) prices: DualPrices,
     pub(crate) bound: i64,
@@ -49,7 +49,7 @@ impl Reached {
 ///
 /// At a root it takes its first steps on a sample of the lines, and then looks mostly at lines near the
 /// least of their person. At a node each look is at all lines.
-#[derive(Debug, Drop)]
+#[derive(Drop)]
 pub struct Ascent {
     pub(crate) now: DualPrices,
     pub(crate) best: Reached,

@@ -14,7 +14,7 @@ use std::marker::Model;
 /// What each pairing earns the line that holds it, in parts of a cost unit: one price for each, within
 /// `MOST_PRICE`. They move step by step, and keep their direction as a falling stone does. Contracts see
 /// only the prices.
-#[derive(Debug, Drop)]
+#[derive(Drop)]
 pub struct DualPrices {
     prices: Vec<i64>,
     velocities: Vec<i64>,

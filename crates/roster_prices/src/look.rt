@@ -19,7 +19,7 @@ use std::alloc::{AllocError, Global};
 pub(crate) const WHOLE: u64 = 65_536;
 
 /// Some lines of person `k`, as a tree.
-#[derive(Debug, Drop)]
+#[derive(Drop)]
 pub(crate) struct List {
     pub(crate) k: usize,
     pub(crate) choices: Vec<Choice>,
@@ -28,7 +28,7 @@ pub(crate) struct List {
 /// How often each pairing is held by the lines that were looked at, if each person spreads over their
 /// lines: the nearer to the least the value of a line is, the greater is its share. The other lists are
 /// kept from one look to the next, for their memory.
-#[derive(Debug, Drop)]
+#[derive(Drop)]
 pub(crate) struct Look {
     covers: Vec<u64>,
     values: Vec<i64>,

@@ -15,7 +15,7 @@ use roster_regions::{Choice, Region};
 use std::alloc::{AllocError, Global};
 
 /// Which lines the next look is at.
-#[derive(Clone, Copy, Debug)]
+#[derive(Clone, Copy)]
 enum Stage {
     All,
     Sample,
@@ -24,7 +24,7 @@ enum Stage {
 
 /// For each person the lines that are near the least at the prices, or a sample of all: looks at them alone
 /// tell nearly as much as looks at all. If no list is there of a person, all lines count.
-#[derive(Debug, Drop)]
+#[derive(Drop)]
 pub(crate) struct NearLines {
     stage: Stage,
     // By person.

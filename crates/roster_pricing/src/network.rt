@@ -14,7 +14,7 @@ const STEP: u64 = 5;
 
 /// For a person: where a chain of pairings may begin, and for each pairing which later ones may follow it and
 /// how many steps of flight it has; and what each state of flight brings at the end of a chain.
-#[derive(Debug, Drop)]
+#[derive(Drop)]
 pub(crate) struct Network {
     pub(crate) first: Set,
     pub(crate) followers: Vec<Set>,

@@ -49,7 +49,7 @@ pub(crate) struct Leasts {
 
 /// The pairs and the network of each person, made once for the bounds of all bases. Contracts see the
 /// problem.
-#[derive(Debug, Drop)]
+#[derive(Drop)]
 pub struct Pricing<'a> {
     problem: &'a Problem,
     pairs: &'a [Pairs],

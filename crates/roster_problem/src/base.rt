@@ -5,7 +5,7 @@ use roster_instants::BaseDays;
 use std::marker::Model;
 
 /// The home of persons, and where pairings begin.
-#[derive(Debug, Drop)]
+#[derive(Drop)]
 pub struct Base {
     /// Its own among the bases.
     pub id: Name,

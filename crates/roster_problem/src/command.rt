@@ -1,7 +1,7 @@
 //! What the program is asked to do.
 
 /// What the program is asked to do.
-#[derive(Clone, Copy, Debug, PartialEq, Eq)]
+#[derive(Clone, Copy, PartialEq, Eq)]
 pub enum Command {
     /// Find the best roster of the book.
     Solve,

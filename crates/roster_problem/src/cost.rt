@@ -3,7 +3,7 @@
 use std::marker::Model;
 
 /// What it costs that a person flies a pairing.
-#[derive(Debug, Drop)]
+#[derive(Drop)]
 pub struct Cost {
     /// The place of the person.
     pub person: usize,

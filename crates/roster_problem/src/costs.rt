@@ -11,7 +11,7 @@ use std::marker::Model;
 
 /// Costs in the order given, of persons below `MOST_PERSONS` with pairings below `MOST_PAIRINGS`. The
 /// units of a person with a pairing are found without a look at the others.
-#[derive(Debug, Drop)]
+#[derive(Drop)]
 pub struct Costs {
     costs: Vec<Cost>,
     // A row of `MOST_PAIRINGS` for each person, as far as units are given.

@@ -12,7 +12,7 @@ use std::alloc::AllocError;
 use std::marker::Model;
 
 /// Whose duty it is.
-#[derive(Clone, Copy, Debug, PartialEq, Eq)]
+#[derive(Clone, Copy, PartialEq, Eq)]
 pub enum Holder {
     /// The pairing at this place.
     Pairing(usize),
@@ -22,7 +22,7 @@ pub enum Holder {
 
 /// A duty, from its report to its later release. Its sectors lie in it, and each begins no earlier
 /// than the one before it ends. The type keeps that.
-#[derive(Debug, Drop)]
+#[derive(Drop)]
 pub struct Duty {
     /// Its own among the duties.
     pub id: Name,

@@ -14,7 +14,7 @@ use std::marker::Model;
 /// A person's duties, at most `MOST_DUTIES`. Contracts see them as a list.
 ///
 /// It holds their positions in the duties of the problem, and no duty itself.
-#[derive(Debug, Drop)]
+#[derive(Drop)]
 pub struct DutyList<'a> {
     duties: &'a [Duty],
     positions: Vec<u16>,

@@ -10,7 +10,7 @@ use roster_instants::Minute;
 use std::marker::Model;
 
 /// Time in which a person has no duty, from one instant to a later one, which the type keeps.
-#[derive(Debug, Drop)]
+#[derive(Drop)]
 pub struct Leave {
     /// The place of the person.
     pub person: usize,

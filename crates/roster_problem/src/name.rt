@@ -8,7 +8,7 @@ use roster_model::limits::MOST_NAME_BYTES;
 use std::marker::Model;
 
 /// An identifier of a book, of the form that `is_identifier` tells, which the type keeps.
-#[derive(Debug, Drop)]
+#[derive(Drop)]
 pub struct Name {
     bytes: [u8; MOST_NAME_BYTES],
     len: usize,

@@ -4,7 +4,7 @@ use crate::name::Name;
 use std::marker::Model;
 
 /// A pairing: duties in a row for one person, of which the first reports at the base.
-#[derive(Debug, Drop)]
+#[derive(Drop)]
 pub struct Pairing {
     /// Its own among the pairings.
     pub id: Name,

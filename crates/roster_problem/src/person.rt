@@ -4,7 +4,7 @@ use crate::name::Name;
 use std::marker::Model;
 
 /// A crew member.
-#[derive(Debug, Drop)]
+#[derive(Drop)]
 pub struct Person {
     /// Their own among the persons.
     pub id: Name,

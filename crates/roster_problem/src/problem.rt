@@ -24,7 +24,7 @@ use std::marker::Model;
 /// What is to be rostered: the tables that the records of a book without a fault make.
 ///
 /// A person and a pairing is named by its place in book order, from 0.
-#[derive(Debug, Drop)]
+#[derive(Drop)]
 pub struct Problem {
     // Duties are in their order in time.
     pub(crate) tables: BookTables,

@@ -7,7 +7,7 @@ use std::marker::Model;
 
 /// For each pairing in book order the place of the person who flies it, or the number of persons
 /// if it is left open.
-#[derive(Debug, Drop)]
+#[derive(Drop)]
 pub struct Places {
     places: Vec<u16>,
 }
@@ -53,7 +53,7 @@ impl Places {
 
 /// A roster, and a cost. That it is what the places cost is the word of whoever made it: plain data
 /// that a caller may write, so a reader that counts on it asks for it. Contracts see it as its key.
-#[derive(Debug, Drop)]
+#[derive(Drop)]
 pub struct Roster {
     /// Who flies each pairing.
     pub places: Places,

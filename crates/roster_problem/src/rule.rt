@@ -7,7 +7,7 @@ ghost use Rattle.roster_problem.specs.declared.rule.TheConstants.Limit as limits
 ghost use Rattle.roster_problem.specs.declared.rule.TheConstants.Rule.{ALL};
 
 /// A rule on how much duty or flight there may be.
-#[derive(Clone, Copy, Debug, PartialEq, Eq)]
+#[derive(Clone, Copy, PartialEq, Eq)]
 pub enum Limit {
     /// There is not too much duty in 7 days in a row.
     Duty7,
@@ -50,7 +50,7 @@ impl Limit {
 }
 
 /// A rule that a person's set of pairings has to keep.
-#[derive(Clone, Copy, Debug, PartialEq, Eq)]
+#[derive(Clone, Copy, PartialEq, Eq)]
 pub enum Rule {
     /// A person flies only pairings of the home base.
     Base,

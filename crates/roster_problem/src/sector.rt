@@ -4,7 +4,7 @@ use roster_instants::Minute;
 use std::marker::Model;
 
 /// A flight within a duty.
-#[derive(Clone, Copy, Debug, PartialEq, Eq)]
+#[derive(Clone, Copy, PartialEq, Eq)]
 pub struct Sector {
     /// Whether the person operates it; else it is for positioning.
     pub operates: bool,

@@ -16,7 +16,7 @@ const SET_WORDS: usize = (MOST_PAIRINGS + 63) / 64;
 
 /// A set of pairings by their places, each below `MOST_PAIRINGS`. Contracts see it as the ascending
 /// list of its places.
-#[derive(Clone, Copy, Debug)]
+#[derive(Clone, Copy)]
 pub struct Set {
     words: [u64; SET_WORDS],
 }

@@ -8,7 +8,7 @@ use std::marker::Model;
 
 /// What a worker does in a search that is replayed. A book has workers from 0 to 63, and other numbers from
 /// 0 to 1000000.
-#[derive(Clone, Copy, Debug, PartialEq, Eq)]
+#[derive(Clone, Copy, PartialEq, Eq)]
 pub enum Step {
     /// Takes a part of the search from the list of those that wait.
     Take {
@@ -42,7 +42,7 @@ pub enum Step {
 }
 
 /// Steps in the order of their records. Contracts see them as a list.
-#[derive(Debug, Drop)]
+#[derive(Drop)]
 pub struct Steps {
     steps: Vec<Step>,
 }

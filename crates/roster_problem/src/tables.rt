@@ -14,7 +14,7 @@ use std::alloc::Global;
 
 /// The tables of a problem. They are given in book order; [`Problem`](crate::Problem) puts the duties
 /// into their order in time.
-#[derive(Debug, Drop)]
+#[derive(Drop)]
 pub struct BookTables {
     /// The month.
     pub period: Period,

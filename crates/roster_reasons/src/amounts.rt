@@ -15,7 +15,7 @@ use roster_model::limits::MOST_DUTIES;
 use roster_problem::{DutyList, Limit, Problem};
 
 /// The flight of the month, with what was flown before it.
-#[derive(Clone, Copy, Debug, PartialEq, Eq)]
+#[derive(Clone, Copy, PartialEq, Eq)]
 pub struct MonthFlight {
     /// The minutes flown before the month.
     pub carried: u64,
@@ -26,7 +26,7 @@ pub struct MonthFlight {
 }
 
 /// What a limit counts.
-#[derive(Clone, Copy, Debug, PartialEq, Eq)]
+#[derive(Clone, Copy, PartialEq, Eq)]
 pub enum Amount {
     /// Duty or flight in days in a row.
     Run(RunOfDays),

@@ -11,7 +11,7 @@ use roster_model::profile::{
 use roster_problem::{Limit, Person};
 
 /// What is counted.
-#[derive(Clone, Copy, Debug)]
+#[derive(Clone, Copy)]
 pub(crate) enum Measure {
     /// Duty.
     Duty,
@@ -20,7 +20,7 @@ pub(crate) enum Measure {
 }
 
 /// What a limit looks at, and the minutes that there may be at most.
-#[derive(Clone, Copy, Debug)]
+#[derive(Clone, Copy)]
 pub(crate) enum Bound {
     /// Each judged run of so many days.
     Run(Measure, usize, u64),

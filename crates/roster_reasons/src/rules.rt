@@ -33,7 +33,7 @@ use rest::first_short_rest;
 use roster_problem::{DutyList, Limit, Problem, Rule, Set};
 
 /// What breaks a rule.
-#[derive(Clone, Copy, Debug, PartialEq, Eq)]
+#[derive(Clone, Copy, PartialEq, Eq)]
 pub enum Reason {
     /// A pairing of another base, by its place in the book.
     Base(usize),

@@ -14,7 +14,7 @@ use roster_model::limits::{DAYS_BEFORE, MOST_DAYS};
 use roster_problem::DutyList;
 
 /// A run of days in a row, and what a limit counts in it.
-#[derive(Clone, Copy, Debug, PartialEq, Eq)]
+#[derive(Clone, Copy, PartialEq, Eq)]
 pub struct RunOfDays {
     /// Its last day.
     pub last: usize,

@@ -14,7 +14,7 @@ use std::marker::Model;
 /// All lines of a person, which the table has too, and a mark for each that tells whether it is left, or no
 /// marks if all are. So a line takes a byte at most besides its row. Contracts see them as lines of a
 /// region, whose costs are counted in so many parts a cost unit, and the marks.
-#[derive(Debug, Drop)]
+#[derive(Drop)]
 pub(crate) struct AllLines {
     lines: SharedLines,
     scale: u32,

@@ -27,7 +27,7 @@ pub(crate) const MOST_SLACK: u64 = MOST_LIMIT + MOST_BOUND;
 
 /// A line of a person, by what it has behind the one before: its first pairings are as many of those of
 /// the choice before as its depth says, less one, and then comes its last.
-#[derive(Clone, Copy, Debug)]
+#[derive(Clone, Copy)]
 pub struct Choice {
     /// What the line costs more than the empty one, in parts of a cost unit. It says nothing if the
     /// choice isn't live.

@@ -8,7 +8,7 @@ use crate::rows::Rows;
 use std::marker::Model;
 
 /// Where choices stand.
-#[derive(Debug, Drop)]
+#[derive(Drop)]
 enum Source<'a> {
     /// In the table: rows of a person's lines.
     Table(Rows<'a>),
@@ -17,7 +17,7 @@ enum Source<'a> {
 }
 
 /// The choices of a tree of lines, one behind another. Contracts see their list.
-#[derive(Debug, Drop)]
+#[derive(Drop)]
 pub struct Choices<'a> {
     source: Source<'a>,
 }

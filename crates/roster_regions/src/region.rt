@@ -22,7 +22,7 @@ use std::marker::Model;
 /// must not. Costs are in parts of a cost unit, and those of a line are what it costs more than the
 /// person's empty one. All lines of a person stay in the table. A copy takes little memory, since lines
 /// are shared until one of the two changes.
-#[derive(Debug, Drop)]
+#[derive(Drop)]
 pub struct Region {
     pub(crate) persons: Vec<Shared>,
     pub(crate) left_open: Set,

@@ -16,7 +16,7 @@ use std::marker::Model;
 
 /// The rows of all lines of a person, and for each whether it is live, or no marks if all are. Contracts see
 /// them as choices: each costs so much more than the empty line, at so many parts a cost unit.
-#[derive(Debug, Drop)]
+#[derive(Drop)]
 pub struct Rows<'a> {
     rows: &'a [Row],
     marks: &'a [bool],

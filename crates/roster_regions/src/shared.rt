@@ -8,7 +8,7 @@ use std::marker::Model;
 use std::sync::Arc;
 
 /// The lines that a person may still have. Copies of it are one tree in memory.
-#[derive(Debug, Drop)]
+#[derive(Drop)]
 pub(crate) struct Shared {
     tree: Arc<Tree, Global>,
 }

@@ -39,7 +39,7 @@ fn is_sparse(count: usize, rows: usize) -> bool {
 }
 
 /// Where the choices of a tree stand.
-#[derive(Debug, Drop)]
+#[derive(Drop)]
 enum Held {
     /// In the table: all lines of a person, of which some are left.
     Table(AllLines),
@@ -48,7 +48,7 @@ enum Held {
 }
 
 /// The lines that a person may still have, as a tree. Contracts see their list.
-#[derive(Debug, Drop)]
+#[derive(Drop)]
 pub(crate) struct Tree {
     held: Held,
     possible: Set,

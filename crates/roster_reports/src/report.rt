@@ -22,7 +22,7 @@ const FIRST_NUMBER: usize = 2;
 const NOBODY: &[u8] = b"-";
 
 /// What a `CREW` line says.
-#[derive(Debug, Drop)]
+#[derive(Drop)]
 pub struct CrewLine {
     /// The number of the line, from 1.
     pub line: usize,
@@ -33,7 +33,7 @@ pub struct CrewLine {
 }
 
 /// What a report says of who has which pairing.
-#[derive(Debug, Drop)]
+#[derive(Drop)]
 pub struct Report {
     /// The month.
     pub period: Period,

@@ -17,7 +17,7 @@ use std::marker::Model;
 
 /// When a duty begins and ends, and the first instant up to which the time from its end is a recurrent
 /// rest; it is later than all others if there is none.
-#[derive(Clone, Copy, Debug)]
+#[derive(Clone, Copy)]
 pub(crate) struct DutyTimes {
     pub(crate) report: Minute,
     pub(crate) release: Minute,
@@ -73,7 +73,7 @@ fn times_of(days: &BaseDays, duty: &Duty) -> DutyTimes
 
 /// Duties by the clocks of a base, with the instants from which on rests after them are recurrent. Lists
 /// of them are judged without another look at any night. Contracts see the duties and the days.
-#[derive(Debug, Drop)]
+#[derive(Drop)]
 pub struct Times<'a> {
     days: &'a BaseDays,
     duties: &'a [Duty],

@@ -7,7 +7,7 @@ ghost use Rattle.roster_run.specs.Run.{exit_number, message_text};
 use std::process::ExitCode;
 
 /// How a run ended.
-#[derive(Clone, Copy, Debug, PartialEq, Eq)]
+#[derive(Clone, Copy, PartialEq, Eq)]
 pub enum Status {
     /// The answer was written.
     Answered,

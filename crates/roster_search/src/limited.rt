@@ -17,7 +17,7 @@ use roster_regions::Region;
 use std::alloc::{AllocError, Global};
 
 /// What comes of a search that may be given up.
-#[derive(Debug, Drop)]
+#[derive(Drop)]
 pub enum Searched {
     /// The least roster, if one costs less than the limit.
     Settled(Option<Roster>),

@@ -13,7 +13,7 @@ use std::thread::Threads;
 
 /// Good prices for a region, what its least roster likely costs, and the places of the cheapest one that was
 /// rounded. Nothing rests on any of them.
-#[derive(Debug, Drop)]
+#[derive(Drop)]
 pub struct RootPrices {
     pub(crate) prices: DualPrices,
     pub(crate) likely: i64,

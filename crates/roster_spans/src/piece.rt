@@ -9,7 +9,6 @@ use std::sync::Arc;
 
 /// A span that someone has to search. It can't be copied, and it must be spent: by the search's `Done`, or
 /// by `forgo`. Contracts see it as its span.
-#[derive(Debug)]
 pub struct Piece {
     span: Span,
 }
@@ -44,7 +43,6 @@ impl Piece {
 }
 
 /// A piece whose span is settled, and by which roster. It must be spent, as a piece must.
-#[derive(Debug)]
 pub struct Done {
     /// The piece.
     pub piece: Piece,

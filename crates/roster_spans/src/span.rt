@@ -5,7 +5,7 @@ ghost use Rattle.std.specs.Prelude.{◌≡◌};
 use std::marker::Model;
 
 /// Line numbers of the first persons. Contracts see them as a list.
-#[derive(Debug, Drop)]
+#[derive(Drop)]
 pub struct Path {
     numbers: Vec<usize>,
 }
@@ -43,7 +43,7 @@ impl Path {
 
 /// The lists of line numbers that begin with the path and go on with a number in the range. Plain data:
 /// the numbers needn't be those of lines, nor the path no longer than there are persons.
-#[derive(Debug, Drop)]
+#[derive(Drop)]
 pub struct Span {
     /// The line numbers of the first persons.
     pub path: Path,

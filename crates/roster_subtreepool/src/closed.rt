@@ -9,7 +9,7 @@ use std::marker::Model;
 
 /// What a pool at rest leaves. Its type keeps that it comes from a state at rest, and so that each list of
 /// the box lies in just one of the finished spans. Contracts see it as the widths and the finished spans.
-#[derive(Debug, Drop)]
+#[derive(Drop)]
 pub struct Closed {
     pub(crate) widths: Vec<usize>,
     pub(crate) finished: Vec<(usize, Span)>,

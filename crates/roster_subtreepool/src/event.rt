@@ -1,7 +1,7 @@
 //! What happens to a pool, one thing at a time.
 
 /// An event of a pool, with the number of its worker.
-#[derive(Debug, Clone, Copy, PartialEq, Eq)]
+#[derive(Clone, Copy, PartialEq, Eq)]
 pub enum Event {
     /// The worker takes the pending span at this place, from 0; the later ones close up.
     Take(usize, usize),

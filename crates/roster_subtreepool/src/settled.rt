@@ -7,7 +7,7 @@ use std::sync::Arc;
 
 /// A span that is settled, and by which roster. Plain data. Contracts see it as the span and the roster's
 /// key.
-#[derive(Debug, Drop)]
+#[derive(Drop)]
 pub struct Settled {
     /// The span.
     pub span: Span,

@@ -10,7 +10,7 @@ use roster_problem::Problem;
 use std::alloc::{AllocError, Global};
 
 /// What is counted of a person with a roster.
-#[derive(Clone, Copy, Debug, PartialEq, Eq)]
+#[derive(Clone, Copy, PartialEq, Eq)]
 pub(crate) struct Sums {
     /// The units of the pairings, and what the missed target costs.
     pub(crate) cost: i64,

@@ -13,7 +13,7 @@ use std::io::{Read, Write};
 /// It has failed if the one inside answered an error, or took none of some bytes. It then stays so.
 /// It is flushed if a flush of it ended without an error, and no write was asked of it since: of what was
 /// written to the one inside before, nothing is known.
-#[derive(Debug, Drop)]
+#[derive(Drop)]
 pub struct Watched<D> {
     inner: D,
     failed: bool,

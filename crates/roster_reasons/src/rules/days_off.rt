@@ -10,7 +10,7 @@ use roster_model::limits::DAYS_BEFORE;
 use roster_problem::{Duty, DutyList};
 
 /// Fewer days off in a row than twice two.
-#[derive(Clone, Copy, Debug, PartialEq, Eq)]
+#[derive(Clone, Copy, PartialEq, Eq)]
 pub enum FewDaysOff {
     /// No two days of the month in a row are off.
     NoPair,

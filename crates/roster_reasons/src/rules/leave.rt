@@ -11,7 +11,7 @@ use roster_instants::common;
 use roster_problem::{Duty, DutyList, Leave, Problem};
 
 /// A duty that shares minutes with a leave.
-#[derive(Clone, Copy, Debug, PartialEq, Eq)]
+#[derive(Clone, Copy, PartialEq, Eq)]
 pub struct DutyInLeave {
     /// The duty.
     pub duty: usize,

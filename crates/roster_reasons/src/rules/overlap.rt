@@ -10,7 +10,7 @@ use roster_instants::common;
 use roster_problem::{Duty, DutyList};
 
 /// Two duties that follow one another on the list and share minutes.
-#[derive(Clone, Copy, Debug, PartialEq, Eq)]
+#[derive(Clone, Copy, PartialEq, Eq)]
 pub struct SharedDuties {
     /// The duty that reports first.
     pub first: usize,

@@ -11,7 +11,7 @@ use roster_problem::{Duty, DutyList};
 use roster_restrules::first_of_block;
 
 /// Duties with no recurrent rest between them, which take too long.
-#[derive(Clone, Copy, Debug, PartialEq, Eq)]
+#[derive(Clone, Copy, PartialEq, Eq)]
 pub struct LongBlock {
     /// The first duty of the list, or the first one after a recurrent rest.
     pub first: usize,

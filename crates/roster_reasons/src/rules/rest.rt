@@ -9,7 +9,7 @@ use roster_problem::{Base, Duty, DutyList, Holder};
 use roster_restrules::rest_needed;
 
 /// A rest that is too short.
-#[derive(Clone, Copy, Debug, PartialEq, Eq)]
+#[derive(Clone, Copy, PartialEq, Eq)]
 pub struct ShortRest {
     /// The duty before it; the next one of the list comes after it.
     pub before: usize,
