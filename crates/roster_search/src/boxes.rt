@@ -61,7 +61,7 @@ pub fn whole(
     Ok(ranges)
 }
 
-/// `least_of_box`, if the least rosters of some bases are known.
+/// `least_of_box`, if the least rosters of some bases are known, which aren't searched again.
 pub fn least_with<F: Finder>(
     alloc: Global,
     problem: &Problem,

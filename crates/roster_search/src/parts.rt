@@ -77,7 +77,8 @@ fn least_of_base<F: Finder>(
     least_in(alloc, problem, table, ranges, base, region, root, finder)
 }
 
-/// The region of the base.
+/// The region of the rosters in which the persons of the base have lines in their ranges, and all others no
+/// pairing.
 pub fn region_of_base(
     alloc: Global,
     problem: &Problem,
@@ -93,7 +94,8 @@ pub fn region_of_base(
     Region::of_ranges(alloc, problem, table, &own)
 }
 
-/// The least roster of the base, in its region.
+/// The least roster of the base, in its region, if there is one. Any prices will do; good ones make the search
+/// short.
 pub fn least_in<F: Finder>(
     alloc: Global,
     problem: &Problem,

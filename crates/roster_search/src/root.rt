@@ -36,7 +36,8 @@ pub(crate) fn root_prices(
     Ok(rise.prices(region))
 }
 
-/// `root_prices`, for which so many threads look at the lines. It comes to the same.
+/// Raises prices from the given ones on, for rosters that cost less than the limit, as one thread does before
+/// its search. So many threads look at the lines; it comes to the same.
 pub fn root_prices_by_threads<R: Threads + Sync>(
     rt: &R,
     alloc: Global,
