@@ -7,8 +7,9 @@ ghost use Rattle.roster_search.specs.Least.{IsBefore};
 
 use crate::shared::parts_by_threads;
 use roster_linetable::{Table, all_lines_are_some};
-use roster_problem::{Problem, Roster};
+use roster_problem::Problem;
 use roster_search::{Unseen, least_with, whole};
+use roster_values::Roster;
 use std::alloc::{AllocError, Global};
 use std::thread::Threads;
 

@@ -9,9 +9,10 @@ ghost use Rattle.roster_search.specs.Open.{IsInSome};
 
 use crate::exploring::{Explored, Round, explore_by_threads};
 use roster_prices::DualPrices;
-use roster_problem::{Problem, Roster};
+use roster_problem::Problem;
 use roster_regions::Region;
 use roster_search::{Finder, OpenNode, Unseen, find};
+use roster_values::Roster;
 use std::alloc::{AllocError, Global};
 use std::sync::atomic::{AtomicUsize, Ordering};
 use std::thread::Threads;

@@ -7,8 +7,9 @@ ghost use Rattle.roster_regions.specs.Regions.{IsRegion, Region};
 ghost use Rattle.roster_bases.specs.Explored.{AreDealt, IsExplored};
 ghost use Rattle.roster_search.specs.Open.{IsInSome};
 
-use roster_problem::{Problem, Roster};
+use roster_problem::Problem;
 use roster_search::{MOST_NODES, OpenNode, lines_of_last, visit_last};
+use roster_values::Roster;
 use std::alloc::{AllocError, Global};
 use std::sync::atomic::{AtomicUsize, Ordering};
 use std::thread::{Threads, join};

@@ -17,8 +17,8 @@ use Rattle.roster_book.specs.declared.refusal.Refusal.TheVariants as refusals
 use Rattle.roster_book.specs.View as view
 use Rattle.roster_book.specs.View.{Refuses}
 use Rattle.roster_problem.specs.Sound.{tables_of}
-use Rattle.roster_problem.specs.View.{step_of}
-use Rattle.roster_problem.specs.declared.step.Step.{Step}
+use Rattle.roster_values.specs.View.{step_of}
+use Rattle.roster_values.specs.declared.step.Step.{Step}
 
 -- the tables, with the duties that are kept apart
 abbrev pub tables_of_draft : Draft → Problem

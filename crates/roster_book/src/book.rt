@@ -1,6 +1,7 @@
 //! The book that was read.
 
-use roster_problem::{Places, Problem, Steps};
+use roster_problem::Problem;
+use roster_values::{Places, Steps};
 
 /// The book that was read.
 #[derive(Drop)]

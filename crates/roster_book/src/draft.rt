@@ -15,7 +15,7 @@ ghost use Rattle.roster_book.specs.Draft.{HasRecords, IsDraftOf, Judges, Pushes,
 ghost use Rattle.roster_book.specs.Draft.{contents_of, problem_of_draft, tables_of_draft};
 ghost use Rattle.roster_book.specs.Reading.{IsBookOf, TellsFirst};
 ghost use Rattle.roster_problem.specs.Sound.{IsSound};
-ghost use Rattle.roster_problem.specs.View.{command_of};
+ghost use Rattle.roster_values.specs.View.{command_of};
 ghost use Rattle.roster_book.specs.View as view;
 
 use crate::book::Book;
@@ -26,7 +26,8 @@ use crate::record::assign::Assign;
 use crate::record::period;
 use crate::refusal::Refusal;
 use csv::ByteRecord;
-use roster_problem::{Base, BookTables, Command, Duty, Holder, Places, Problem, Steps};
+use roster_problem::{Base, BookTables, Duty, Holder, Problem};
+use roster_values::{Command, Places, Steps};
 use std::alloc::{AllocError, Global};
 
 /// The tables of the records taken so far, who is assigned to pairings, and the steps. Duties are in the

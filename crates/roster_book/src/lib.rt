@@ -33,7 +33,8 @@ pub use code::Code;
 pub use fault::BookFault;
 pub use reading::read_book;
 pub use roster_problem::{
-    Base, Command, Cost, Costs, Duty, DutyList, Holder, Leave, Name, Pairing, Person, Places,
-    Problem, Roster, Rule, Sector, Set, Step, Steps, duties_in_order,
+    Base, Cost, Costs, Duty, DutyList, Holder, Leave, Pairing, Person, Problem, Sector,
+    duties_in_order,
 };
+pub use roster_values::{Command, Name, Places, Roster, Rule, Set, Step, Steps};
 pub use roster_watched::Watched;

@@ -5,7 +5,8 @@ ghost use Rattle.std.specs.Str.{bytes_eq};
 ghost use Rattle.roster_model.specs.Record.{place_named};
 ghost use Rattle.roster_book.specs.Keys.{key_of_name, keys_of};
 
-use roster_problem::{Base, Duty, Name, Pairing, Person};
+use roster_problem::{Base, Duty, Pairing, Person};
+use roster_values::Name;
 
 /// An entry of a table, whose name no other entry of the table has.
 pub(crate) trait Named {

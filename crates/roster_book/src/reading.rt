@@ -5,7 +5,7 @@ ghost use Rattle.std.specs.Prelude.{MatchResult};
 ghost use Rattle.csv.specs.Records.{fields_of};
 ghost use Rattle.roster_book.specs.Reading.{AreSeen, IsBookOf, IsOpen, OfKnown, OfTold, TellsFirst};
 ghost use Rattle.roster_book.specs.Reading.{records_left};
-ghost use Rattle.roster_problem.specs.View.{command_of};
+ghost use Rattle.roster_values.specs.View.{command_of};
 ghost use Rattle.roster_watched.specs.Watch.{inner_of, has_failed};
 
 use crate::book::Book;
@@ -15,7 +15,7 @@ use crate::fault::BookFault;
 use crate::refusal::Refusal;
 use csv::{ByteRecord, Reader, ReaderBuilder};
 use roster_model::limits::MOST_RECORDS;
-use roster_problem::Command;
+use roster_values::Command;
 use roster_watched::Watched;
 use std::alloc::{AllocError, Global};
 use std::io::Read;

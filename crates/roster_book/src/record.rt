@@ -5,7 +5,7 @@ ghost use Rattle.std.specs.Prelude.{◌≡◌, List, option_map};
 ghost use Rattle.csv.specs.Records.{fields_of};
 ghost use Rattle.roster_model.specs.Record.{Record, PeriodRecord, is_of, word_of};
 ghost use Rattle.roster_model.specs.Faults.{kind_in};
-ghost use Rattle.roster_problem.specs.View.{command_of};
+ghost use Rattle.roster_values.specs.View.{command_of};
 ghost use Rattle.roster_book.specs.Draft.{HasRecords, IsDraftOf, Takes, contents_of};
 ghost use Rattle.roster_book.specs.View.{is_for, kind_of};
 
@@ -28,7 +28,7 @@ use crate::draft::{Draft, push};
 use crate::forms::field;
 use crate::refusal::Refusal;
 use csv::ByteRecord;
-use roster_problem::Command;
+use roster_values::Command;
 use std::alloc::Global;
 
 /// What a record is about.

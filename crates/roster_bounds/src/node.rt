@@ -9,7 +9,7 @@ ghost use Rattle.roster_bounds.specs.Chosen.{line_set, one_line_more, placing_pe
 use crate::tables::Tables;
 use roster_linetable::Table;
 use roster_model::limits::MOST_PERSONS;
-use roster_problem::Set;
+use roster_values::Set;
 use std::alloc::{AllocError, Global};
 use std::marker::Model;
 

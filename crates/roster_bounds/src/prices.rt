@@ -8,7 +8,8 @@ ghost use Rattle.roster_cost.specs.Amounts.{IsWithin};
 ghost use Rattle.roster_bounds.specs.Amounts.{most_prices};
 ghost use Rattle.roster_bounds.specs.Chosen.{halves_of, price_at};
 
-use roster_problem::{Pairing, Problem, Set};
+use roster_problem::{Pairing, Problem};
+use roster_values::Set;
 use std::alloc::{AllocError, Global};
 use std::marker::Model;
 

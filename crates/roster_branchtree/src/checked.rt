@@ -10,7 +10,8 @@ ghost use Rattle.roster_model.specs.Settled.{IsHeld};
 use roster_cost::roster_cost;
 use roster_linetable::Table;
 use roster_model::limits::MOST_PAIRINGS;
-use roster_problem::{Places, Problem, Roster, Set, open_number};
+use roster_problem::{Problem, open_number};
+use roster_values::{Places, Roster, Set};
 use std::alloc::{AllocError, Global};
 
 /// Whether the places are a legal roster and the cost is what it costs. The roster may be anything: of

@@ -14,9 +14,10 @@ use crate::watch::{Watch, earlier_if};
 use roster_bounds::Tables;
 use roster_cost::Key;
 use roster_linetable::{Table, all_lines_are_some};
-use roster_problem::{Problem, Roster};
+use roster_problem::Problem;
 use roster_search::{Nodes, least_of_box};
 use roster_spans::{Done, Piece, Span};
+use roster_values::Roster;
 use std::alloc::{AllocError, Global};
 use std::sync::Arc;
 

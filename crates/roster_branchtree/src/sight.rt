@@ -1,6 +1,6 @@
 //! Who shows rosters to a search.
 
-use roster_problem::Roster;
+use roster_values::Roster;
 use std::sync::Arc;
 
 /// Shows the rosters of others to a search, now and then. A search trusts what it is shown in nothing: not

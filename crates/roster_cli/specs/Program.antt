@@ -3,8 +3,8 @@ use Rattle.std.specs.Prelude.{◌≡◌, ℕ, List, ◌∷◌, [], ◌++◌, map
 use Rattle.std.specs.Io.KnownBytes.{Appends}
 use Rattle.roster_model.specs.Record.{Record}
 use Rattle.roster_model.specs.Record as model
-use Rattle.roster_problem.specs.View.{command_of}
-use Rattle.roster_problem.specs.declared.command.Command.{Command}
+use Rattle.roster_values.specs.View.{command_of}
+use Rattle.roster_values.specs.declared.command.Command.{Command}
 use Rattle.roster_book.specs.Reading.{OfTold}
 use Rattle.roster_commandline.specs.Line.{command_name, spelling}
 use Rattle.roster_watched.specs.Watch.{inner_of, has_failed}

@@ -9,7 +9,7 @@ ghost use Rattle.std.specs.declared.io.ErrorKind.TheVariants.{OutOfMemory};
 ghost use Rattle.clap.specs.Words.{fault_of};
 ghost use Rattle.clap.specs.Words as line;
 ghost use Rattle.roster_model.specs.Answer.{IsAnswer, IsRefusal, IsReport};
-ghost use Rattle.roster_problem.specs.declared.command.Command as asked;
+ghost use Rattle.roster_values.specs.declared.command.Command as asked;
 ghost use Rattle.roster_watched.specs.Watch.{inner_of, has_failed, is_flushed};
 ghost use Rattle.roster_report.specs.Writing.{AppendsPrefix, Writes, WritesPart};
 ghost use Rattle.roster_run.specs.Run.{exit_number, message_text};

@@ -13,8 +13,9 @@ use crate::root::{first_known, search_root, widths_of};
 use roster_branchtree::Span;
 use roster_cost::{comes_before, keys_are_in_order};
 use roster_linetable::Table;
-use roster_problem::{Problem, Roster};
+use roster_problem::Problem;
 use roster_subtreepool::{Closed, Settled};
+use roster_values::Roster;
 use std::alloc::{AllocError, Global};
 use std::sync::Arc;
 

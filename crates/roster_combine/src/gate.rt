@@ -2,7 +2,7 @@
 
 use roster_branchtree::Sight;
 use roster_incumbent::Incumbent;
-use roster_problem::Roster;
+use roster_values::Roster;
 use std::sync::{Arc, Wait};
 
 /// How far a worker is with a part of the search.

@@ -11,7 +11,8 @@ ghost use Rattle.roster_combine.specs.Parts.{IsBestKey};
 use roster_bounds::choose_tables;
 use roster_branchtree::{Done, Path, Piece, Sight, Span, all_left, search};
 use roster_linetable::Table;
-use roster_problem::{Problem, Roster};
+use roster_problem::Problem;
+use roster_values::Roster;
 use std::alloc::{AllocError, Global};
 use std::sync::Arc;
 

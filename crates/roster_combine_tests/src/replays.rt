@@ -4,8 +4,8 @@ ghost use Rattle.std.specs.Prelude.{◌<◌};
 
 use crate::books::{NOBODY, is};
 use roster_combine::replay;
-use roster_problem::Step;
 use roster_sample_books::{BEST, TWO_DAYS, problem_of};
+use roster_values::Step;
 use std::alloc::{AllocError, Global};
 use std::test::Fail;
 

@@ -25,7 +25,7 @@ use Rattle.clap.specs.declared.builder.value_parser.ValueParser.TheVariants as p
 use Rattle.clap.specs.declared.parser.matches.ArgMatches.{ArgMatches}
 use Rattle.clap.proofs.ValueTestLemmas.{accepts-Accepts}
 use Rattle.clap.proofs.WalkLemmas.{one_text-rows}
-use Rattle.roster_problem.specs.declared.command.Command.TheVariants.{Solve}
+use Rattle.roster_values.specs.declared.command.Command.TheVariants.{Solve}
 use Rattle.roster_commandline.specs.Line.{HasWorkers, command_name, number_spelled, roster_app, workers_asked, workers_rule}
 
 -- ---- the parts of `solve`

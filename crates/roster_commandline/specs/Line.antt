@@ -10,8 +10,8 @@ use Rattle.clap.specs.declared.error.kind.ErrorKind.TheVariants.{OutOfMemory}
 use Rattle.roster_model.specs.declared.limits.TheConstants.{MOST_WORKERS}
 use Rattle.roster_commandline.specs.declared.line.LineFault.{LineFault}
 use Rattle.roster_commandline.specs.declared.line.LineFault.TheVariants as faults
-use Rattle.roster_problem.specs.declared.command.Command.{Command}
-use Rattle.roster_problem.specs.declared.command.Command.TheVariants as commands
+use Rattle.roster_values.specs.declared.command.Command.{Command}
+use Rattle.roster_values.specs.declared.command.Command.TheVariants as commands
 
 -- `--workers N`, from 1 to the workers that search together at most, and 1 if it isn't given
 abbrev pub workers_rule : Rule

@@ -6,12 +6,12 @@ ghost use Rattle.clap.specs.Words.{HasKind, Kinds};
 ghost use Rattle.roster_commandline.specs.Line.{roster_app, command_name, demanding_app, number_spelled};
 ghost use Rattle.roster_commandline.specs.Line.{solve_app, spelling, workers_asked, HasWorkers, NamesMemory};
 ghost use Rattle.roster_commandline.specs.Line.{TellsKind};
-ghost use Rattle.roster_problem.specs.declared.command.Command as asked;
+ghost use Rattle.roster_values.specs.declared.command.Command as asked;
 ghost use Rattle.clap.specs.declared.builder.command.Command.TheViews as views;
 
 use clap::error::ErrorKind;
 use roster_model::limits::MOST_WORKERS;
-use roster_problem::Command;
+use roster_values::Command;
 use std::alloc::{AllocError, Global};
 use std::convert::AsStr;
 use thiserror::Error;

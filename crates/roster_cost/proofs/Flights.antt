@@ -14,7 +14,7 @@ use Rattle.roster_model.specs.Sums.{month_flight}
 use Rattle.roster_model.specs.Rules.{duty_list, is_listed}
 use Rattle.roster_model.specs.records.Duty.{Duty, Holder, OfPairing, OfPerson, is_held_by_person}
 use Rattle.roster_problem.specs.Duties.{is_of_person, picked}
-use Rattle.roster_problem.specs.Set.{places_from}
+use Rattle.roster_values.specs.Set.{places_from}
 use Rattle.roster_cost.specs.Amounts.{minutes_of_pairing}
 
 -- the next of the positions that are left

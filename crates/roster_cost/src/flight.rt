@@ -10,7 +10,8 @@ ghost use Rattle.roster_cost.specs.Amounts.{minutes_of_pairing, most_flight};
 
 use roster_cumulative::{duty_flight, flight_of_duties, flight_of_set};
 use roster_model::limits::{MOST_DUTIES, MOST_MONTH_MINUTES};
-use roster_problem::{Problem, Set};
+use roster_problem::Problem;
+use roster_values::Set;
 
 /// The flight of the duties at the positions, by the days of person `k`.
 fn flight_at(problem: &Problem, k: usize, positions: &[u16]) -> u64

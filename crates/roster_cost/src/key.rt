@@ -9,7 +9,7 @@ ghost use Rattle.roster_model.specs.Rosters.{key_le};
 ghost use Rattle.roster_cost.specs.Keys.{compare, is_same};
 
 use crate::laws::{keys_are_in_order, order_of_keys};
-use roster_problem::Roster;
+use roster_values::Roster;
 use std::cmp::Ordering;
 use std::marker::Model;
 

@@ -7,7 +7,8 @@ ghost use Rattle.roster_cost.specs.Amounts.{IsWithin, most_flight, most_line_cos
 
 use crate::flight::set_flight;
 use roster_model::limits::{MOST_MINUTES, MOST_WEIGHT};
-use roster_problem::{Problem, Set};
+use roster_problem::Problem;
+use roster_values::Set;
 
 /// The cost units of the pairings of the set with person `k`.
 pub fn set_units(problem: &Problem, k: usize, set: &Set) -> i64

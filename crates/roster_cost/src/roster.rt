@@ -12,7 +12,8 @@ use crate::flight::{fixed_flight, set_flight};
 use crate::line::missed;
 use roster_cumulative::one_list_of_each_duty;
 use roster_model::limits::{MOST_PAIRINGS, MOST_PENALTY};
-use roster_problem::{Pairing, Problem, Set, open_number};
+use roster_problem::{Pairing, Problem, open_number};
+use roster_values::Set;
 
 /// What a pairing adds if it has the number: its penalty if that is the one for open.
 fn penalty_if_open(nobody: u16, pairing: &Pairing, place: u16) -> u64

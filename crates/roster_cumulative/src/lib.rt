@@ -30,5 +30,6 @@ pub use laws::{
     one_list_of_each_duty, sums_of_one_pairing_more,
 };
 pub use limits::{ListLimits, cumulative_broken};
-pub use roster_problem::{DutyList, Rule};
+pub use roster_problem::DutyList;
+pub use roster_values::Rule;
 pub use sums::{duty_flight, duty_on, flight_on, greatest_duty, greatest_flight, month_flight};

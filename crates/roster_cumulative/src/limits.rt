@@ -5,7 +5,7 @@ ghost use Rattle.roster_model.specs.Rules.{IsFirstLimit};
 ghost use Rattle.roster_model.specs.Rules.Limits.{KeepsLimit};
 ghost use Rattle.roster_model.specs.Sums as sums;
 ghost use Rattle.roster_model.specs.Sums.{on_day};
-ghost use Rattle.roster_problem.specs.View.{limit_of, rule_of};
+ghost use Rattle.roster_values.specs.View.{limit_of, rule_of};
 ghost use Rattle.roster_cumulative.specs.Limited.{IsKept};
 ghost use Rattle.roster_cumulative.specs.Table.{IsLight, AreMinutesByDay, minutes_of};
 
@@ -19,7 +19,8 @@ use roster_model::profile::{
     LONG_RUN, MIDDLE_RUN, MOST_DUTY_IN_7_DAYS, MOST_DUTY_IN_14_DAYS, MOST_DUTY_IN_28_DAYS,
     MOST_FLIGHT_IN_12_MONTHS, MOST_FLIGHT_IN_28_DAYS, MOST_FLIGHT_IN_A_YEAR, SHORT_RUN,
 };
-use roster_problem::{DutyList, Limit, Person, Rule};
+use roster_problem::{DutyList, Person};
+use roster_values::{Limit, Rule};
 use std::marker::Model;
 
 /// Whether each judged run of `n` days has at most so many minutes.

@@ -3,7 +3,7 @@
 use crate::kinds::Form;
 use roster_instants::{Period, read_minute};
 use roster_model::limits::{MOST_DIGITS, MOST_NAME_BYTES, MOST_ZONE_BYTES};
-use roster_problem::is_identifier;
+use roster_values::is_identifier;
 use std::alloc::{AllocError, Global};
 use std::str;
 

@@ -6,8 +6,9 @@ use crate::persons::duties_with;
 use crate::sentences::counted;
 use crate::words::{day, push_all, push_time};
 use roster_instants::BaseDays;
-use roster_problem::{Limit, Problem};
+use roster_problem::Problem;
 use roster_reasons::{Amount, standing};
+use roster_values::Limit;
 use std::alloc::{AllocError, Global};
 
 /// Appends how much is used of the limit.

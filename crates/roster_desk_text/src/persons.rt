@@ -6,8 +6,9 @@ ghost use Rattle.roster_model.specs.Places.{set_of};
 ghost use Rattle.roster_reasons.specs.Reasons.{IsReason};
 
 use roster_legal::merge;
-use roster_problem::{DutyList, Problem, Set};
+use roster_problem::{DutyList, Problem};
 use roster_reasons::{Reason, first_reason};
+use roster_values::Set;
 use std::alloc::{AllocError, Global};
 
 /// The pairings of person `k` with the roster.

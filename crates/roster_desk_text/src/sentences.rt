@@ -7,11 +7,12 @@ use crate::words::{day, duty_name, pairing_name, push_all, push_time, time};
 use crate::zones::Zones;
 use roster_instants::BaseDays;
 use roster_model::profile::BETWEEN_RECURRENT_RESTS;
-use roster_problem::{DutyList, Limit, Problem};
+use roster_problem::{DutyList, Problem};
 use roster_reasons::{
     Amount, DutyInLeave, FewDaysOff, LongBlock, MonthFlight, Reason, RunOfDays, SharedDuties,
     ShortRest,
 };
+use roster_values::Limit;
 use std::alloc::{AllocError, Global};
 
 /// Appends which pairing is of another base.

@@ -6,7 +6,7 @@ ghost use Rattle.roster_incumbent.specs.Kept.{less_of};
 
 use roster_branchtree::Sight;
 use roster_cost::comes_before;
-use roster_problem::Roster;
+use roster_values::Roster;
 use std::alloc::AllocError;
 use std::sync::{Arc, Mutex, Wait};
 

@@ -2,11 +2,12 @@
 
 ghost use Rattle.std.specs.Prelude.{◌≡◌, ◌<◌, ◌↔◌, [], IfOk, IsTrue, All, length, option_map};
 ghost use Rattle.roster_model.specs.Rules.{IsFirstBroken, IsLegal, IsLock};
-ghost use Rattle.roster_problem.specs.View.{rule_of};
+ghost use Rattle.roster_values.specs.View.{rule_of};
 
 use crate::listing::merge_in;
 use crate::rules::first_broken_on;
-use roster_problem::{Problem, Rule, Set};
+use roster_problem::Problem;
+use roster_values::{Rule, Set};
 use std::alloc::{AllocError, Global};
 use std::marker::Model;
 use std::mem;

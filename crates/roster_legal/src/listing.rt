@@ -5,7 +5,8 @@ ghost use Rattle.std.specs.List.{IsDistinct};
 ghost use Rattle.roster_model.specs.Rules.{duty_list, is_among, is_listed};
 ghost use Rattle.roster_problem.specs.Duties.{AreTimed, IsInOrder, passes_at};
 
-use roster_problem::{DutyList, Problem, Set};
+use roster_problem::{DutyList, Problem};
+use roster_values::Set;
 use std::alloc::{AllocError, Global};
 
 /// The duty list of person `k` with the set: their fixed duties and those of the pairings in the set.

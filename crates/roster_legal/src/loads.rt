@@ -10,8 +10,9 @@ ghost use Rattle.roster_legal.specs.Stepping.{AreLoads, IsLoad, IsLoadOf, IsPlac
 
 use roster_cumulative::loads_of;
 use roster_model::limits::MOST_PAIRINGS;
-use roster_problem::{DutyList, Problem, Set};
+use roster_problem::{DutyList, Problem};
 use roster_restrules::{Times, busy_days};
+use roster_values::Set;
 use std::alloc::{AllocError, Global};
 use std::marker::Model;
 

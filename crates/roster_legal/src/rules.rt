@@ -4,7 +4,7 @@
 ghost use Rattle.std.specs.Prelude.{◌≡◌, ◌<◌, ◌≤◌, ◌↔◌, false, IsTrue, All, length, option_map};
 ghost use Rattle.roster_model.specs.Rules.{duty_list, Holds, IsFirstBroken};
 ghost use Rattle.roster_problem.specs.Duties.{AreTimed, IsInOrder};
-ghost use Rattle.roster_problem.specs.View.{rule_of};
+ghost use Rattle.roster_values.specs.View.{rule_of};
 ghost use Rattle.roster_legal.specs.Looks.{LookAt};
 ghost use Rattle.roster_legal.specs.Stepping.{with_next, AreBusyDaysOf, HoldCounted, IsLegalNext, IsNext};
 
@@ -22,8 +22,9 @@ use leave::keeps_leave;
 use overlap::no_overlap;
 use recovery::keeps_recovery;
 use roster_cumulative::ListLimits;
-use roster_problem::{DutyList, Limit, Problem, Rule, Set};
+use roster_problem::{DutyList, Problem};
 use roster_restrules::rest_ok;
+use roster_values::{Limit, Rule, Set};
 
 /// Whether person `k` keeps the rule with the set, whose duty list is `list`.
 fn holds(

@@ -9,8 +9,9 @@ ghost use Rattle.roster_legal.specs.Stepping.{with_next, AreDutiesOf, AreRoomsOf
 use crate::listing::merge;
 use crate::loads::Loads;
 use roster_cumulative::{rooms_of, take_room};
-use roster_problem::{DutyList, Problem, Set};
+use roster_problem::{DutyList, Problem};
 use roster_restrules::busy_days;
+use roster_values::Set;
 use std::alloc::{AllocError, Global};
 use std::marker::Model;
 

@@ -17,7 +17,8 @@ use crate::wanted::{Between, Everything, Wanted};
 use roster_legal::{Judge, JudgedSet, Loads, Spare, part_of_legal_is_legal};
 use roster_linetable::Lines;
 use roster_model::limits::MOST_LINES;
-use roster_problem::{Problem, Set};
+use roster_problem::Problem;
+use roster_values::Set;
 use std::alloc::{AllocError, Global};
 use thiserror::Error;
 

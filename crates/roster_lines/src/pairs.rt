@@ -5,7 +5,8 @@ ghost use Rattle.roster_lines.specs.Listing.{AreAlone, AreFlights, ArePairs, Are
 
 use roster_cost::pairing_flight;
 use roster_legal::Judge;
-use roster_problem::{Problem, Set};
+use roster_problem::Problem;
+use roster_values::Set;
 use std::alloc::{AllocError, Global};
 
 /// For a person, the pairings that are legal alone, and for each pairing the later ones that are legal

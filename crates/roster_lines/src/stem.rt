@@ -8,7 +8,8 @@ ghost use Rattle.roster_lines.specs.Listing.{AreLegalAlone, ArePairs, ArePartsLe
 
 use crate::pairs::Pairs;
 use roster_cost::{cost_at, fixed_flight, one_pairing_more, units_of_set};
-use roster_problem::{Problem, Set};
+use roster_problem::Problem;
+use roster_values::Set;
 
 /// A line by its number, with those of the pairings `among` that may stand behind its own. Its cost units
 /// and the minutes of flight in the month, fixed duties included, are those of its set.

@@ -7,7 +7,8 @@ ghost use Rattle.roster_model.specs.Problem.{Problem, units_of};
 ghost use Rattle.roster_model.specs.Rules.{is_among};
 ghost use Rattle.roster_lines.specs.Between.{HasBefore, IsBetween};
 
-use roster_problem::{Problem, Set};
+use roster_problem::Problem;
+use roster_values::Set;
 
 /// Says which lines of a person are to be listed.
 pub trait Wanted {

@@ -6,8 +6,8 @@ use Rattle.std.proofs.lemmas.List.Elements.{All-head}
 use Rattle.std.proofs.lemmas.Option.{slice_get_within}
 use Rattle.roster_model.specs.declared.limits.TheConstants.{MOST_PAIRINGS}
 use Rattle.roster_model.proofs.SetLemmas.{Ascends, Ascends-from_rising}
-use Rattle.roster_problem.specs.Set.{with_place}
-use Rattle.roster_problem.proofs.SetParts.{with_place-first}
+use Rattle.roster_values.specs.Set.{with_place}
+use Rattle.roster_values.proofs.SetParts.{with_place-first}
 use Rattle.roster_linetable.specs.declared.lines.Row.{Row}
 use Rattle.roster_linetable.specs.Entries.{longer, set_at, sets_of}
 use Rattle.roster_linetable.specs.Tree.{entries_in, IsTree}

@@ -9,7 +9,7 @@ ghost use Rattle.roster_linetable.specs.Rows.{entries_after, IsWithinLimits};
 
 use crate::order::is_at_most;
 use roster_model::limits::{MOST_LINES, MOST_PAIRINGS};
-use roster_problem::Set;
+use roster_values::Set;
 use std::alloc::{AllocError, Global};
 use std::marker::Model;
 

@@ -3,7 +3,7 @@
 ghost use Rattle.std.specs.Prelude.{◌≡◌};
 ghost use Rattle.roster_model.specs.Places.{places_le};
 
-use roster_problem::Set;
+use roster_values::Set;
 
 /// Whether the first set isn't after the second, compared place by place; a proper part from the front
 /// comes first.

@@ -8,7 +8,7 @@ ghost use Rattle.roster_linetable.specs.Person.{lines_at};
 use crate::lines::Lines;
 use crate::shared_lines::SharedLines;
 use roster_model::limits::MOST_PAIRINGS;
-use roster_problem::Set;
+use roster_values::Set;
 use std::alloc::{AllocError, Global};
 use std::marker::Model;
 

@@ -1,6 +1,6 @@
 //! Persons who are to have other sets.
 
-use roster_problem::Set;
+use roster_values::Set;
 use std::alloc::{AllocError, Global};
 
 /// A person's place, and the set that they are to have.

@@ -6,7 +6,8 @@ ghost use Rattle.roster_model.specs.Rules.{IsLegal};
 
 use crate::sets::is_within;
 use roster_legal::{Judge, part_of_legal_is_legal};
-use roster_problem::{Problem, Set, open_number, put};
+use roster_problem::{Problem, open_number, put};
+use roster_values::Set;
 use std::alloc::{AllocError, Global};
 use std::marker::Model;
 

@@ -3,7 +3,7 @@
 use crate::search::Search;
 use crate::sets::{only, without};
 use crate::tables::Tables;
-use roster_problem::Set;
+use roster_values::Set;
 use std::alloc::AllocError;
 
 /// The minutes of a day.

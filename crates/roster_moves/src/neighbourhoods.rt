@@ -7,7 +7,8 @@ use crate::search::set_of;
 use crate::sets::{add, amount_at, is_sought, without};
 use crate::tables::times;
 use roster_lines::Between;
-use roster_problem::{Problem, Set, open_number};
+use roster_problem::{Problem, open_number};
+use roster_values::Set;
 use std::alloc::{AllocError, Global};
 
 /// Where the random numbers begin.

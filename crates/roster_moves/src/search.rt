@@ -4,7 +4,8 @@ use crate::changes::Changes;
 use crate::random::Random;
 use crate::sets::{add, amount_at, is_sought, set_at, without};
 use crate::tables::Tables;
-use roster_problem::{Problem, Set, open_number};
+use roster_problem::{Problem, open_number};
+use roster_values::Set;
 use std::alloc::{AllocError, Global};
 
 /// What a search thinks that its roster is, what it costs, and the changes that it tries next.

@@ -3,7 +3,7 @@
 ghost use Rattle.std.specs.Prelude.{◌≡◌, ◌<◌, true, All};
 
 use roster_model::limits::MOST_PAIRINGS;
-use roster_problem::Set;
+use roster_values::Set;
 
 /// Whether all places of the set are below `count`.
 pub(crate) fn is_within(set: &Set, count: usize) -> bool

@@ -6,7 +6,8 @@ ghost use Rattle.std.specs.Prelude.{◌≡◌, ◌<◌, length};
 use crate::sets::{add, amount_at, is_within, only, set_at};
 use roster_cost::{fixed_flight, pairing_flight};
 use roster_legal::Judge;
-use roster_problem::{Problem, Set};
+use roster_problem::Problem;
+use roster_values::Set;
 use std::alloc::{AllocError, Global};
 
 /// Two pairings of which one begins so long after the end of the other, in minutes, don't touch.

@@ -11,7 +11,8 @@ ghost use Rattle.roster_plan.specs.Floors.{IsFloor, IsFloorOf};
 use roster_cost::line_cost;
 use roster_legal::part_of_legal_is_legal;
 use roster_lines::Pairs;
-use roster_problem::{Problem, Set};
+use roster_problem::Problem;
+use roster_values::Set;
 
 /// More than all persons can miss of their targets, in cost units.
 const MOST_MISSED: i64 = 1 << 60;

@@ -10,8 +10,9 @@ ghost use Rattle.roster_plan.specs.Exact.{IsExact};
 use crate::means::Means;
 use roster_lines::TableFault;
 use roster_pricing::{PARTS, PricedBound};
-use roster_problem::{Problem, Roster};
+use roster_problem::Problem;
 use roster_search::{Searched, least_within};
+use roster_values::Roster;
 use std::alloc::{AllocError, Global};
 
 /// The first gap, as a part of what is between the bound and the known roster.

@@ -6,7 +6,8 @@ ghost use Rattle.roster_model.specs.Rosters.{IsLegalRoster};
 ghost use Rattle.roster_plan.specs.Kept.{AreKept, IsKeptNext};
 
 use roster_legal::Judge;
-use roster_problem::{Problem, Set, open_number};
+use roster_problem::{Problem, open_number};
+use roster_values::Set;
 use std::alloc::{AllocError, Global};
 
 /// What is kept of a given list of places: its pairings in book order, each if it is legal with what the

@@ -17,7 +17,8 @@ use crate::watching::{Step, Watcher};
 use roster_cost::{comes_before, keys_are_in_order};
 use roster_lines::Pairs;
 use roster_model::limits::MOST_BASES;
-use roster_problem::{Problem, Roster};
+use roster_problem::Problem;
+use roster_values::Roster;
 use std::alloc::{AllocError, Global};
 
 /// What is known of a month: of each base apart, and of all of it.

@@ -19,8 +19,9 @@ use roster_lines::{Between, Pairs, TableFault, wanted_table};
 use roster_linetable::Table;
 use roster_model::limits::{MOST_LINES, MOST_PAIRINGS};
 use roster_moves::penalties;
-use roster_problem::{Problem, Roster, Set};
+use roster_problem::Problem;
 use roster_search::{Searched, least_within};
+use roster_values::{Roster, Set};
 use std::alloc::{AllocError, Global};
 
 /// A roster that is at least as good as a known one.

@@ -21,8 +21,9 @@ use crate::known::{Planned, best_plan, costed, earlier, so_far};
 use roster_cost::{comes_before, roster_cost, shares_add_up};
 use roster_lines::Pairs;
 use roster_model::limits::MOST_BASES;
-use roster_problem::{Problem, Roster};
+use roster_problem::Problem;
 use roster_search::{all_open, costs_fit, merged};
+use roster_values::Roster;
 use std::alloc::{AllocError, Global};
 
 /// What is known of a base: of the rosters in which only its persons fly.

@@ -18,8 +18,9 @@ use crate::watching::{Step, Watcher};
 use crate::whole::searched;
 use roster_cost::keys_are_in_order;
 use roster_lines::{Pairs, all_pairs};
-use roster_problem::{Problem, Roster, open_number};
+use roster_problem::{Problem, open_number};
 use roster_search::all_open;
+use roster_values::Roster;
 use std::alloc::{AllocError, Global};
 use std::thread::Threads;
 

@@ -12,7 +12,8 @@ use crate::months::Month;
 use crate::parts::open_bases;
 use crate::watching::{Step, Watcher};
 use roster_moves::improved_by_changes;
-use roster_problem::{Problem, Roster};
+use roster_problem::Problem;
+use roster_values::Roster;
 use std::alloc::{AllocError, Global};
 use std::thread::{Threads, for_each_mut};
 

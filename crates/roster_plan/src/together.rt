@@ -16,7 +16,8 @@ use crate::watching::{Step, Watcher};
 use roster_cost::{comes_before, keys_are_in_order};
 use roster_lines::Pairs;
 use roster_moves::{Neighbourhood, Neighbourhoods};
-use roster_problem::{Problem, Roster, open_number};
+use roster_problem::{Problem, open_number};
+use roster_values::Roster;
 use std::alloc::{AllocError, Global};
 use std::thread::{Threads, for_each_mut};
 

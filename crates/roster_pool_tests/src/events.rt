@@ -5,11 +5,11 @@ ghost use Rattle.std.specs.Prelude.{◌≡◌};
 use crate::given::{
     WIDTHS, back_refusal, finish_refusal, no_pairings, piece, refusal, split_refusal,
 };
-use roster_problem::Roster;
 use roster_spans::Done;
 use roster_subtreepool::{
     Event, PoolFault, PoolState, Share, counts_what_lies_in, each_list_in_one_span,
 };
+use roster_values::Roster;
 use std::alloc::{AllocError, Global};
 use std::marker::Brand;
 use std::process::Abort;

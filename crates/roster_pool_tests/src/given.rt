@@ -1,8 +1,8 @@
 //! Six persons with 36 lines each, and what is done with their spans.
 
-use roster_problem::{Places, Roster};
 use roster_spans::{Done, Path, Piece, Span};
 use roster_subtreepool::{PoolFault, Settled};
+use roster_values::{Places, Roster};
 use std::alloc::{AllocError, Global};
 use std::sync::Arc;
 

@@ -5,9 +5,9 @@ ghost use Rattle.std.specs.Prelude.{◌≡◌};
 use crate::given::{
     WIDTHS, back_refusal, finish_refusal, no_pairings, piece, refusal, split_refusal,
 };
-use roster_problem::Roster;
 use roster_spans::{Done, Piece};
 use roster_subtreepool::{Closed, Event, Pool, PoolFault, PoolState, Share};
+use roster_values::Roster;
 use std::alloc::{AllocError, Global};
 use std::marker::Brand;
 use std::process::Abort;

@@ -2,7 +2,7 @@
 
 use crate::lists::{amount_at, place_at};
 use crate::softness::{share_of, weight_of};
-use roster_problem::Set;
+use roster_values::Set;
 use std::alloc::{AllocError, Global};
 
 /// The chains of one person that are known, one behind another.

@@ -23,7 +23,8 @@ use roster_legal::part_of_legal_is_legal;
 use roster_lines::{Between, LinesFault, TableFault, Wanted, lines_of_pairs};
 use roster_linetable::{Lines, Table};
 use roster_model::limits::{MOST_LINES, MOST_PAIRINGS};
-use roster_problem::{Problem, Set};
+use roster_problem::Problem;
+use roster_values::Set;
 use std::alloc::{AllocError, Global};
 use std::marker::Model;
 

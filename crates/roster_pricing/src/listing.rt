@@ -5,7 +5,7 @@ use crate::lists::amount_at;
 use crate::network::Network;
 use crate::rows::Row;
 use crate::tuning::{FEWEST_COLUMNS, LEAST_REACH, MOST_COLUMNS, MOST_REACH, MOST_TRIES};
-use roster_problem::Set;
+use roster_values::Set;
 use std::alloc::{AllocError, Global};
 
 /// What is known of a person at some prices.

@@ -6,7 +6,8 @@ ghost use Rattle.roster_pricing.specs.Networks.{IsNetwork};
 
 use crate::terms::terms_of;
 use roster_lines::Pairs;
-use roster_problem::{Problem, Set};
+use roster_problem::Problem;
+use roster_values::Set;
 use std::alloc::{AllocError, Global};
 
 /// The minutes of a step of flight, if all flights are multiples of it; else a step is a minute.

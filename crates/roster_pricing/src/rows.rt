@@ -12,7 +12,8 @@ use crate::network::Network;
 use crate::parts::{MOST_AMOUNT, MOST_TERM, MOST_VALUE};
 use roster_legal::part_of_legal_is_legal;
 use roster_model::limits::MOST_PAIRINGS;
-use roster_problem::{Problem, Set};
+use roster_problem::Problem;
+use roster_values::Set;
 use std::alloc::{AllocError, Global};
 use std::marker::Model;
 

@@ -26,7 +26,8 @@ use roster_cost::lines_are_near;
 use roster_lines::{LinesFault, Pairs, lines_of_pairs};
 use roster_linetable::Lines;
 use roster_model::limits::MOST_PAIRINGS;
-use roster_problem::{Problem, Set};
+use roster_problem::Problem;
+use roster_values::Set;
 use std::alloc::{AllocError, Global};
 
 /// A line's set, and what it costs with and without prices, in parts of a cost unit.

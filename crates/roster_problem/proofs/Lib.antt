@@ -3,8 +3,6 @@ pub mod SectorLists
 pub mod Ordering
 pub mod Positions
 pub mod Homes
-pub mod SetParts
-pub mod Words
 pub mod PositionLists
 pub mod Indexes
 pub mod CostTables

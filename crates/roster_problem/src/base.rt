@@ -1,7 +1,7 @@
 //! Bases.
 
-use crate::name::Name;
 use roster_instants::BaseDays;
+use roster_values::Name;
 use std::marker::Model;
 
 /// The home of persons, and where pairings begin.

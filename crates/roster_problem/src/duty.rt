@@ -5,9 +5,9 @@ ghost use Rattle.roster_model.specs.records.Sector.{is_in_sequence};
 ghost use Rattle.roster_problem.specs.Duties.{is_at, is_of_pairing, is_of_person};
 ghost use Rattle.roster_problem.specs.Sectors.{AreSectors};
 
-use crate::name::Name;
 use crate::sector::Sector;
 use roster_instants::Minute;
+use roster_values::Name;
 use std::alloc::AllocError;
 use std::marker::Model;
 

@@ -1,6 +1,6 @@
 //! Pairings.
 
-use crate::name::Name;
+use roster_values::Name;
 use std::marker::Model;
 
 /// A pairing: duties in a row for one person, of which the first reports at the base.

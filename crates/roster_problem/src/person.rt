@@ -1,6 +1,6 @@
 //! Persons.
 
-use crate::name::Name;
+use roster_values::Name;
 use std::marker::Model;
 
 /// A crew member.

@@ -5,8 +5,8 @@ ghost use Rattle.roster_model.specs.Places as model;
 ghost use Rattle.roster_problem.specs.Placing.{IsPut};
 
 use crate::problem::Problem;
-use crate::set::Set;
 use roster_model::limits::MOST_PERSONS;
+use roster_values::Set;
 
 /// The number that stands for open.
 pub fn open_number(problem: &Problem) -> u16

@@ -1,8 +1,8 @@
 //! Reasons asked for.
 
-use roster_problem::Set;
 use roster_reasons::{Reason, first_reason, reason};
 use roster_sample_books::{problem_of, set_of};
+use roster_values::Set;
 use std::alloc::Global;
 use std::process::Abort;
 use std::test::Fail;

@@ -2,9 +2,10 @@
 
 use crate::books::is_told;
 use roster_legal::merge;
-use roster_problem::{Limit, Problem, Rule};
+use roster_problem::Problem;
 use roster_reasons::{Amount, MonthFlight, Reason, RunOfDays, standing};
 use roster_sample_books::{problem_of, set_of};
+use roster_values::{Limit, Rule};
 use std::alloc::Global;
 use std::process::Abort;
 use std::test::Fail;

@@ -9,7 +9,7 @@ use Rattle.std.specs.Prelude.{◌≡◌, ◌⊎◌, ℕ, ◌+◌, ◌≤◌, Lis
 use Rattle.roster_model.specs.Problem.{Problem, home_of, year_of, eleven_of}
 use Rattle.roster_model.specs.Rules.{duty_list, Rule, BaseRule, OverlapRule, LeaveRule, RestRule, RecoveryRule, LimitRule, DaysOffRule, IsFirstBroken}
 use Rattle.roster_model.specs.records.Duty.{Duty}
-use Rattle.roster_problem.specs.View.{limit_of}
+use Rattle.roster_values.specs.View.{limit_of}
 use Rattle.roster_reasons.specs.declared.rules.Reason.{Reason}
 use Rattle.roster_reasons.specs.declared.rules.Reason.TheVariants as reasons
 use Rattle.roster_reasons.specs.Amounts.{IsOver}

@@ -3,7 +3,7 @@
 ghost use Rattle.std.specs.Prelude.{◌≡◌, ◌+◌, ◌<◌, ◌≤◌, MatchOption, length};
 ghost use Rattle.roster_model.specs.Problem.{home_of, year_of, eleven_of};
 ghost use Rattle.roster_model.specs.Sums as sums;
-ghost use Rattle.roster_problem.specs.View.{limit_of};
+ghost use Rattle.roster_values.specs.View.{limit_of};
 ghost use Rattle.roster_reasons.specs.Amounts.{IsMonthFlight, IsMonthOver, IsOver, IsUse, left_of};
 ghost use Rattle.roster_reasons.specs.Bounds.{bound_of, IsSmall, KeepsBound};
 
@@ -12,7 +12,8 @@ use crate::runs::{RunOfDays, first_run_over, greatest_run};
 use roster_cumulative::month_flight;
 use roster_instants::BaseDays;
 use roster_model::limits::MOST_DUTIES;
-use roster_problem::{DutyList, Limit, Problem};
+use roster_problem::{DutyList, Problem};
+use roster_values::Limit;
 
 /// The flight of the month, with what was flown before it.
 #[derive(Clone, Copy, PartialEq, Eq)]

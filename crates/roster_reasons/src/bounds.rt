@@ -1,14 +1,15 @@
 //! What each limit looks at.
 
 ghost use Rattle.std.specs.Prelude.{◌≡◌};
-ghost use Rattle.roster_problem.specs.View.{limit_of};
+ghost use Rattle.roster_values.specs.View.{limit_of};
 ghost use Rattle.roster_reasons.specs.Bounds.{bound_of, IsSmall};
 
 use roster_model::profile::{
     LONG_RUN, MIDDLE_RUN, MOST_DUTY_IN_7_DAYS, MOST_DUTY_IN_14_DAYS, MOST_DUTY_IN_28_DAYS,
     MOST_FLIGHT_IN_12_MONTHS, MOST_FLIGHT_IN_28_DAYS, MOST_FLIGHT_IN_A_YEAR, SHORT_RUN,
 };
-use roster_problem::{Limit, Person};
+use roster_problem::Person;
+use roster_values::Limit;
 
 /// What is counted.
 #[derive(Clone, Copy)]

@@ -7,7 +7,7 @@ ghost use Rattle.std.specs.Prelude.{◌≡◌, ◌<◌, ◌↔◌, ℕ, List, Al
 ghost use Rattle.roster_model.specs.Problem.{home_of, year_of, eleven_of};
 ghost use Rattle.roster_model.specs.Rules.{duty_list, Holds, LimitRule};
 ghost use Rattle.roster_problem.specs.Duties.{AreTimed, IsInOrder};
-ghost use Rattle.roster_problem.specs.View.{limit_of, rule_of};
+ghost use Rattle.roster_values.specs.View.{limit_of, rule_of};
 ghost use Rattle.roster_reasons.specs.Bounds.{bound_of, KeepsBound};
 ghost use Rattle.roster_reasons.specs.Reasons.{IsReasonOn, IsTold, rule_told};
 
@@ -30,7 +30,8 @@ pub use recovery::LongBlock;
 use recovery::first_long_block;
 pub use rest::ShortRest;
 use rest::first_short_rest;
-use roster_problem::{DutyList, Limit, Problem, Rule, Set};
+use roster_problem::{DutyList, Problem};
+use roster_values::{Limit, Rule, Set};
 
 /// What breaks a rule.
 #[derive(Clone, Copy, PartialEq, Eq)]

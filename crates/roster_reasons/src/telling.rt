@@ -7,7 +7,8 @@ ghost use Rattle.roster_reasons.specs.Reasons.{IsReason};
 
 use crate::rules::{Reason, reason_for};
 use roster_legal::{first_broken, merge};
-use roster_problem::{Problem, Set};
+use roster_problem::Problem;
+use roster_values::Set;
 use std::alloc::{AllocError, Global};
 
 /// What first breaks the first rule that person `k` breaks with the set, if there is one. Of the empty set it

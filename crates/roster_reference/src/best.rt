@@ -5,7 +5,8 @@ ghost use Rattle.roster_model.specs.Rosters.{IsLegalRoster, key_le};
 ghost use Rattle.roster_model.specs.Settled.{Anywhere, IsHeld, Settles};
 
 use roster_cost::{Key, order_of_keys, roster_cost};
-use roster_problem::{Places, Problem, Roster, open_number};
+use roster_problem::{Problem, open_number};
+use roster_values::{Places, Roster};
 use std::alloc::{AllocError, Global};
 
 /// The roster that leaves all open.

@@ -7,7 +7,8 @@ ghost use Rattle.roster_model.specs.Settled.{Anywhere, IsBest, IsHeld, Settles};
 
 use crate::best::{all_open, take_earlier};
 use roster_legal::is_legal;
-use roster_problem::{Problem, Roster, Set, open_number};
+use roster_problem::{Problem, open_number};
+use roster_values::{Roster, Set};
 use std::alloc::{AllocError, Global};
 
 /// The legal roster of least cost, and among those the first in roster order.

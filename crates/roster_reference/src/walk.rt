@@ -8,7 +8,8 @@ ghost use Rattle.roster_reference.specs.Walk.{AgreeBefore, IsWalkedTo};
 
 use crate::best::{all_open, take_earlier};
 use roster_linetable::Table;
-use roster_problem::{Problem, Roster, has_throughout, open_number, put};
+use roster_problem::{Problem, has_throughout, open_number, put};
+use roster_values::Roster;
 use std::alloc::{AllocError, Global};
 
 /// The legal roster of least cost, and among those the first in roster order.

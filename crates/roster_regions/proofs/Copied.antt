@@ -8,7 +8,7 @@ use Rattle.std.specs.Prelude.{slice_get, option_map, Some}
 use Rattle.roster_linetable.specs.Entries.{Entry, costs_of, sets_of}
 use Rattle.roster_regions.specs.Building.{allowed_between, allowed_in, extra_in}
 use Rattle.std.proofs.lemmas.List.{append_assoc, drop_all, drop-append-le, length-take, length-take-le, length_push, map-append, take_all, take_more}
-use Rattle.roster_problem.specs.Set.{places_from}
+use Rattle.roster_values.specs.Set.{places_from}
 use Rattle.roster_regions.specs.declared.choice.Choice.{Choice}
 use Rattle.roster_regions.specs.Trees.{next_path}
 use Rattle.roster_regions.proofs.TreeLemmas.{next_path-deep}

@@ -20,7 +20,8 @@ use crate::tree::Tree;
 use crate::writer::Writer;
 use roster_cost::{cost_without_pairings, lines_are_near};
 use roster_linetable::{Lines, Table};
-use roster_problem::{Problem, Set};
+use roster_problem::Problem;
+use roster_values::Set;
 use std::alloc::{AllocError, Global};
 
 /// The way to a line, and what is written of the lines before it.

@@ -6,7 +6,8 @@ ghost use Rattle.roster_regions.specs.Regions.{IsIn, IsRegion};
 
 use crate::region::Region;
 use crate::writer::is_same;
-use roster_problem::{Problem, Set, open_number};
+use roster_problem::{Problem, open_number};
+use roster_values::Set;
 use std::alloc::{AllocError, Global};
 
 /// Whether each number is a person's or the one for open.

@@ -9,7 +9,7 @@ ghost use Rattle.roster_regions.specs.Trees.{line_here, next_path, path_after, A
 use crate::choice::Choice;
 use crate::path::Path;
 use crate::writer::joined;
-use roster_problem::Set;
+use roster_values::Set;
 use std::alloc::{AllocError, Global};
 
 /// Which of the choices so far are live, how many, and what some and what all of their lines have.

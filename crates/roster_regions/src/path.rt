@@ -7,7 +7,7 @@ ghost use Rattle.roster_regions.specs.Trees.{next_path, IsLimited};
 
 use crate::choice::Choice;
 use crate::writer::is_same;
-use roster_problem::Set;
+use roster_values::Set;
 use std::alloc::{AllocError, Global};
 use std::marker::Model;
 

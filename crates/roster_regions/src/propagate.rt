@@ -6,7 +6,8 @@ ghost use Rattle.roster_regions.specs.Regions.{Has, IsNarrowed, IsRegion, IsWhol
 
 use crate::region::Region;
 use crate::writer::joined;
-use roster_problem::{Problem, Set, open_number};
+use roster_problem::{Problem, open_number};
+use roster_values::Set;
 use std::alloc::{AllocError, Global};
 
 /// Who may have a pairing.

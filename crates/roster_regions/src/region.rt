@@ -14,7 +14,8 @@ use crate::choices::Choices;
 use crate::shared::Shared;
 use crate::tree::Tree;
 use roster_model::limits::MOST_PAIRINGS;
-use roster_problem::{Problem, Set};
+use roster_problem::Problem;
+use roster_values::Set;
 use std::alloc::{AllocError, Global};
 use std::marker::Model;
 

@@ -11,7 +11,7 @@ ghost use Rattle.roster_regions.specs.Trees.{has_last, lines_in, ArePossible, Is
 use crate::choice::Choice;
 use crate::parts::{above, times};
 use roster_linetable::{Lines, Row};
-use roster_problem::Set;
+use roster_values::Set;
 use std::marker::Model;
 
 /// The rows of all lines of a person, and for each whether it is live, or no marks if all are. Contracts see

@@ -21,7 +21,7 @@ use crate::path::Path;
 use crate::sums::Sums;
 use crate::writer::Writer;
 use roster_linetable::SharedLines;
-use roster_problem::Set;
+use roster_values::Set;
 use std::alloc::{AllocError, Global};
 use std::marker::Model;
 

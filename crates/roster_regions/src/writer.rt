@@ -10,7 +10,7 @@ ghost use Rattle.roster_regions.specs.Writing.{IsWriting};
 
 use crate::choice::{Choice, MOST_EXTRA};
 use crate::path::Path;
-use roster_problem::Set;
+use roster_values::Set;
 use std::alloc::{AllocError, Global};
 
 /// The choices that are written, how many are live, and what some and what all of their lines have. The

@@ -9,8 +9,8 @@ use Rattle.roster_model.specs.Problem.{Problem}
 use Rattle.roster_model.specs.Rules as model
 use Rattle.roster_model.specs.Rules.{AreOfEach}
 use Rattle.roster_model.specs.Texts.{rule_at}
-use Rattle.roster_problem.specs.declared.rule.Rule.{Rule}
-use Rattle.roster_problem.specs.View.{rule_of}
+use Rattle.roster_values.specs.declared.rule.Rule.{Rule}
+use Rattle.roster_values.specs.View.{rule_of}
 
 -- what may be said of the person at a place
 abbrev pub Saying : Type 1

@@ -8,7 +8,7 @@ ghost use Rattle.roster_model.specs.Places.{set_of, open_number};
 ghost use Rattle.roster_model.specs.Rules.{duty_list};
 ghost use Rattle.roster_model.specs.Texts as texts;
 ghost use Rattle.roster_model.specs.Texts.{line_of, names_of};
-ghost use Rattle.roster_problem.specs.View.{rule_of};
+ghost use Rattle.roster_values.specs.View.{rule_of};
 ghost use Rattle.roster_report.specs.Words.{further};
 
 use crate::names::push_names;
@@ -19,7 +19,8 @@ use roster_instants::{BaseDays, Period};
 use roster_legal::merge;
 use roster_model::limits::MOST_PAIRINGS;
 use roster_model::profile::{LONG_RUN, MIDDLE_RUN, SHORT_RUN};
-use roster_problem::{DutyList, Person, Problem, Rule, Set};
+use roster_problem::{DutyList, Person, Problem};
+use roster_values::{Rule, Set};
 use std::alloc::{AllocError, Global};
 
 /// The month as `YYYY-MM`.

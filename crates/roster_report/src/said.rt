@@ -5,12 +5,13 @@ ghost use Rattle.roster_model.specs.Places.{set_of};
 ghost use Rattle.roster_model.specs.Rosters.{AreVerdicts};
 ghost use Rattle.roster_model.specs.Rules.{AreLocks, IsVerdict};
 ghost use Rattle.roster_model.specs.Texts as texts;
-ghost use Rattle.roster_problem.specs.View.{rule_of};
+ghost use Rattle.roster_values.specs.View.{rule_of};
 
 use crate::words::{end_line, push_word};
 use roster_legal::{first_broken, locked};
 use roster_model::limits::MOST_PAIRINGS;
-use roster_problem::{Person, Problem, Rule, Set};
+use roster_problem::{Person, Problem};
+use roster_values::{Rule, Set};
 use std::alloc::{AllocError, Global};
 
 /// What locks each person, in book order.

@@ -2,7 +2,7 @@
 
 use crate::fault::{ReportFault, Wrong};
 use crate::report::{CrewLine, Report};
-use roster_problem::Name;
+use roster_values::Name;
 use std::alloc::{AllocError, Global};
 
 /// Whether the names have this one among the first so many.

@@ -4,7 +4,8 @@ ghost use Rattle.std.specs.Prelude.{◌≡◌, ◌<◌, IfSome, length};
 ghost use Rattle.std.specs.Str.{bytes_eq};
 ghost use Rattle.roster_model.specs.Record.{place_named};
 
-use roster_problem::{Name, Problem};
+use roster_problem::Problem;
+use roster_values::Name;
 
 /// Whether the text is the name.
 fn is_name(name: &Name, text: &[u8]) -> bool

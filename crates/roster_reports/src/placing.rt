@@ -9,7 +9,8 @@ use crate::fault::{ReportFault, Wrong};
 use crate::named::{pairing_named, person_named};
 use crate::report::{CrewLine, Report, read_report};
 use roster_instants::Period;
-use roster_problem::{Name, Places, Problem, open_number};
+use roster_problem::{Problem, open_number};
+use roster_values::{Name, Places};
 use std::alloc::{AllocError, Global};
 
 /// Whether the months are the same.

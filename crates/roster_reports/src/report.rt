@@ -9,7 +9,7 @@ use crate::fault::{ReportFault, Wrong};
 use crate::words::{is_crew, is_number, lines_of, without_mark, words_of};
 use roster_instants::Period;
 use roster_model::limits::MOST_PAIRINGS;
-use roster_problem::Name;
+use roster_values::Name;
 use std::alloc::Global;
 
 /// Where the names of pairings begin in a `CREW` line: behind the word, the person and five numbers.

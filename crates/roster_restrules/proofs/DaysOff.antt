@@ -12,7 +12,7 @@ use Rattle.roster_model.specs.Calendar.{Days, IsTable, common}
 use Rattle.roster_model.specs.declared.limits.TheConstants.{DAYS_BEFORE}
 use Rattle.roster_model.specs.records.Duty.{Duty}
 use Rattle.roster_model.specs.Rules.DaysOff.{IsPairOff, KeepsDaysOff}
-use Rattle.roster_problem.proofs.Words.{first_bit_from, no_bit_from}
+use Rattle.roster_values.proofs.Words.{first_bit_from, no_bit_from}
 use Rattle.roster_restrules.specs.Busy.{lies_on, is_busy, AreBusyDays, ArePairsOff}
 
 -- ---- two days

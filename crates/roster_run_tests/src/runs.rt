@@ -2,7 +2,7 @@
 
 ghost use Rattle.std.specs.Prelude.{IfOk, IfSome};
 ghost use Rattle.roster_model.specs.Answer.{IsAnswer, records_of};
-ghost use Rattle.roster_problem.specs.View.{command_of};
+ghost use Rattle.roster_values.specs.View.{command_of};
 
 use roster_book::{Command, Watched, duties_in_order};
 use roster_combine::{Open, all_open_is_legal, has_best, one_best};

@@ -4,7 +4,8 @@
 ghost use Rattle.std.specs.Prelude.{◌<◌, All, IfSome, length};
 
 use roster_book::{BookFault, Command, Watched, read_book};
-use roster_problem::{Problem, Set};
+use roster_problem::Problem;
+use roster_values::Set;
 use std::alloc::Global;
 
 /// Six persons, and on each of two days five pairings at one time. Only P1 with A costs anything. Each

@@ -16,7 +16,8 @@ use crate::parts::{Part, all_open, least_at, merged};
 use roster_cost::{Key, order_of_keys, roster_cost, shares_add_up};
 use roster_linetable::Table;
 use roster_model::limits::MOST_BASES;
-use roster_problem::{Places, Problem, Roster};
+use roster_problem::Problem;
+use roster_values::{Places, Roster};
 use std::alloc::{AllocError, Global};
 
 /// The least roster of the box, with its cost, if its key is before that of the known roster. The box has

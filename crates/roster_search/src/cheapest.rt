@@ -7,8 +7,9 @@ ghost use Rattle.roster_search.specs.Least.{CostsAtLeast, IsCheapestBelow};
 use crate::finder::Finder;
 use crate::tuning::STEP_GROWTH;
 use roster_prices::DualPrices;
-use roster_problem::{Problem, Roster};
+use roster_problem::Problem;
 use roster_regions::Region;
+use roster_values::Roster;
 use std::alloc::{AllocError, Global};
 
 /// A cheapest roster of the region if it costs less than the limit, or none, and then each of them costs

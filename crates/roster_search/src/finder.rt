@@ -8,8 +8,9 @@ use crate::finding::find;
 use crate::nodes::Nodes;
 use crate::visiting::OpenNode;
 use roster_prices::DualPrices;
-use roster_problem::{Problem, Roster};
+use roster_problem::Problem;
 use roster_regions::Region;
+use roster_values::Roster;
 use std::alloc::{AllocError, Global};
 
 /// Answers whether a region has a roster that costs at most so much: one thread, whose nodes are counted, or

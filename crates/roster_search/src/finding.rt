@@ -6,7 +6,8 @@ ghost use Rattle.roster_regions.specs.Regions.{IsIn, IsRegion};
 
 use crate::nodes::Nodes;
 use crate::visiting::{OpenNode, Visited, visit};
-use roster_problem::{Problem, Roster};
+use roster_problem::Problem;
+use roster_values::Roster;
 use std::alloc::{AllocError, Global};
 
 /// Some roster of the node's region that costs at most so much, with its cost, or none, and then each of

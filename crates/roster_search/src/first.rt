@@ -10,8 +10,9 @@ ghost use Rattle.roster_search.specs.Least.{CostsAtLeast};
 
 use crate::finder::Finder;
 use roster_prices::DualPrices;
-use roster_problem::{Problem, Roster, open_number};
+use roster_problem::{Problem, open_number};
 use roster_regions::Region;
+use roster_values::Roster;
 use std::alloc::{AllocError, Global};
 
 /// The first in the list among the given roster and those of the region that cost as little; none there

@@ -14,8 +14,9 @@ use crate::refining::roster_in;
 use crate::root::RootPrices;
 use roster_cost::{cost_without_pairings, lines_are_near, shares_add_up};
 use roster_prices::DualPrices;
-use roster_problem::{Problem, Roster};
+use roster_problem::Problem;
 use roster_regions::Region;
+use roster_values::Roster;
 use std::alloc::{AllocError, Global};
 
 /// The least roster of the region, with its cost, if it costs less than the limit; or none, and then each

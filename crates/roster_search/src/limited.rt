@@ -12,8 +12,9 @@ use crate::stack::{MOST_NODES, lines_of_last, visit_last};
 use crate::visiting::OpenNode;
 use roster_linetable::Table;
 use roster_prices::DualPrices;
-use roster_problem::{Problem, Roster};
+use roster_problem::Problem;
 use roster_regions::Region;
+use roster_values::Roster;
 use std::alloc::{AllocError, Global};
 
 /// What comes of a search that may be given up.

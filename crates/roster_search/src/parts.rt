@@ -10,8 +10,9 @@ use crate::least::least;
 use crate::root::{RootPrices, root_prices};
 use roster_linetable::Table;
 use roster_prices::DualPrices;
-use roster_problem::{Problem, Roster, open_number};
+use roster_problem::{Problem, open_number};
 use roster_regions::Region;
+use roster_values::Roster;
 use std::alloc::{AllocError, Global};
 
 /// A base, and the least roster in which only its persons fly, if there is one.

@@ -11,8 +11,9 @@ use crate::root::room;
 use crate::tuning::{FIRST_ROUNDING, MANY_LINES, NODE_STEPS};
 use roster_cost::roster_cost;
 use roster_prices::{Ascent, DualPrices, branch, rounded};
-use roster_problem::{Places, Problem, Roster};
+use roster_problem::Problem;
 use roster_regions::Region;
+use roster_values::{Places, Roster};
 use std::alloc::{AllocError, Global};
 
 /// What is known of a region after its prices have risen.

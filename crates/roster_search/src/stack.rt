@@ -6,7 +6,8 @@ ghost use Rattle.roster_regions.specs.Regions.{IsRegion};
 ghost use Rattle.roster_search.specs.Open.{AreOpenOf, IsInSome};
 
 use crate::visiting::{OpenNode, Visited, visit};
-use roster_problem::{Problem, Roster};
+use roster_problem::Problem;
+use roster_values::Roster;
 use std::alloc::{AllocError, Global};
 
 /// A node takes as long as so many lines, besides its own.

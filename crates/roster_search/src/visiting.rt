@@ -8,8 +8,9 @@ ghost use Rattle.roster_search.specs.Open.{IsVisited};
 use crate::refining::{Refined, next_split, refine};
 use roster_cost::roster_cost;
 use roster_prices::DualPrices;
-use roster_problem::{Places, Problem, Roster};
+use roster_problem::Problem;
 use roster_regions::Region;
+use roster_values::{Places, Roster};
 use std::alloc::{AllocError, Global};
 use std::marker::Model;
 

@@ -5,8 +5,9 @@ use roster_cost::{
     lines_are_near, one_pairing_more, order_of_keys, pairing_flight, roster_cost, set_flight,
     set_units, shares_add_up, units_of_set,
 };
-use roster_problem::{Places, Problem, Roster, Set, has_throughout, open_number, put};
+use roster_problem::{Problem, has_throughout, open_number, put};
 use roster_sample_books::{problem_of, set_of};
+use roster_values::{Places, Roster, Set};
 use std::process::Abort;
 use std::test::Fail;
 

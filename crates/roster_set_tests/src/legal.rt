@@ -2,8 +2,9 @@
 
 use roster_legal::{Judge, first_broken, is_legal, locked, merge};
 use roster_model::limits::MOST_PAIRINGS;
-use roster_problem::{Problem, Rule, Set};
+use roster_problem::Problem;
 use roster_sample_books::{problem_of, set_of};
+use roster_values::{Rule, Set};
 use std::alloc::{AllocError, Global};
 use std::process::Abort;
 use std::test::Fail;

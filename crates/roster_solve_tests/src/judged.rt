@@ -6,7 +6,8 @@ use crate::random::random_problem;
 use roster_legal::Judge;
 use roster_lines::lines_of;
 use roster_linetable::Lines;
-use roster_problem::{Problem, Set};
+use roster_problem::Problem;
+use roster_values::Set;
 use std::alloc::{AllocError, Global};
 use std::test::Fail;
 

@@ -9,8 +9,9 @@ use roster_linetable::{
     nobody_is_crowded, one_list_of_lines, one_list_of_numbers,
 };
 use roster_model::limits::MOST_PAIRINGS;
-use roster_problem::{Problem, Set};
+use roster_problem::Problem;
 use roster_sample_books::problem_of;
+use roster_values::Set;
 use std::alloc::{AllocError, Global};
 use std::process::Abort;
 use std::test::Fail;

@@ -11,8 +11,9 @@ use roster_lines::{
 };
 use roster_linetable::{Lines, Table};
 use roster_model::limits::MOST_LINES;
-use roster_problem::{Problem, Set};
+use roster_problem::Problem;
 use roster_sample_books::problem_of;
+use roster_values::Set;
 use std::alloc::Global;
 use std::process::Abort;
 use std::test::Fail;

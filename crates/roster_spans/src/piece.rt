@@ -3,7 +3,7 @@
 ghost use Rattle.std.specs.Prelude.{◌≡◌};
 
 use crate::span::Span;
-use roster_problem::Roster;
+use roster_values::Roster;
 use std::marker::Model;
 use std::sync::Arc;
 

@@ -1,7 +1,7 @@
 //! A part of what is searched, with the roster by which it is settled.
 
-use roster_problem::Roster;
 use roster_spans::Span;
+use roster_values::Roster;
 use std::marker::Model;
 use std::sync::Arc;
 

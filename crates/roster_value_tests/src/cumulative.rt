@@ -6,7 +6,8 @@ use roster_cumulative::{
     month_flight,
 };
 use roster_instants::BaseDays;
-use roster_problem::{Duty, DutyList, Limit, Person, Rule, Sector};
+use roster_problem::{Duty, DutyList, Person, Sector};
+use roster_values::{Limit, Rule};
 use std::process::Abort;
 
 // The list has these minutes of duty on these days.

@@ -1,7 +1,8 @@
 //! What several tests are given: names, instants, the days of a month, duties, and their lists.
 
 use roster_instants::{BaseDays, Minute, Period, read_minute};
-use roster_problem::{Duty, DutyList, Holder, Name};
+use roster_problem::{Duty, DutyList, Holder};
+use roster_values::Name;
 use std::process::Abort;
 
 /// The name of a text.

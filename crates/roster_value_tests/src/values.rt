@@ -2,7 +2,8 @@
 
 use crate::given::{duties, duty, list_of, minute, name};
 use roster_model::limits::{MOST_PAIRINGS, MOST_PERSONS};
-use roster_problem::{Cost, Costs, Duty, DutyList, Name, Places, Rule, Sector, Set};
+use roster_problem::{Cost, Costs, Duty, DutyList, Sector};
+use roster_values::{Name, Places, Rule, Set};
 use std::process::Abort;
 use std::test::Fail;
 

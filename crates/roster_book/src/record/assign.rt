@@ -16,7 +16,7 @@ use crate::forms::field;
 use crate::named::place_of;
 use crate::refusal::Refusal;
 use csv::ByteRecord;
-use roster_problem::{Places, is_identifier};
+use roster_values::{Places, is_identifier};
 use std::alloc::{AllocError, Global};
 use std::marker::Model;
 

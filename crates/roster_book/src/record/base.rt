@@ -16,7 +16,8 @@ use crate::refusal::Refusal;
 use csv::ByteRecord;
 use roster_instants::{BaseDays, Period, ZoneFault};
 use roster_model::limits::MOST_BASES;
-use roster_problem::{Base, Name};
+use roster_problem::Base;
+use roster_values::Name;
 use std::alloc::Global;
 
 // The days of the month's window at a base with this zone text.

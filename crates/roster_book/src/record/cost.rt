@@ -15,7 +15,8 @@ use crate::named::place_of;
 use crate::refusal::Refusal;
 use csv::ByteRecord;
 use roster_model::limits::MOST_COSTS;
-use roster_problem::{Cost, is_identifier};
+use roster_problem::Cost;
+use roster_values::is_identifier;
 
 // Whether all fields are of their forms.
 fn is_formed(fields: &ByteRecord) -> bool

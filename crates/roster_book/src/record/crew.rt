@@ -14,7 +14,8 @@ use crate::forms::{amount, field, is_number};
 use crate::named::place_of;
 use csv::ByteRecord;
 use roster_model::limits::{MOST_MINUTES, MOST_PERSONS};
-use roster_problem::{Name, Person, is_identifier};
+use roster_problem::Person;
+use roster_values::{Name, is_identifier};
 
 // The person's name, if all fields are of their forms.
 fn formed(fields: &ByteRecord) -> Option<Name>

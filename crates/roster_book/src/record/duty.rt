@@ -24,7 +24,8 @@ use crate::record::window::is_in_window;
 use csv::ByteRecord;
 use roster_instants::{BaseDays, Minute, read_minute};
 use roster_model::limits::MOST_DUTIES;
-use roster_problem::{Base, Duty, Holder, Name, is_identifier};
+use roster_problem::{Base, Duty, Holder};
+use roster_values::{Name, is_identifier};
 use std::alloc::Global;
 
 // The fields of a duty that are of their forms.

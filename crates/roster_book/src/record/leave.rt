@@ -15,7 +15,8 @@ use crate::record::window::is_in_window;
 use csv::ByteRecord;
 use roster_instants::{Minute, read_minute};
 use roster_model::limits::MOST_LEAVES;
-use roster_problem::{Leave, is_identifier};
+use roster_problem::Leave;
+use roster_values::is_identifier;
 
 // Where the leave begins and ends, if all fields are of their forms.
 fn formed(fields: &ByteRecord) -> Option<(Minute, Minute)>

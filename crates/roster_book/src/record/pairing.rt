@@ -13,7 +13,8 @@ use crate::forms::{amount, field, is_number};
 use crate::named::place_of;
 use csv::ByteRecord;
 use roster_model::limits::{MOST_PAIRINGS, MOST_PENALTY};
-use roster_problem::{Name, Pairing, is_identifier};
+use roster_problem::Pairing;
+use roster_values::{Name, is_identifier};
 
 // The pairing's name, if all fields are of their forms.
 fn formed(fields: &ByteRecord) -> Option<Name>

@@ -8,7 +8,7 @@ ghost use Rattle.roster_model.specs.Code.{first_unmet};
 ghost use Rattle.roster_model.specs.records.Period.{month_in, own_conditions, period_in};
 ghost use Rattle.roster_book.specs.Draft.{Judges};
 ghost use Rattle.roster_model.specs.Faults.{code_of, code_of_kind, IsFaultlessSoFar};
-ghost use Rattle.roster_problem.specs.View.{command_of};
+ghost use Rattle.roster_values.specs.View.{command_of};
 ghost use Rattle.roster_book.specs.View as view;
 
 use crate::code::Code;
@@ -16,7 +16,7 @@ use crate::forms::field;
 use crate::record::is_period;
 use csv::ByteRecord;
 use roster_instants::Period;
-use roster_problem::Command;
+use roster_values::Command;
 
 // The month, or what is wrong with the record besides being given again.
 fn judge(fields: &ByteRecord) -> Result<Period, Code>

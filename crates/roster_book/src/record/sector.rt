@@ -19,7 +19,8 @@ use crate::refusal::Refusal;
 use csv::ByteRecord;
 use roster_instants::read_minute;
 use roster_model::limits::MOST_SECTORS;
-use roster_problem::{Sector, is_identifier};
+use roster_problem::Sector;
+use roster_values::is_identifier;
 
 // Whether the letter is that of an operated sector, if it is that of a sector.
 fn operates(letter: &[u8]) -> Option<bool>

@@ -11,7 +11,7 @@ ghost use Rattle.roster_model.specs.Faults.{code_of_kind, kind_in};
 ghost use Rattle.roster_model.specs.records.Step as model;
 ghost use Rattle.roster_book.specs.Draft.{IsDraftOf, JudgesStep, Takes, contents_of};
 ghost use Rattle.roster_book.specs.View.{move_of};
-ghost use Rattle.roster_problem.specs.View.{step_of};
+ghost use Rattle.roster_values.specs.View.{step_of};
 
 use crate::code::Code;
 use crate::draft::Draft;
@@ -19,7 +19,7 @@ use crate::forms::{amount, field, is_number};
 use crate::refusal::Refusal;
 use csv::ByteRecord;
 use roster_model::limits::{LAST_WORKER, MOST_STEP_NUMBER, MOST_STEPS};
-use roster_problem::Step;
+use roster_values::Step;
 
 /// A step without its numbers.
 #[derive(Clone, Copy)]

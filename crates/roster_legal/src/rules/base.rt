@@ -3,7 +3,8 @@
 ghost use Rattle.std.specs.Prelude.{◌<◌, ◌↔◌, IsTrue, All, length};
 ghost use Rattle.roster_model.specs.Rules.Base.{KeepsBase};
 
-use roster_problem::{Problem, Set};
+use roster_problem::Problem;
+use roster_values::Set;
 
 /// Whether each pairing of the set has the base of person `k`.
 pub(crate) fn keeps_base(problem: &Problem, k: usize, set: &Set) -> bool

@@ -4,7 +4,8 @@ ghost use Rattle.std.specs.Prelude.{◌<◌, All, MatchOption, length};
 ghost use Rattle.roster_model.specs.Rules.Base.{KeepsBase};
 ghost use Rattle.roster_reasons.specs.Reasons.Base.{IsFirstOffBase};
 
-use roster_problem::{Problem, Set};
+use roster_problem::Problem;
+use roster_values::Set;
 
 /// The place of the first pairing of the set that has another base than person `k`.
 pub(crate) fn first_off_base(problem: &Problem, k: usize, set: &Set) -> Option<usize>

@@ -3,7 +3,7 @@ use Rattle.std.proofs.lemmas.Result.{MatchResult-weaker}
 use Rattle.csv.specs.Records.{fields_of}
 use Rattle.roster_book.specs.Draft.{contents_of}
 use Rattle.roster_book.specs.Reading.{IsBookOf, TellsFirst, records_left}
-use Rattle.roster_problem.specs.View.{command_of}
+use Rattle.roster_values.specs.View.{command_of}
 use Rattle.roster_book.specs.declared.refusal.Refusal.TheVariants as refusals
 use Rattle.roster_book.proofs.Drafts.{HasRecords-draft}
 use Rattle.roster_book.proofs.FirstFaultLemmas.{first_fault-of-none}

@@ -2,7 +2,7 @@ use Rattle.std.proofs.Common.{List}
 use Rattle.roster_model.specs.Record.{Record}
 use Rattle.roster_book.specs.Draft.{IsDraftOf, contents_of}
 use Rattle.roster_book.specs.Reading.{AreSeen, IsOpen, records_left}
-use Rattle.roster_problem.specs.View.{command_of}
+use Rattle.roster_values.specs.View.{command_of}
 use Rattle.roster_book.proofs.reading.read_all.Given as goal
 
 -- some records were seen, and the draft is theirs

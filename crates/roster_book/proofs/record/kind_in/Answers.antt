@@ -1,7 +1,7 @@
 use Rattle.std.proofs.Common.{◌≡◌, ◌∙◌, false, get_or, sym, arith, refl}
 use Rattle.std.proofs.lemmas.Bool.{and_from, and_left, and_right}
 use Rattle.csv.specs.Records.{fields_of}
-use Rattle.roster_problem.specs.View.{command_of}
+use Rattle.roster_values.specs.View.{command_of}
 use Rattle.roster_book.specs.declared.record.Kind.TheVariants.{Period}
 use Rattle.roster_book.specs.declared.record.TheConstants.Kind.{ALL}
 use Rattle.roster_book.proofs.KindFound.{find-here, find-none, find-passed, is_kind_in, kind_is}

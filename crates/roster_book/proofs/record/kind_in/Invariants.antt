@@ -2,7 +2,7 @@ use Rattle.std.proofs.Common.{◌≡◌, drop}
 use Rattle.std.specs.List.{find}
 use Rattle.roster_book.specs.declared.record.TheConstants.Kind.{ALL}
 use Rattle.csv.specs.Records.{fields_of}
-use Rattle.roster_problem.specs.View.{command_of}
+use Rattle.roster_values.specs.View.{command_of}
 use Rattle.roster_book.proofs.KindFound.{is_kind_in}
 use Rattle.roster_book.proofs.record.kind_in.Given as goal
 

@@ -1,7 +1,7 @@
 use Rattle.std.proofs.Common.{◌≡◌, ◌≢◌, ◌⊎◌, [], IfOk, Some, map, true, refl, sym, ◌∙◌, subst, string_bytes}
 use Rattle.std.specs.Process.{exit_status}
 use Rattle.clap.specs.Words.{fault_of, takes}
-use Rattle.roster_problem.specs.declared.command.Command.{Command}
+use Rattle.roster_values.specs.declared.command.Command.{Command}
 use Rattle.roster_commandline.specs.Line.{roster_app, command_name, spelling}
 use Rattle.roster_commandline.specs.declared.line.LineFault.TheVariants.{Memory}
 use Rattle.roster_cli.specs.Program.{Asks, texts_of}

@@ -1,8 +1,8 @@
 use Rattle.std.proofs.Common.{rules, ◌≡◌, ℕ, List, true, refl, ap, map, ◌∙◌, sym, subst, codes, ◌∷◌, [], Some}
 use Rattle.clap.specs.Words.{takes, fault_of, is_simple, is_simple_and_free, HasKind, HasMatchesOf}
 use Rattle.clap.proofs.OnLiterals.{clap_on_literals}
-use Rattle.roster_problem.specs.declared.command.Command.{Command}
-use Rattle.roster_problem.specs.declared.command.Command.TheVariants as commands
+use Rattle.roster_values.specs.declared.command.Command.{Command}
+use Rattle.roster_values.specs.declared.command.Command.TheVariants as commands
 use Rattle.roster_commandline.specs.Line.{roster_app, command_name, spelling, workers_asked}
 use Rattle.clap.specs.declared.error.kind.ErrorKind.TheVariants.{MissingSubcommand, DisplayHelp, ValueValidation}
 use Rattle.roster_commandline.proofs.Workers.{asked_is, has_workers}

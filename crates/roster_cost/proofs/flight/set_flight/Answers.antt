@@ -4,7 +4,7 @@ use Rattle.std.proofs.lemmas.List.Sums.{sum_by-cons}
 use Rattle.roster_model.specs.Costs.{flight_of}
 use Rattle.roster_model.specs.Problem.{home_of}
 use Rattle.roster_model.proofs.SetLemmas.{All-is_among}
-use Rattle.roster_problem.specs.Set.{places_from}
+use Rattle.roster_values.specs.Set.{places_from}
 use Rattle.roster_cost.specs.Amounts.{minutes_of_pairing}
 use Rattle.roster_cost.proofs.Flights.{set-parts}
 use Rattle.roster_cost.proofs.flight.set_flight.Goals as goal

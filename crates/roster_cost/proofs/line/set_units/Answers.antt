@@ -4,7 +4,7 @@ use Rattle.roster_model.specs.Costs.{total}
 use Rattle.roster_model.specs.Problem.{units_of}
 use Rattle.roster_model.specs.declared.limits.TheConstants.{MOST_UNITS}
 use Rattle.roster_model.proofs.CostLemmas.{total-nil, total-cons}
-use Rattle.roster_problem.specs.Set.{places_from}
+use Rattle.roster_values.specs.Set.{places_from}
 use Rattle.roster_cost.proofs.Fits.{within_from_abs}
 use Rattle.roster_cost.proofs.line.set_units.Goals as goal
 

@@ -2,7 +2,7 @@ use Rattle.std.proofs.Common.{◌≡◌, ◌-◌, ◌*◌, ◌≤◌, ◌+ℤ◌
 use Rattle.roster_model.specs.Costs.{total}
 use Rattle.roster_model.specs.Problem.{units_of}
 use Rattle.roster_model.specs.declared.limits.TheConstants.{MOST_PAIRINGS, MOST_UNITS}
-use Rattle.roster_problem.specs.Set.{places_from}
+use Rattle.roster_values.specs.Set.{places_from}
 use Rattle.roster_cost.specs.Amounts.{IsWithin}
 use Rattle.roster_cost.proofs.line.set_units.Given as goal
 

@@ -2,9 +2,9 @@ use Rattle.std.proofs.Common.{◌+◌, ◌∙◌, Some, None, get_or, refl, sym,
 use Rattle.std.proofs.lemmas.Bool.{both_ways}
 use Rattle.roster_model.proofs.RuleLemmas.{HoldBelow, below-next, below-all, fails-first, limits-ranked}
 use Rattle.roster_model.specs.Rules.{limits_by_rank, rank_of_limit, IsFirstFailing}
-use Rattle.roster_problem.specs.declared.rule.Limit.TheVariants.{Duty7}
-use Rattle.roster_problem.specs.declared.rule.TheConstants.Limit.{ALL}
-use Rattle.roster_problem.specs.View.{limit_of}
+use Rattle.roster_values.specs.declared.rule.Limit.TheVariants.{Duty7}
+use Rattle.roster_values.specs.declared.rule.TheConstants.Limit.{ALL}
+use Rattle.roster_values.specs.View.{limit_of}
 use Rattle.roster_cumulative.specs.Limited.{IsKept, Limited}
 use Rattle.roster_cumulative.proofs.limits.cumulative_broken.Goals as goal
 

@@ -2,9 +2,9 @@ use Rattle.std.proofs.Common.{refl, sym, subst, arith}
 use Rattle.std.proofs.lemmas.Bool.{both_ways}
 use Rattle.roster_model.proofs.RuleLemmas.{below-next, below-all, fails-first, rules-ranked}
 use Rattle.roster_model.specs.Rules.{by_rank, rank_of, Holds}
-use Rattle.roster_problem.specs.declared.rule.Rule.TheVariants.{Base}
-use Rattle.roster_problem.specs.declared.rule.TheConstants.Rule.{ALL}
-use Rattle.roster_problem.specs.View.{rule_of}
+use Rattle.roster_values.specs.declared.rule.Rule.TheVariants.{Base}
+use Rattle.roster_values.specs.declared.rule.TheConstants.Rule.{ALL}
+use Rattle.roster_values.specs.View.{rule_of}
 use Rattle.roster_legal.specs.Looks.{LookAt}
 use Rattle.roster_legal.proofs.rules.first_broken_on.Goals as goal
 

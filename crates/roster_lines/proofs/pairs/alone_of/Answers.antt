@@ -1,7 +1,7 @@
 use Rattle.std.proofs.Common.{◌≡◌, ℕ, ◌+◌, [], ◌∷◌, sym, ap, subst, ◌∙◌, arith}
 use Rattle.std.proofs.lemmas.Bool.{both_ways}
 use Rattle.roster_model.specs.Rules.{is_among, IsLegal}
-use Rattle.roster_problem.specs.Set.{with_place}
+use Rattle.roster_values.specs.Set.{with_place}
 use Rattle.roster_lines.proofs.Judged.{HasBelow, HasBelow-with, HasBelow-without, illegal_as, legal_as}
 use Rattle.roster_lines.proofs.pairs.alone_of.Goals.{then-branch+in_ok-alone, else-branch}
 use Rattle.roster_lines.proofs.pairs.alone_of.Goals as goal

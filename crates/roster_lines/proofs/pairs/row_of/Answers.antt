@@ -5,7 +5,7 @@ use Rattle.std.proofs.lemmas.List.Elements.{All-cons, All-nil}
 use Rattle.roster_model.specs.declared.limits.TheConstants.{MOST_PAIRINGS}
 use Rattle.roster_model.specs.Rules.{is_among}
 use Rattle.roster_model.proofs.SetLemmas.{All-is_among}
-use Rattle.roster_problem.specs.Set.{with_place}
+use Rattle.roster_values.specs.Set.{with_place}
 use Rattle.roster_lines.specs.Listing.{AreTogether, IsRow}
 use Rattle.roster_lines.proofs.Judged.{HasBelow, HasBelow-with, HasBelow-without, IsRow-none, IsRow-whole, illegal_as, legal_as, none_skipped}
 use Rattle.roster_lines.proofs.pairs.row_of.Goals.{then-branch+in_ok-row, else-branch}

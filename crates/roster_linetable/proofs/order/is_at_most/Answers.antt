@@ -1,6 +1,6 @@
 use Rattle.std.proofs.Common.{sym, ap₂}
 use Rattle.roster_model.specs.Places.{places_le}
-use Rattle.roster_problem.proofs.SetParts.{places_from-first}
+use Rattle.roster_values.proofs.SetParts.{places_from-first}
 use Rattle.roster_linetable.proofs.order.is_at_most.Goals as goal
 
 pub loop-p-init : goal.loop-p-init

@@ -2,8 +2,8 @@ use Rattle.std.proofs.Common.{◌≡◌, ℕ, ◌+◌, ◌<◌, ◌≤◌, List,
 use Rattle.std.proofs.lemmas.Int.{ints, to_z-of_z}
 use Rattle.std.proofs.lemmas.Option.{get_or_from_slice_get, slice_get-get_or}
 use Rattle.roster_model.proofs.SetLemmas.{All-is_among}
-use Rattle.roster_problem.specs.Set.{places_from}
-use Rattle.roster_problem.proofs.SetParts.{places_from-first}
+use Rattle.roster_values.specs.Set.{places_from}
+use Rattle.roster_values.proofs.SetParts.{places_from-first}
 use Rattle.roster_cost.specs.Amounts.{IsWithin}
 use Rattle.roster_pricing.specs.declared.parts.TheConstants.{MOST_VALUE}
 use Rattle.roster_pricing.specs.Chains.{chain_value, next_state, value_at}

@@ -1,6 +1,6 @@
 use Rattle.std.proofs.Common.{◌≡◌, ℕ, ◌-◌, ◌*◌, ◌<◌, ◌≤◌, List, ◌++◌, length, ◌+ℤ◌}
 use Rattle.roster_model.specs.declared.limits.TheConstants.{MOST_PAIRINGS}
-use Rattle.roster_problem.specs.Set.{places_from}
+use Rattle.roster_values.specs.Set.{places_from}
 use Rattle.roster_cost.specs.Amounts.{IsWithin}
 use Rattle.roster_pricing.specs.declared.parts.TheConstants.{MOST_VALUE}
 use Rattle.roster_pricing.specs.Chains.{chain_value}

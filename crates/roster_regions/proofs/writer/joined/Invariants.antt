@@ -1,7 +1,7 @@
 use Rattle.std.proofs.Common.{◌≡◌, ℕ, ◌-◌, ◌||◌, ◌≤◌}
 use Rattle.roster_model.specs.declared.limits.TheConstants.{MOST_PAIRINGS}
 use Rattle.roster_model.specs.Rules.{is_among}
-use Rattle.roster_problem.specs.Set.{places_from}
+use Rattle.roster_values.specs.Set.{places_from}
 use Rattle.roster_regions.proofs.writer.joined.Given as goal
 
 -- what is in so far, and what is left, is what is in one of the two

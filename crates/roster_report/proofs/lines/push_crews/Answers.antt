@@ -4,7 +4,7 @@ use Rattle.roster_model.specs.records.Crew.{Person}
 use Rattle.roster_model.specs.Places.{set_of}
 use Rattle.roster_model.specs.Rules as model
 use Rattle.roster_model.specs.Texts.{crew_line, lock_line, rule_at}
-use Rattle.roster_problem.specs.View.{rule_of}
+use Rattle.roster_values.specs.View.{rule_of}
 use Rattle.roster_report.proofs.OfPersons.{rule_at-map}
 use Rattle.roster_report.proofs.LineOf.{lines-more}
 use Rattle.roster_report.proofs.lines.push_crews.Goals as goal

@@ -3,7 +3,7 @@ use Rattle.std.specs.List.{enumerate_from, flat_map}
 use Rattle.roster_model.specs.records.Crew.{Person}
 use Rattle.roster_model.specs.Places.{set_of}
 use Rattle.roster_model.specs.Texts.{crew_line, lock_line, rule_at}
-use Rattle.roster_problem.specs.View.{rule_of}
+use Rattle.roster_values.specs.View.{rule_of}
 use Rattle.roster_report.proofs.lines.push_crews.Given as goal
 
 abbrev pub invariant-loop-k : goal.invariant-loop-k

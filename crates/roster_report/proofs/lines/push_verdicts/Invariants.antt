@@ -2,7 +2,7 @@ use Rattle.std.proofs.Common.{◌≡◌, ℕ, ◌++◌, take, map, option_map}
 use Rattle.std.specs.List.{enumerate_from, flat_map}
 use Rattle.roster_model.specs.records.Crew.{Person}
 use Rattle.roster_model.specs.Texts.{verdict_line, lock_line, rule_at}
-use Rattle.roster_problem.specs.View.{rule_of}
+use Rattle.roster_values.specs.View.{rule_of}
 use Rattle.roster_report.proofs.lines.push_verdicts.Given as goal
 
 abbrev pub invariant-loop-k : goal.invariant-loop-k

@@ -8,7 +8,7 @@ use Rattle.roster_model.specs.Calendar.{Period}
 use Rattle.roster_model.specs.Rosters.{Key}
 use Rattle.roster_model.specs.Rules.{Rule}
 use Rattle.roster_model.specs.Texts.{plan_text, roster_lines, line_of, period_text}
-use Rattle.roster_problem.specs.View.{rule_of}
+use Rattle.roster_values.specs.View.{rule_of}
 use Rattle.roster_report.proofs.LineOf.{four-texts}
 use Rattle.roster_report.proofs.plan.plan_text.Goals as goal
 

@@ -8,7 +8,7 @@ use Rattle.roster_model.specs.Calendar.{Period}
 use Rattle.roster_model.specs.Rosters.{Key}
 use Rattle.roster_model.specs.Rules.{Rule}
 use Rattle.roster_model.specs.Texts.{report_text, roster_lines, line_of, period_text}
-use Rattle.roster_problem.specs.View.{rule_of}
+use Rattle.roster_values.specs.View.{rule_of}
 use Rattle.roster_report.proofs.LineOf.{three-texts}
 use Rattle.roster_report.proofs.report.report.Goals as goal
 

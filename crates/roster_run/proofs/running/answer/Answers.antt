@@ -1,7 +1,7 @@
 use Rattle.std.proofs.Common.{◌≡◌, List, ℕ, [], ap, inl, inr, subst, sym}
 use Rattle.roster_model.specs.Problem.{Problem}
 use Rattle.roster_model.specs.Record.{Command, Solve, Replay}
-use Rattle.roster_problem.specs.View.{command_of}
+use Rattle.roster_values.specs.View.{command_of}
 use Rattle.roster_run.specs.Run.{IsProblemAnswer, IsProblemRefusal, IsProblemReport}
 use Rattle.roster_run.proofs.BookAnswers.{text-weaker}
 use Rattle.roster_run.proofs.running.answer.Goals as goal

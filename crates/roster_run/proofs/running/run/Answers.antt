@@ -1,4 +1,4 @@
-use Rattle.roster_problem.specs.View.{command_of}
+use Rattle.roster_values.specs.View.{command_of}
 use Rattle.roster_model.specs.Answer.{IsAnswer, IsReport}
 use Rattle.roster_run.specs.Run.{IsProblemAnswer, IsProblemReport}
 use Rattle.roster_run.proofs.BookAnswers.{answer_of_book, report_of_book, text_of_book}

@@ -2,7 +2,7 @@ use Rattle.std.proofs.Common.{[], ap, sym, ◌∙◌, arith}
 use Rattle.csv.specs.Records.{fields_of}
 use Rattle.roster_model.specs.Problem.{Problem}
 use Rattle.roster_problem.specs.Sound.{tables_of_period}
-use Rattle.roster_problem.specs.View.{command_of}
+use Rattle.roster_values.specs.View.{command_of}
 use Rattle.roster_book.proofs.Sound.{first_is_period}
 use Rattle.roster_book.proofs.Tables.{no_assign, no_step, tables_in-first}
 use Rattle.roster_book.proofs.draft.Draft.begin.Goals as goal

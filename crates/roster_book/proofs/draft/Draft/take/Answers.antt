@@ -6,7 +6,7 @@ use Rattle.roster_model.specs.records.Crew.{person_of}
 use Rattle.roster_model.specs.records.Pairing.{pairing_of}
 use Rattle.roster_model.specs.records.Leave.{leave_of}
 use Rattle.roster_book.specs.Draft.{contents_of}
-use Rattle.roster_problem.specs.View.{command_of}
+use Rattle.roster_values.specs.View.{command_of}
 use Rattle.roster_book.proofs.Drafts.{code_of-later, code_of-unknown, IsDraftOf-append, Takes-pushed, Takes-refused}
 use Rattle.roster_book.proofs.draft.Draft.take.Goals as goal
 

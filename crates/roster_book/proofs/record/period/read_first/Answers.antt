@@ -1,7 +1,7 @@
 use Rattle.std.proofs.Common.{◌∙◌, sym}
 use Rattle.csv.specs.Records.{fields_of}
 use Rattle.roster_model.specs.records.Period.{period_in}
-use Rattle.roster_problem.specs.View.{command_of}
+use Rattle.roster_values.specs.View.{command_of}
 use Rattle.roster_book.proofs.Periods.{code_of-no_period, code_of-period}
 use Rattle.roster_book.proofs.record.period.read_first.Goals as goal
 

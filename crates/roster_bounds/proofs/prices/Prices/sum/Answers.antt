@@ -3,7 +3,7 @@ use Rattle.std.proofs.lemmas.Int.{ints}
 use Rattle.roster_model.specs.Costs.{total}
 use Rattle.roster_model.proofs.CostLemmas.{total-nil, total-cons}
 use Rattle.roster_model.proofs.SetLemmas.{All-is_among}
-use Rattle.roster_problem.specs.Set.{places_from}
+use Rattle.roster_values.specs.Set.{places_from}
 use Rattle.roster_bounds.specs.Chosen.{price_at}
 use Rattle.roster_bounds.proofs.prices.Prices.sum.Goals as goal
 

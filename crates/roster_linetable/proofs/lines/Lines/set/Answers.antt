@@ -1,7 +1,7 @@
 use Rattle.std.proofs.Common.{◌≡◌, [], ◌++◌, length, Some, refl, sym, ap, subst, ◌∙◌, arith, append-nil}
 use Rattle.std.specs.Prelude.{IsOkAnd}
 use Rattle.std.proofs.lemmas.Option.{slice_get_read}
-use Rattle.roster_problem.specs.Set.{with_place}
+use Rattle.roster_values.specs.Set.{with_place}
 use Rattle.roster_linetable.specs.Entries.{set_at}
 use Rattle.roster_linetable.specs.Tree.{entries_in}
 use Rattle.roster_linetable.proofs.TreeLemmas.{length-entries_in, set_at_first, set_at_get}

@@ -1,6 +1,6 @@
 use Rattle.std.proofs.Common.{◌≡◌, ◌≤◌, ◌-◌, ◌++◌, List, length, take}
 use Rattle.roster_model.specs.declared.limits.TheConstants.{MOST_PAIRINGS}
-use Rattle.roster_problem.specs.Set.{places_from}
+use Rattle.roster_values.specs.Set.{places_from}
 use Rattle.roster_regions.specs.Regions.{AllowedLine}
 use Rattle.roster_regions.specs.Writing.{IsWriting}
 use Rattle.roster_regions.proofs.build.Copying.go_to.Given as goal

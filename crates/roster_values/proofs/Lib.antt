@@ -1,0 +1,2 @@
+pub mod SetParts
+pub mod Words
