@@ -1,3 +1,2 @@
-pub mod LegalLines
 pub mod SpanLemmas
 pub mod Settling

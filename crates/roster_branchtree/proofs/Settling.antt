@@ -7,7 +7,8 @@ use Rattle.roster_model.specs.Problem.{Problem}
 use Rattle.roster_model.specs.Rosters.{key_le, key_of, Key}
 use Rattle.roster_model.specs.Settled.{IsHeld, Settles}
 use Rattle.roster_model.proofs.KeyLemmas.{key_le-refl, key_le-trans}
-use Rattle.roster_branchtree.specs.Shown.{IsEarlierOf, KeepsWatch, Watched}
+use Rattle.roster_branchtree.specs.Shown.{KeepsWatch, Watched}
+use Rattle.roster_incumbent.specs.Kept.{IsEarlierOf}
 use Rattle.roster_branchtree.specs.Watching.{keeps_then}
 
 -- a watch that began with the known roster

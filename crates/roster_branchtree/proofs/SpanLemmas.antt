@@ -15,9 +15,10 @@ use Rattle.roster_bounds.specs.Chosen.{line_set, HasLines, Meets}
 use Rattle.roster_linetable.proofs.Cuts.{one_place}
 use Rattle.roster_linetable.proofs.Numbers.{AreNumbersOf-exist}
 use Rattle.roster_regions.specs.Regions.{IsInRanges}
-use Rattle.roster_linetable.proofs.TableLemmas.{all_lines_in_table}
+use Rattle.roster_linetable.proofs.TableLemmas.{all_lines_in_table, sets_at}
 use Rattle.roster_bounds.proofs.OfNode.{has_line, later_is_apart}
-use Rattle.roster_branchtree.specs.Spans.{range_at, range_or, AreRangesOf, IsInSpan}
+use Rattle.roster_branchtree.specs.Spans.{range_at, range_or, AreRangesOf}
+use Rattle.roster_spans.specs.Spans.{IsInSpan}
 use Rattle.roster_spans.specs.Spans.{Span}
 
 -- ---- ranges
@@ -68,12 +69,6 @@ meets_none table path places k has inside meets =
     (omega (arith, front)) (subst (Meets table (take k path)) line meets)
 
 -- ---- rosters of a span
-
-pub sets_at : (table : List (List Entry)) (k : ℕ) → k < length table
-    → slice_get (map sets_of table) k ≡ Some (sets_of (lines_at table k))
-sets_at table k inside =
-    let none : List Entry = [] in
-    slice_get-map sets_of table k ∙ ap (option_map sets_of) (slice_get-get_or table k none inside)
 
 pub in_span_has_lines : (table : List (List Entry)) (span : Span) (places : List ℕ)
     → IsInSpan table span places → HasLines table span.path places

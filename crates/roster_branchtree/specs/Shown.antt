@@ -1,5 +1,5 @@
 -- What a search keeps of the rosters that it is shown.
-use Rattle.std.specs.Prelude.{◌≡◌, ◌⊎◌, ℕ, true}
+use Rattle.std.specs.Prelude.{◌≡◌, ℕ, true}
 use Rattle.roster_model.specs.Problem.{Problem}
 use Rattle.roster_model.specs.Rosters.{Key, key_le}
 use Rattle.roster_model.specs.Settled.{IsHeld}
@@ -17,9 +17,3 @@ pub record KeepsWatch (old new : Watched) : Type 0 where
   pub held : IsHeld old.problem old.best → IsHeld new.problem new.best
   pub kept : key_le new.best old.best ≡ true
   pub blind : old.every ≡ 0 → new.best ≡ old.best
-
--- one of two keys that is after neither
-pub record IsEarlierOf (a b key : Key) : Type 0 where
-  pub first : key_le key a ≡ true
-  pub second : key_le key b ≡ true
-  pub one : (key ≡ a) ⊎ (key ≡ b)

@@ -1,14 +1,8 @@
--- The rosters of a span, and its range of lines for each person.
-use Rattle.std.specs.Prelude.{◌≡◌, ℕ, ◌<◌, ◌+◌, ◌==◌, if◌then◌else◌, List, Option, Some, None, length, map, slice_get}
-use Rattle.roster_model.specs.Lines.{AreNumbersOf}
-use Rattle.roster_linetable.specs.Entries.{Entry, sets_of}
+-- The range of lines that a span leaves each person.
+use Rattle.std.specs.Prelude.{◌≡◌, ℕ, ◌<◌, ◌+◌, ◌==◌, if◌then◌else◌, List, Option, Some, None, length, slice_get}
+use Rattle.roster_linetable.specs.Entries.{Entry}
 use Rattle.roster_linetable.specs.Person.{lines_at}
-use Rattle.roster_spans.specs.Spans.{LiesIn, Span}
-
--- the places have a list of line numbers that lies in the span
-abbrev pub IsInSpan : List (List Entry) → Span → List ℕ → Type 0
-IsInSpan table span places =
-    (numbers : List ℕ) × AreNumbersOf (map sets_of table) places numbers × LiesIn span numbers
+use Rattle.roster_spans.specs.Spans.{Span}
 
 -- the range of one line number, if there is one
 abbrev pub range_or : Option ℕ → ℕ × ℕ → ℕ × ℕ

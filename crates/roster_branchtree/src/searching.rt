@@ -6,13 +6,14 @@ ghost use Rattle.roster_linetable.specs.Person.{IsTableOf};
 ghost use Rattle.roster_model.specs.Rosters.{key_le, key_of, IsLegalRoster};
 ghost use Rattle.roster_model.specs.Settled.{IsHeld, IsNotAfter, Settles};
 ghost use Rattle.roster_bounds.specs.Chosen.{priced_table};
-ghost use Rattle.roster_branchtree.specs.Spans.{AreLineNumbers, IsInSpan};
+ghost use Rattle.roster_branchtree.specs.Spans.{AreLineNumbers};
+ghost use Rattle.roster_spans.specs.Spans.{IsInSpan};
 
 use crate::ranges::{node_of, ranges_of};
-use crate::sight::Sight;
 use crate::watch::{Watch, earlier_if};
 use roster_bounds::Tables;
 use roster_cost::Key;
+use roster_incumbent::Sight;
 use roster_linetable::{Table, all_lines_are_some};
 use roster_problem::Problem;
 use roster_search::{Nodes, least_of_box};

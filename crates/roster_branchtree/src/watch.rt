@@ -5,11 +5,10 @@ ghost use Rattle.std.specs.Arc.{arc_value};
 ghost use Rattle.roster_linetable.specs.Person.{IsTableOf};
 ghost use Rattle.roster_model.specs.Rosters.{key_le};
 ghost use Rattle.roster_model.specs.Settled.{IsHeld};
-ghost use Rattle.roster_branchtree.specs.Shown.{IsEarlierOf};
+ghost use Rattle.roster_incumbent.specs.Kept.{IsEarlierOf};
 
-use crate::checked::is_held;
-use crate::sight::Sight;
 use roster_cost::{comes_before, keys_are_in_order};
+use roster_incumbent::{Sight, is_held};
 use roster_linetable::Table;
 use roster_problem::Problem;
 use roster_search::Nodes;

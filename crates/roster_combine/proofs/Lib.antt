@@ -1,4 +1,1 @@
 pub mod Best
-pub mod RootLemmas
-pub mod PartLemmas
-pub mod ReplayLemmas

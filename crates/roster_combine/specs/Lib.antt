@@ -1,3 +1,1 @@
 pub mod SolveFaults
-pub mod Parts
-pub mod Replays

@@ -5,7 +5,7 @@ ghost use Rattle.roster_model.specs.Problem.{Problem as PlainProblem};
 ghost use Rattle.roster_linetable.specs.Entries.{Entry};
 ghost use Rattle.roster_linetable.specs.Person.{IsTableOf};
 ghost use Rattle.roster_bounds.specs.Chosen.{priced_table};
-ghost use Rattle.roster_combine.specs.Parts.{AreSettled};
+ghost use Rattle.roster_workers.specs.Parts.{AreSettled};
 
 use crate::books::is;
 use roster_bounds::{Tables, choose_tables};

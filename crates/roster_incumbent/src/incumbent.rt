@@ -4,7 +4,7 @@ ghost use Rattle.std.specs.Prelude.{◌≡◌};
 ghost use Rattle.std.specs.Arc.{arc_value};
 ghost use Rattle.roster_incumbent.specs.Kept.{less_of};
 
-use roster_branchtree::Sight;
+use crate::sight::Sight;
 use roster_cost::comes_before;
 use roster_values::Roster;
 use std::alloc::AllocError;

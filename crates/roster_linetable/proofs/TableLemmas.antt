@@ -1,6 +1,6 @@
 -- A table of lines, person by person.
-use Rattle.std.proofs.Common.{◌≡◌, ℕ, ◌<◌, List, [], length, Some, refl, ◌∙◌, arith}
-use Rattle.std.specs.Prelude.{slice_get}
+use Rattle.std.proofs.Common.{◌≡◌, ℕ, ◌<◌, List, [], length, Some, refl, ap, ◌∙◌, arith}
+use Rattle.std.specs.Prelude.{map, option_map, slice_get}
 use Rattle.std.proofs.lemmas.Option.{slice_get-get_or, slice_get-map}
 use Rattle.roster_model.specs.Lines.{AreLines, IsCrowded}
 use Rattle.roster_model.specs.Problem.{Problem}
@@ -46,3 +46,10 @@ nobody_crowded problem table k is person =
     let few = (lines_in_table problem table k (AreListed-all problem table is) person).few in
     not_crowded problem k (sets_of lines) (all_lines_in_table problem table k is person)
     (omega (arith, length-sets_of lines, few))
+
+-- the sets of a list of the table
+pub sets_at : (table : List (List Entry)) (k : ℕ) → k < length table
+    → slice_get (map sets_of table) k ≡ Some (sets_of (lines_at table k))
+sets_at table k inside =
+    let none : List Entry = [] in
+    slice_get-map sets_of table k ∙ ap (option_map sets_of) (slice_get-get_or table k none inside)

@@ -8,7 +8,7 @@ ghost use Rattle.roster_model.specs.Record.{Solve};
 ghost use Rattle.roster_book.specs.Reading.{OfTold};
 ghost use Rattle.roster_values.specs.View.{command_of};
 ghost use Rattle.roster_watched.specs.Watch.{inner_of, has_failed, is_flushed};
-ghost use Rattle.roster_combine.specs.Parts.{IsBestKey};
+ghost use Rattle.roster_workers.specs.Parts.{IsBestKey};
 ghost use Rattle.roster_combine.specs.SolveFaults.{IsSolveFaultOf};
 ghost use Rattle.roster_report.specs.Writing.{Writes, WritesPart};
 ghost use Rattle.roster_run.specs.Run.{IsFaultLine, IsProblemAnswer, IsProblemRefusal, IsProblemReport};

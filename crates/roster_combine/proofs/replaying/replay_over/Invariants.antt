@@ -1,5 +1,5 @@
 use Rattle.roster_combine.proofs.replaying.replay_over.Given as goal
 
 -- the ledger is that of the blank
-abbrev pub ghosts-replay_from : goal.ghosts-replay_from
-ghosts-replay_from a = record { name = a.blank.name; parts = a.blank.parts }
+abbrev pub ghosts-replay_steps : goal.ghosts-replay_steps
+ghosts-replay_steps a = record { name = a.blank.name; parts = a.blank.parts }

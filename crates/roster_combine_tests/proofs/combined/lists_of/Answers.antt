@@ -5,7 +5,7 @@ use Rattle.std.proofs.lemmas.List.Elements.{All-nil, All-push, All-same}
 use Rattle.roster_model.specs.Problem.{Problem}
 use Rattle.roster_linetable.specs.Entries.{Entry}
 use Rattle.roster_subtreepool.specs.States.{Part}
-use Rattle.roster_combine.specs.Parts.{AreSettled, IsSettled}
+use Rattle.roster_workers.specs.Parts.{AreSettled, IsSettled}
 use Rattle.roster_combine_tests.proofs.combined.lists_of.Goals as goal
 use Rattle.roster_combine_tests.proofs.combined.lists_of.Goals.{in-First+in_ok-push-in-First, in-Second+in_ok-push-in-Second+in_ok-push-in-Second-2, in-Nobody}
 

@@ -7,7 +7,7 @@ use Rattle.roster_model.specs.Rosters.{Key}
 use Rattle.roster_model.specs.Settled.{IsBest}
 use Rattle.roster_model.specs.Record.{Solve}
 use Rattle.roster_model.specs.Texts.{IsReportOf}
-use Rattle.roster_combine.specs.Parts.{IsBestKey}
+use Rattle.roster_workers.specs.Parts.{IsBestKey}
 use Rattle.roster_run.specs.Run.{IsProblemAnswer, IsProblemReport}
 use Rattle.roster_run.proofs.BookAnswers.{part_where_failed, text-weaker, written_where_answered}
 use Rattle.roster_run.proofs.running.answer_best.Goals as goal

@@ -1,0 +1,32 @@
+//! Workers that search for one best roster together, whatever searches their spans.
+//!
+//! Workers take spans from a pool and have them searched (`SpanSearch`); what they find is put together in
+//! the end. Or one thread does what a schedule says of all workers. In reading order:
+//!
+//! - `span_search`: what searches spans
+//! - `root`: one search of all rosters
+//! - `gate`: where workers can be met
+//! - `working`: what a worker does
+//! - `combining`: the least of all that workers found
+//! - `crew`: workers in threads of their own
+//! - `stage`: a pool in which one thread does what a schedule says
+//! - `laws`: the least that was handed in is the best
+#![tactic(auto)]
+
+mod combining;
+mod crew;
+mod gate;
+mod laws;
+mod root;
+mod span_search;
+mod stage;
+mod working;
+
+pub use combining::{Solved, combine};
+pub use crew::work_together;
+pub use gate::{Gate, Open, Point};
+pub use laws::least_handed_in_is_best;
+pub use root::{first_known, solved_by_nobody};
+pub use span_search::SpanSearch;
+pub use stage::replay_steps;
+pub use working::work;
