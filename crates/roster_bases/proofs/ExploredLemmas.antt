@@ -6,8 +6,8 @@ use Rattle.std.proofs.lemmas.List.Sorted.{All-permutation, IsPermutation-reverse
 use Rattle.roster_model.specs.Problem.{Problem}
 use Rattle.roster_model.specs.Rosters.{Key}
 use Rattle.roster_model.specs.Settled.{IsWithinCost}
-use Rattle.roster_regions.specs.Bounds.{CostsAtMost}
 use Rattle.roster_regions.specs.Regions.{IsIn, IsRegion, Region}
+use Rattle.roster_narrowing.specs.Bounds.{CostsAtMost}
 use Rattle.roster_search.specs.Open.{AreOpenOf, IsInSome}
 use Rattle.roster_search.proofs.OpenLemmas.{some_before, some_cases, some_either, some_last, some_left, some_right}
 use Rattle.roster_bases.specs.Explored.{AreDealt, IsExplored}

@@ -4,16 +4,14 @@ ghost use Rattle.std.specs.Prelude.{◌≡◌, ◌<◌, IfOk, IfSome, length};
 ghost use Rattle.roster_regions.specs.Prices.{ArePrices};
 ghost use Rattle.roster_regions.specs.Regions.{IsRegion};
 
-use crate::dual_prices::{DualPrices, scaled_penalty};
 use crate::look::{Look, WHOLE};
 use crate::near::NearLines;
 use crate::powers::{halved, logarithm};
-use crate::reading::number_at;
 use crate::rounding::rounded_among;
 use crate::scope::Scope;
 use crate::tuning::{DAMPING, GAP_DOUBLINGS, NEAR_COVER, NODE_PATIENCE, ROOT_PATIENCE};
 use roster_problem::Problem;
-use roster_regions::Region;
+use roster_regions::{DualPrices, Region, number_at, scaled_penalty};
 use std::alloc::{AllocError, Global};
 
 /// Prices, and the bound that they give.

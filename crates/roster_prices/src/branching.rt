@@ -3,13 +3,12 @@
 ghost use Rattle.std.specs.Prelude.{◌<◌, length};
 ghost use Rattle.roster_regions.specs.Regions.{IsRegion};
 
-use crate::dual_prices::DualPrices;
 use crate::look::{Look, WHOLE};
 use crate::person_lines::PersonLines;
 use crate::scope::Scope;
 use crate::tuning::{BEST_SHARE, PER_DOUBLING, PER_PERSON};
 use roster_problem::Problem;
-use roster_regions::Region;
+use roster_regions::{DualPrices, Region};
 use std::alloc::{AllocError, Global};
 
 /// A person and a pairing, and what weighs against settling whether that person has it.

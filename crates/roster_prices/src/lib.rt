@@ -4,9 +4,7 @@
 //! Bounds that are told are estimates. In reading order:
 //!
 //! - `tuning`: the numbers that decide how long a search takes
-//! - `reading`: lists read past their ends
 //! - `powers`: powers of two and logarithms
-//! - `dual_prices`: prices, and how they move
 //! - `person_lines`: the lines of a person, all or some
 //! - `scope`: what is left to decide in a region
 //! - `picking`: some of a person's lines, as a tree of their own
@@ -20,19 +18,16 @@
 
 mod ascent;
 mod branching;
-mod dual_prices;
 mod look;
 mod looking;
 mod near;
 mod person_lines;
 mod picking;
 mod powers;
-mod reading;
 mod rounding;
 mod scope;
 mod tuning;
 
 pub use ascent::Ascent;
 pub use branching::branch;
-pub use dual_prices::DualPrices;
 pub use rounding::rounded;

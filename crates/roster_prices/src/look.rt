@@ -3,16 +3,14 @@
 ghost use Rattle.std.specs.Prelude.{◌<◌, length};
 ghost use Rattle.roster_regions.specs.Regions.{IsRegion};
 
-use crate::dual_prices::DualPrices;
 use crate::near::NearLines;
 use crate::person_lines::{ChoiceList, PersonLines};
 use crate::picking::lines_within;
 use crate::powers::halved;
-use crate::reading::number_at;
 use crate::scope::Scope;
 use crate::tuning::{FEW_NEAR_LINES, MOST_CUTS, NEAR_PART, VALUES_A_SAMPLE};
 use roster_problem::Problem;
-use roster_regions::{Choice, Region};
+use roster_regions::{Choice, DualPrices, Region, number_at};
 use std::alloc::{AllocError, Global};
 
 /// One whole, of which covers are parts.

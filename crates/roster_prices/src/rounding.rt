@@ -3,14 +3,12 @@
 ghost use Rattle.std.specs.Prelude.{◌≡◌, ◌<◌, IfOk, IfSome, length};
 ghost use Rattle.roster_regions.specs.Regions.{IsRegion};
 
-use crate::dual_prices::scaled_penalty;
 use crate::look::value_of;
 use crate::near::NearLines;
 use crate::person_lines::{ChoiceList, PersonLines};
-use crate::reading::number_at;
 use crate::tuning::MOST_CHOOSING;
 use roster_problem::{Problem, open_number};
-use roster_regions::Region;
+use roster_regions::{Region, number_at, scaled_penalty};
 use std::alloc::{AllocError, Global};
 
 /// What a pairing earns that must not be open.

@@ -5,14 +5,7 @@ pub mod SumLemmas
 pub mod Write
 pub mod ListLemmas
 pub mod RegionLemmas
-pub mod Fine
 pub mod Copied
 pub mod Counted
 pub mod Tables
 pub mod Boxes
-pub mod Totals
-pub mod BoundLemmas
-pub mod Narrowing
-pub mod PropagationLemmas
-pub mod Fixing
-pub mod Decisions

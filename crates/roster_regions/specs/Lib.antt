@@ -7,8 +7,3 @@ pub mod Held
 pub mod Writing
 pub mod Prices
 pub mod Building
-pub mod Bounds
-pub mod Propagation
-pub mod Tightening
-pub mod Splits
-pub mod Inside

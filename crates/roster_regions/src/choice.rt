@@ -11,19 +11,7 @@ pub const MOST_PRICE: u64 = 1 << 42;
 
 /// What a line costs more than the empty one less the prices of its pairings, at most, in parts of a cost
 /// unit.
-pub(crate) const MOST_VALUE: u64 = 1 << 53;
-
-/// How far a cost lies from what it costs that nobody has a pairing, at most, in parts of a cost unit.
-pub(crate) const MOST_LIMIT: u64 = 1 << 61;
-
-/// What a pairing adds to a bound, at most, and below 0, in parts of a cost unit.
-pub(crate) const MOST_TERM: u64 = 1 << 44;
-
-/// A bound, at most, and below 0, in parts of a cost unit: persons add values, and pairings add terms.
-pub(crate) const MOST_BOUND: u64 = 1 << 61;
-
-/// What a cost leaves over above a bound, at most.
-pub(crate) const MOST_SLACK: u64 = MOST_LIMIT + MOST_BOUND;
+pub const MOST_VALUE: u64 = 1 << 53;
 
 /// A line of a person, by what it has behind the one before: its first pairings are as many of those of
 /// the choice before as its depth says, less one, and then comes its last.

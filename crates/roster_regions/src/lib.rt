@@ -14,34 +14,32 @@
 //! - `shared`: trees that several regions have
 //! - `region`: regions, and what makes them smaller
 //! - `build`: regions of the lines whose numbers are in ranges
-//! - `bound`: what the rosters of a region cost at least
-//! - `propagate`: what follows for the other persons from the lines of each
-//! - `tighten`: without what costs too much
-//! - `inside`: whether a roster is in a region
-//! - `deciding`: what is left to decide in a region, and the roster if nothing is
+//! - `reading`: lists read past their ends
+//! - `dual_prices`: dual prices of pairings, and how they move
 #![tactic(auto)]
 
 mod all_lines;
-mod bound;
 mod build;
 mod choice;
 mod choices;
-mod deciding;
-mod inside;
+mod dual_prices;
 mod marker;
 mod marking;
 mod parts;
 mod path;
-mod propagate;
+mod reading;
 mod region;
 mod rows;
 mod shared;
 mod sums;
-mod tighten;
 mod tree;
 mod writer;
 
-pub use choice::{Choice, MOST_EXTRA, MOST_PRICE, MOST_SCALE};
+pub use choice::{Choice, MOST_EXTRA, MOST_PRICE, MOST_SCALE, MOST_VALUE};
 pub use choices::Choices;
+pub use dual_prices::{DualPrices, scaled_penalty};
+pub use reading::number_at;
 pub use region::Region;
 pub use rows::Rows;
+pub use sums::price_of;
+pub use writer::{is_same, joined};

@@ -67,6 +67,13 @@ impl Region {
         self.idle
     }
 
+    /// How many persons there are.
+    pub fn persons(&self) -> usize
+        ensures { result ≡ length self.now.choices }
+    {
+        self.persons.len()
+    }
+
     /// The lines of person `k`, as a tree: each choice stands behind those that it goes on from.
     pub fn choices(&self, k: usize) -> Choices<'_>
         requires { k < length self.now.choices }
@@ -113,8 +120,22 @@ impl Region {
         self.flown.has(p)
     }
 
+    /// The pairings that must be open.
+    pub fn left_open(&self) -> &Set
+        ensures { result.now ≡ self.now.left_open }
+    {
+        &self.left_open
+    }
+
+    /// The pairings that must not be open.
+    pub fn flown(&self) -> &Set
+        ensures { result.now ≡ self.now.flown }
+    {
+        &self.flown
+    }
+
     /// The least value of person `k`'s lines at the prices, or less.
-    pub(crate) fn least(&self, k: usize, prices: &[i64]) -> i64
+    pub fn least(&self, k: usize, prices: &[i64]) -> i64
         requires person { k < length self.now.choices }
         requires prices { ArePrices prices.now }
         ensures least { All (λ line. result ≤ℤ value_of prices.now line) (lines_of self.now k) }
@@ -124,7 +145,7 @@ impl Region {
     }
 
     /// Whether one of person `k`'s lines has just the pairings of the set.
-    pub(crate) fn offers(&self, alloc: Global, k: usize, set: &Set) -> Result<bool, AllocError>
+    pub fn offers(&self, alloc: Global, k: usize, set: &Set) -> Result<bool, AllocError>
         requires { k < length self.now.choices }
         ensures { IfOk result (λ has. MatchBool has (Offers (lines_of self.now k) set.now)
             (All (λ line. ¬ HasJust set.now line) (lines_of self.now k))) }
@@ -133,7 +154,7 @@ impl Region {
     }
 
     /// The greatest value of person `k`'s lines at the prices; what asks for it counts on nothing.
-    pub(crate) fn greatest(&self, k: usize, prices: &[i64]) -> i64
+    pub fn greatest(&self, k: usize, prices: &[i64]) -> i64
         requires person { k < length self.now.choices }
         requires prices { ArePrices prices.now }
     {
@@ -187,7 +208,7 @@ impl Region {
     }
 
     /// Keeps those of person `k`'s lines whose value at the prices is at most so much.
-    pub(crate) fn keep_within(
+    pub fn keep_within(
         &mut self,
         alloc: Global,
         k: usize,

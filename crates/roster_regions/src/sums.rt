@@ -19,8 +19,8 @@ pub(crate) struct Sums {
     pub(crate) length: usize,
 }
 
-/// The price of the pairing at place `p`, or 0 past the last.
-pub(crate) fn price_of(prices: &[i64], p: usize) -> i64
+/// The price of the pairing at place `p` in parts of a cost unit, or 0 past the last.
+pub fn price_of(prices: &[i64], p: usize) -> i64
     requires { ArePrices prices.now }
     ensures value { result ≡ price_at prices.now p }
     ensures bound { IsWithin MOST_PRICE result }

@@ -129,7 +129,7 @@ impl Writer {
 }
 
 /// The pairings that are in one of two sets.
-pub(crate) fn joined(set: &Set, other: &Set) -> Set
+pub fn joined(set: &Set, other: &Set) -> Set
     ensures { (p : ℕ) → is_among result p ≡ (is_among set.now p || is_among other.now p) }
 {
     if set.and(other) == *other {
@@ -145,7 +145,7 @@ pub(crate) fn joined(set: &Set, other: &Set) -> Set
 }
 
 /// Whether both have the same pairings.
-pub(crate) fn is_same(set: &Set, other: &Set) -> bool
+pub fn is_same(set: &Set, other: &Set) -> bool
     ensures { IsTrue result ↔ ((p : ℕ) → is_among set.now p ≡ is_among other.now p) }
 {
     let _ascending = (set.has(0), other.has(0));

@@ -13,7 +13,7 @@ use Rattle.roster_model.proofs.KeyLemmas.{key_le-refl}
 use Rattle.roster_search.specs.Least.{IsCheapestBelow, IsLeastBelow}
 use Rattle.roster_search.proofs.Keys.{by_cost, no_dearer}
 use Rattle.roster_regions.specs.Regions.{Has, HasNot, IsIn, IsNarrowed, Region}
-use Rattle.roster_regions.specs.Bounds.{CostsAtMost, IsAllAbove}
+use Rattle.roster_narrowing.specs.Bounds.{CostsAtMost, IsAllAbove}
 
 -- what a test says where its answer is known
 pub says_yes : (b : Bool) (Yes No : Type 0) → MatchBool b Yes No → b ≡ true → Yes

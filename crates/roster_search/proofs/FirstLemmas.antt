@@ -11,8 +11,8 @@ use Rattle.roster_model.specs.Rosters.{Key, key_le, key_of}
 use Rattle.roster_model.specs.Settled.{CostsMore, IsHeld, IsWithinCost, Settles}
 use Rattle.roster_search.proofs.Keys.{by_cost, by_places}
 use Rattle.roster_model.proofs.PlacesOrder.{places_le-refl, places_le-trans}
-use Rattle.roster_regions.specs.Propagation.{IsEmpty}
 use Rattle.roster_regions.specs.Regions.{Has, IsIn, IsNarrowed, IsRegion, IsWhollyIn, Region}
+use Rattle.roster_narrowing.specs.Propagation.{IsEmpty}
 use Rattle.roster_search.specs.Firsts.{AgreeBefore, GoesOn, IsSettledAt}
 use Rattle.roster_search.specs.Least.{CostsAtLeast}
 use Rattle.roster_search.proofs.Fronts.{before_by_number, same_number_more}

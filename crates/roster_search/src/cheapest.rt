@@ -6,9 +6,8 @@ ghost use Rattle.roster_search.specs.Least.{CostsAtLeast, IsCheapestBelow};
 
 use crate::finder::Finder;
 use crate::tuning::STEP_GROWTH;
-use roster_prices::DualPrices;
 use roster_problem::Problem;
-use roster_regions::Region;
+use roster_regions::{DualPrices, Region};
 use roster_values::Roster;
 use std::alloc::{AllocError, Global};
 

@@ -7,9 +7,8 @@ ghost use Rattle.roster_regions.specs.Regions.{IsIn, IsRegion};
 use crate::finding::find;
 use crate::nodes::Nodes;
 use crate::visiting::OpenNode;
-use roster_prices::DualPrices;
 use roster_problem::Problem;
-use roster_regions::Region;
+use roster_regions::{DualPrices, Region};
 use roster_values::Roster;
 use std::alloc::{AllocError, Global};
 

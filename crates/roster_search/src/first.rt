@@ -3,15 +3,14 @@
 ghost use Rattle.std.specs.Prelude.{◌≡◌, ◌<◌, ◌≤◌, false, true, IfOk, OnOk, Some, length, unwrap_or};
 ghost use Rattle.roster_model.specs.Places.{open_number as nobody};
 ghost use Rattle.roster_model.specs.Settled.{IsFoundWithin, IsHeld, Settles};
-ghost use Rattle.roster_regions.specs.Propagation.{IsEmpty};
 ghost use Rattle.roster_regions.specs.Regions.{Has, HasNot, IsIn, IsNarrowed, IsRegion, IsWhollyIn};
+ghost use Rattle.roster_narrowing.specs.Propagation.{IsEmpty};
 ghost use Rattle.roster_search.specs.Firsts.{AgreeBefore, IsSettledAt};
 ghost use Rattle.roster_search.specs.Least.{CostsAtLeast};
 
 use crate::finder::Finder;
-use roster_prices::DualPrices;
 use roster_problem::{Problem, open_number};
-use roster_regions::Region;
+use roster_regions::{DualPrices, Region};
 use roster_values::Roster;
 use std::alloc::{AllocError, Global};
 

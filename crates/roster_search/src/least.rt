@@ -13,9 +13,9 @@ use crate::first::first;
 use crate::refining::roster_in;
 use crate::root::RootPrices;
 use roster_cost::{cost_without_pairings, lines_are_near, shares_add_up};
-use roster_prices::DualPrices;
+use roster_narrowing::tighten;
 use roster_problem::Problem;
-use roster_regions::Region;
+use roster_regions::{DualPrices, Region};
 use roster_values::Roster;
 use std::alloc::{AllocError, Global};
 
@@ -136,7 +136,7 @@ pub(crate) fn first_of_all<F: Finder>(
         (IsIn problem.now region.old) (Some roster.old) roster.new) }
     ensures goes_on { F.goes_on finder.old finder.new }
 {
-    if !region.tighten(alloc, problem, prices.prices(), roster.cost)? {
+    if !tighten(alloc, problem, region, prices.prices(), roster.cost)? {
         return Ok(());
     }
     first(alloc, problem, region, roster, prices, finder)

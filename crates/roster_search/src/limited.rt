@@ -11,9 +11,8 @@ use crate::root::root_prices;
 use crate::stack::{MOST_NODES, lines_of_last, visit_last};
 use crate::visiting::OpenNode;
 use roster_linetable::Table;
-use roster_prices::DualPrices;
 use roster_problem::Problem;
-use roster_regions::Region;
+use roster_regions::{DualPrices, Region};
 use roster_values::Roster;
 use std::alloc::{AllocError, Global};
 

@@ -9,9 +9,8 @@ use crate::finder::Finder;
 use crate::least::least;
 use crate::root::{RootPrices, root_prices};
 use roster_linetable::Table;
-use roster_prices::DualPrices;
 use roster_problem::{Problem, open_number};
-use roster_regions::Region;
+use roster_regions::{DualPrices, Region};
 use roster_values::Roster;
 use std::alloc::{AllocError, Global};
 

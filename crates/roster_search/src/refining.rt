@@ -2,17 +2,18 @@
 
 ghost use Rattle.std.specs.Prelude.{◌<◌, IfOk, IfSome, MatchOption, length};
 ghost use Rattle.roster_model.specs.Settled.{IsHeld, IsWithinCost};
-ghost use Rattle.roster_regions.specs.Bounds.{CostsAtMost};
 ghost use Rattle.roster_regions.specs.Prices.{ArePrices};
 ghost use Rattle.roster_regions.specs.Regions.{IsDecided, IsIn, IsNarrowed, IsRegion, IsSplit};
+ghost use Rattle.roster_narrowing.specs.Bounds.{CostsAtMost};
 ghost use Rattle.roster_search.specs.Refined.{IsFixed, IsRefined};
 
 use crate::root::room;
 use crate::tuning::{FIRST_ROUNDING, MANY_LINES, NODE_STEPS};
 use roster_cost::roster_cost;
-use roster_prices::{Ascent, DualPrices, branch, rounded};
+use roster_narrowing::{is_in, is_split, pick, tighten};
+use roster_prices::{Ascent, branch, rounded};
 use roster_problem::Problem;
-use roster_regions::Region;
+use roster_regions::{DualPrices, Region};
 use roster_values::{Places, Roster};
 use std::alloc::{AllocError, Global};
 
@@ -73,7 +74,7 @@ fn end_or_part(
         soften(ascent, room, step);
         ascent.step(problem, region)?;
     }
-    if !region.tighten(alloc, problem, ascent.best(), most)? {
+    if !tighten(alloc, problem, region, ascent.best(), most)? {
         return Ok(Some(Refined::Nothing));
     }
     Ok(None)
@@ -130,7 +131,7 @@ fn fix_by_prices(
     requires { IsRegion problem.now region.old }
     ensures { IfOk result (IsFixed problem.now most region.old region.new) }
 {
-    if !region.tighten(alloc, problem, ascent.prices(), most)? {
+    if !tighten(alloc, problem, region, ascent.prices(), most)? {
         return Ok(false);
     }
     ascent.renew(problem, region)?;
@@ -223,7 +224,7 @@ pub(crate) fn roster_in(
         (λ roster. IsIn problem.now region.now roster.places)) }
 {
     let places = Places::new(places);
-    if !region.is_in(alloc, problem, places.as_slice())? {
+    if !is_in(alloc, problem, region, places.as_slice())? {
         return Ok(None);
     }
     let cost = roster_cost(problem, places.as_slice());
@@ -244,9 +245,9 @@ pub(crate) fn next_split(
 {
     let (k, p) = branch(alloc, problem, region, prices)?;
     if k < problem.persons().len() && p < problem.pairings().len() {
-        if region.is_split(k, p) {
+        if is_split(region, k, p) {
             return Ok(Some((k, p)));
         }
     }
-    Ok(region.pick(problem))
+    Ok(pick(problem, region))
 }

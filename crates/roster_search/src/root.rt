@@ -5,9 +5,10 @@ ghost use Rattle.roster_regions.specs.Regions.{IsRegion};
 
 use crate::tuning::{FEW_LINES_TO_FIX, LAST_ROOT_STEP, ROOT_STEPS, STEPS_A_ROUNDING};
 use roster_cost::roster_cost;
-use roster_prices::{Ascent, DualPrices};
+use roster_narrowing::tighten;
+use roster_prices::Ascent;
 use roster_problem::Problem;
-use roster_regions::Region;
+use roster_regions::{DualPrices, Region};
 use std::alloc::{AllocError, Global};
 use std::thread::Threads;
 
@@ -197,10 +198,13 @@ impl Rise {
         if !is_worth || self.ascent.is_decided() || self.ascent.lines() > FEW_LINES_TO_FIX {
             return Ok(true);
         }
-        if !self
-            .part
-            .tighten(alloc, problem, self.ascent.prices(), self.most)?
-        {
+        if !tighten(
+            alloc,
+            problem,
+            &mut self.part,
+            self.ascent.prices(),
+            self.most,
+        )? {
             return Ok(false);
         }
         self.ascent.renew(problem, &self.part)?;

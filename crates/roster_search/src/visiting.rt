@@ -7,9 +7,8 @@ ghost use Rattle.roster_search.specs.Open.{IsVisited};
 
 use crate::refining::{Refined, next_split, refine};
 use roster_cost::roster_cost;
-use roster_prices::DualPrices;
 use roster_problem::Problem;
-use roster_regions::Region;
+use roster_regions::{DualPrices, Region};
 use roster_values::{Places, Roster};
 use std::alloc::{AllocError, Global};
 use std::marker::Model;
@@ -114,7 +113,7 @@ fn only(
     requires decided { IsDecided region.now }
     ensures { IfOk result (IsFoundWithin problem.now (IsIn problem.now region.now) most) }
 {
-    let Some(places) = region.only(alloc, problem)? else {
+    let Some(places) = roster_narrowing::only(alloc, problem, region)? else {
         return Ok(None);
     };
     let cost = roster_cost(problem, &places);

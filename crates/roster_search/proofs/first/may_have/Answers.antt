@@ -1,5 +1,5 @@
 use Rattle.std.proofs.Common.{sym, ◌∙◌}
-use Rattle.roster_regions.proofs.PropagationLemmas.{lacks_has}
+use Rattle.roster_narrowing.proofs.PropagationLemmas.{lacks_has}
 use Rattle.roster_search.proofs.first.may_have.Goals as goal
 
 pub returns : goal.returns

@@ -2,8 +2,8 @@ use Rattle.std.proofs.Common.{rules, ◌≡◌, w64, FitsSigned, to_z, of_z, sub
 use Rattle.std.proofs.lemmas.Int.{to_z-of_z}
 use Rattle.std.proofs.lemmas.Result.{on_ok_weaker}
 use Rattle.roster_model.specs.Rosters.{Key}
-use Rattle.roster_regions.specs.Bounds.{CostsAtMost, IsAllAbove}
 use Rattle.roster_regions.specs.Regions.{IsNarrowed}
+use Rattle.roster_narrowing.specs.Bounds.{CostsAtMost, IsAllAbove}
 use Rattle.roster_search.proofs.FindLemmas.{says_no, says_yes, settled_below, settled_in_whole}
 use Rattle.roster_search.proofs.least.first_of_all.Goals as goal
 
@@ -32,6 +32,6 @@ returns-clause-settled g c =
     to_z-of_z w64 c.roster.inside.cost fits ∙ ap (λ (k : Key). k.cost) c.roster.view_is in
     let part = says_yes _ _ _ c.in_ok-tighten.ensures c.if-not-branch.false in
     on_ok_weaker c.first.result
-    (settled_in_whole problem c.args.region.now c.tighten.new.self key c.first.new.roster
-    (subst (λ most. IsNarrowed problem (CostsAtMost problem most) c.args.region.now c.tighten.new.self) cost part))
+    (settled_in_whole problem c.args.region.now c.tighten.new.region key c.first.new.roster
+    (subst (λ most. IsNarrowed problem (CostsAtMost problem most) c.args.region.now c.tighten.new.region) cost part))
     c.first.ensures.settled

@@ -2,9 +2,9 @@ use Rattle.std.proofs.Common.{w64, ℤ, Option, IfSome, to_z, of_z, subst}
 use Rattle.std.proofs.lemmas.Int.{to_z-of_z}
 use Rattle.roster_model.specs.Rosters.{Key}
 use Rattle.roster_model.specs.Settled.{IsWithinCost}
-use Rattle.roster_regions.specs.Bounds.{CostsAtMost, IsAllAbove}
 use Rattle.roster_regions.specs.Regions.{IsIn, IsNarrowed}
-use Rattle.roster_regions.proofs.Narrowing.{narrowed_then}
+use Rattle.roster_narrowing.specs.Bounds.{CostsAtMost, IsAllAbove}
+use Rattle.roster_narrowing.proofs.Narrowing.{narrowed_then}
 use Rattle.roster_search.proofs.FindLemmas.{above_part, says_no, says_yes, within_part}
 use Rattle.roster_search.proofs.refining.end_or_part.Goals as goal
 
@@ -55,6 +55,6 @@ returns c =
     let problem = c.args.problem.now in
     let most : ℤ = to_z w64 (of_z w64 c.args.most) in
     let fixed = says_yes _ _ _ c.in_ok-tighten.ensures c.if-not-branch-3.false in
-    let left = narrowed_then problem (CostsAtMost problem most) c.args.region.now c.loop-step.region c.tighten.new.self c.loop-step.invariant fixed in
-    subst (λ most. IsNarrowed problem (CostsAtMost problem most) c.args.region.now c.tighten.new.self)
+    let left = narrowed_then problem (CostsAtMost problem most) c.args.region.now c.loop-step.region c.tighten.new.region c.loop-step.invariant fixed in
+    subst (λ most. IsNarrowed problem (CostsAtMost problem most) c.args.region.now c.tighten.new.region)
     (to_z-of_z w64 c.args.most c.ranges.most) left

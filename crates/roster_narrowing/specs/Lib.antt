@@ -1,0 +1,5 @@
+pub mod Bounds
+pub mod Propagation
+pub mod Tightening
+pub mod Splits
+pub mod Inside

@@ -1,7 +1,0 @@
-//! Reading a list at a place that may be past its end.
-
-/// The number at place `i`, or 0 past the end.
-#[inline]
-pub(crate) fn number_at(numbers: &[i64], i: usize) -> i64 {
-    if i < numbers.len() { numbers[i] } else { 0 }
-}
