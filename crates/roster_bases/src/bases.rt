@@ -1,14 +1,15 @@
 //! The least roster of all lines, each base by itself.
 
 ghost use Rattle.std.specs.Prelude.{◌<◌, IfOk, Some, unwrap_or};
+ghost use Rattle.roster_least.specs.Least.{IsBefore};
 ghost use Rattle.roster_linetable.specs.Person.{IsTableOf};
 ghost use Rattle.roster_model.specs.Settled.{Anywhere, IsHeld, Settles};
-ghost use Rattle.roster_search.specs.Least.{IsBefore};
 
 use crate::shared::parts_by_threads;
+use roster_least::whole;
 use roster_linetable::{Table, all_lines_are_some};
 use roster_problem::Problem;
-use roster_search::{Unseen, least_with, whole};
+use roster_search::{Unseen, least_with};
 use roster_values::Roster;
 use std::alloc::{AllocError, Global};
 use std::thread::Threads;

@@ -8,9 +8,10 @@ ghost use Rattle.roster_regions.specs.Regions.{IsIn, IsRegion};
 ghost use Rattle.roster_search.specs.Open.{IsInSome};
 
 use crate::exploring::{Explored, Round, explore_by_threads};
+use roster_least::Finder;
 use roster_problem::Problem;
 use roster_regions::{DualPrices, Region};
-use roster_search::{Finder, OpenNode, Unseen, find};
+use roster_search::{OpenNode, Unseen, find};
 use roster_values::Roster;
 use std::alloc::{AllocError, Global};
 use std::sync::atomic::{AtomicUsize, Ordering};

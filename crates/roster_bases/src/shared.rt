@@ -2,16 +2,17 @@
 
 ghost use Rattle.std.specs.Prelude.{◌≡◌, ◌<◌, ◌^◌, ◌-◌, ◌==◌, All, IfOk, length, pos};
 ghost use Rattle.std.specs.Thread.{IsSync};
+ghost use Rattle.roster_least.specs.Least.{IsLeastBelow};
+ghost use Rattle.roster_least.specs.Parts.{AreBaseParts, IsInPart};
 ghost use Rattle.roster_linetable.specs.Person.{AreListed};
-ghost use Rattle.roster_search.specs.Least.{IsLeastBelow};
-ghost use Rattle.roster_search.specs.Parts.{AreBaseParts, IsInPart};
 
 use crate::crew::Crew;
+use roster_least::{Part, least_in, region_of_base};
 use roster_linetable::Table;
 use roster_model::limits::MOST_BASES;
 use roster_problem::Problem;
 use roster_regions::DualPrices;
-use roster_search::{Part, least_in, region_of_base, root_prices_by_threads};
+use roster_search::root_prices_by_threads;
 use roster_values::Roster;
 use std::alloc::{AllocError, Global};
 use std::sync::atomic::{AtomicUsize, Ordering};

@@ -14,6 +14,7 @@ use crate::watch::{Watch, earlier_if};
 use roster_bounds::Tables;
 use roster_cost::Key;
 use roster_incumbent::Sight;
+use roster_least::Finder;
 use roster_linetable::{Table, all_lines_are_some};
 use roster_problem::Problem;
 use roster_search::{Nodes, least_of_box};
@@ -129,24 +130,25 @@ fn is_settled(
 
 /// A roster of the span that comes before the given one and isn't after any of the span; or none, and then
 /// the given one isn't after any of it.
-fn least_in<N: Nodes>(
+fn least_in<F: Finder>(
     alloc: Global,
     problem: &Problem,
     table: &Table,
     span: &Span,
     best: &Roster,
-    nodes: &mut N,
+    finder: &mut F,
 ) -> Result<Option<Roster>, AllocError>
+    requires finder { F.may_find }
     requires table { IsTableOf problem.now table.now }
     requires person { length span.now.path < length problem.now.persons }
     requires path { AreLineNumbers table.now span.now.path }
     requires best { IsHeld problem.now best.now }
     ensures settled { IfOk result (λ found. Settles problem.now (IsInSpan table.now span.now)
         (IsInSpan table.now span.now) (Some best.now) (unwrap_or found best.now)) }
-    ensures goes_on { N.goes_on nodes.old nodes.new }
+    ensures goes_on { F.goes_on finder.old finder.new }
 {
     all_lines_are_some();
     let ranges = ranges_of(alloc, problem, table, span)?;
-    let found = least_of_box(alloc, problem, table, &ranges, best, nodes)?;
+    let found = least_of_box(alloc, problem, table, &ranges, best, finder)?;
     Ok(found)
 }

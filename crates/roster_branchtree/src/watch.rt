@@ -9,9 +9,11 @@ ghost use Rattle.roster_incumbent.specs.Kept.{IsEarlierOf};
 
 use roster_cost::{comes_before, keys_are_in_order};
 use roster_incumbent::{Sight, is_held};
+use roster_least::Finder;
 use roster_linetable::Table;
 use roster_problem::Problem;
-use roster_search::Nodes;
+use roster_regions::{DualPrices, Region};
+use roster_search::{Nodes, OpenNode, find};
 use roster_values::Roster;
 use std::alloc::{AllocError, Global};
 use std::marker::Model;
@@ -111,6 +113,31 @@ impl<'a, S: Sight> Nodes for Watch<'a, S> {
                 self.best = shown;
             }
         }
+    }
+
+    ghost stays = { keeps_nothing };
+
+    ghost follows = { keeps_then };
+}
+
+impl<'a, S: Sight> Finder for Watch<'a, S> {
+    ghost use Rattle.roster_branchtree.specs.Shown.{KeepsWatch};
+    ghost use Rattle.roster_branchtree.specs.Watching.{keeps_nothing, keeps_then};
+
+    ghost may_find = { Unit };
+
+    ghost goes_on = { KeepsWatch };
+
+    fn find(
+        &mut self,
+        alloc: Global,
+        problem: &Problem,
+        region: Region,
+        prices: &DualPrices,
+        most: i64,
+    ) -> Result<Option<Roster>, AllocError> {
+        let node = OpenNode::new(region, prices.copy(alloc)?);
+        find(alloc, problem, node, most, self)
     }
 
     ghost stays = { keeps_nothing };

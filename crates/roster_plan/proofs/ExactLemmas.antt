@@ -9,9 +9,9 @@ use Rattle.roster_model.proofs.SettledLemmas.{held-key}
 use Rattle.roster_linetable.specs.Entries.{Entry}
 use Rattle.roster_linetable.specs.Person.{IsOfTable}
 use Rattle.roster_pricing.specs.Homes.{EachHomeRoster, IsHome, IsHomeBound}
-use Rattle.roster_search.specs.Least.{CostsAtLeast, IsLeast}
-use Rattle.roster_search.proofs.FindLemmas.{cost_cases}
-use Rattle.roster_search.proofs.Keys.{by_cost, no_dearer}
+use Rattle.roster_least.specs.Least.{CostsAtLeast, IsLeast}
+use Rattle.roster_least.proofs.FindLemmas.{cost_cases}
+use Rattle.roster_least.proofs.Keys.{by_cost, no_dearer}
 
 -- each roster of the base that costs at most so much has lines of the table
 abbrev pub HasAllWithin : Problem → ℕ → List (List Entry) → ℤ → Type 0

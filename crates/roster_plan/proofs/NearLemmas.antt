@@ -15,7 +15,7 @@ use Rattle.roster_lines.specs.declared.wanted.Between.{Between}
 use Rattle.roster_lines.specs.Between.{IsBetween}
 use Rattle.roster_lines.specs.WantedTables.{AreAllWanted}
 use Rattle.roster_pricing.specs.Homes.{IsHome}
-use Rattle.roster_search.specs.Parts.{base_of_person}
+use Rattle.roster_least.specs.Parts.{base_of_person}
 use Rattle.roster_plan.specs.Near.{HasAllNear, IsNear}
 use Rattle.roster_plan.proofs.PartLemmas.{of_home}
 

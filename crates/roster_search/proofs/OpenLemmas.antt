@@ -11,7 +11,7 @@ use Rattle.roster_model.specs.Settled.{CostsMore, IsFoundWithin, IsWithinCost}
 use Rattle.roster_regions.specs.Regions.{size_of, Has, HasNot, IsIn, IsNarrowed, IsRegion, Region}
 use Rattle.roster_narrowing.specs.Bounds.{CostsAtMost}
 use Rattle.roster_search.specs.Open.{AreOpenOf, IsInSome, IsParted}
-use Rattle.roster_search.proofs.FindLemmas.{cost_cases, has_cases}
+use Rattle.roster_least.proofs.FindLemmas.{cost_cases, has_cases}
 
 -- ---- which region the places are in
 

@@ -5,7 +5,7 @@ use Rattle.roster_linetable.specs.Entries.{Entry}
 use Rattle.roster_linetable.specs.Person.{IsOfTable}
 use Rattle.roster_search.specs.declared.limited.Searched.{Searched}
 use Rattle.roster_search.specs.declared.limited.Searched.TheVariants.{Settled, GivenUp}
-use Rattle.roster_search.specs.Least.{IsLeastBelow}
+use Rattle.roster_least.specs.Least.{IsLeastBelow}
 
 -- the least roster of the table if it costs less than the limit, or none, and then every one costs at least that
 abbrev pub IsSearched : Problem → List (List Entry) → ℤ → Searched → Type 0

@@ -1,23 +1,20 @@
 //! The least roster of a box.
 
-ghost use Rattle.std.specs.Prelude.{◌≡◌, ◌+◌, false, true, not};
-ghost use Rattle.std.specs.Prelude.{IfOk, MatchOption, Some, length, unwrap_or};
+ghost use Rattle.std.specs.Prelude.{◌≡◌, ◌+◌, IfOk, MatchOption, Some, length, unwrap_or};
+ghost use Rattle.roster_least.specs.Least.{IsBefore, IsLeast};
+ghost use Rattle.roster_least.specs.Parts.{before, AreBaseParts, IsInPart, IsWithoutPart};
 ghost use Rattle.roster_linetable.specs.Person.{AreListed};
-ghost use Rattle.roster_model.specs.Rosters.{key_le, key_of};
+ghost use Rattle.roster_model.specs.Rosters.{key_of};
 ghost use Rattle.roster_model.specs.Settled.{IsHeld, Settles};
 ghost use Rattle.roster_regions.specs.Regions.{IsInRanges};
-ghost use Rattle.roster_search.specs.Least.{IsBefore, IsLeast};
-ghost use Rattle.roster_search.specs.Parts.{before, AreBaseParts, AreWhole, IsInPart, IsWithoutPart};
 
-use crate::finder::Finder;
-use crate::least::costs_fit;
-use crate::nodes::Nodes;
-use crate::parts::{Part, all_open, least_at, merged};
-use roster_cost::{Key, order_of_keys, roster_cost, shares_add_up};
+use crate::parts::least_at;
+use roster_cost::shares_add_up;
+use roster_least::{Finder, Part, all_open, costs_fit, if_before, merged};
 use roster_linetable::Table;
 use roster_model::limits::MOST_BASES;
 use roster_problem::Problem;
-use roster_values::{Places, Roster};
+use roster_values::Roster;
 use std::alloc::{AllocError, Global};
 
 /// The least roster of the box, with its cost, if its key is before that of the known roster. The box has
@@ -26,14 +23,15 @@ use std::alloc::{AllocError, Global};
 ///
 /// No line has another base's pairing, so each base is searched apart, and the answers are merged. Two
 /// problems that share nothing take as long as one after the other.
-pub fn least_of_box<N: Nodes>(
+pub fn least_of_box<F: Finder>(
     alloc: Global,
     problem: &Problem,
     table: &Table,
     ranges: &[(usize, usize)],
     known: &Roster,
-    nodes: &mut N,
+    finder: &mut F,
 ) -> Result<Option<Roster>, AllocError>
+    requires finder { F.may_find }
     requires table { AreListed problem.now table.now }
     requires ranges { length ranges.now ≡ length table.now }
     requires known { IsHeld problem.now known.now }
@@ -41,25 +39,9 @@ pub fn least_of_box<N: Nodes>(
         (IsInRanges table.now ranges.now) (IsInRanges table.now ranges.now)
         (Some known.now) (unwrap_or found known.now)) }
     ensures before { IfOk result (IsBefore known.now) }
-    ensures goes_on { N.goes_on nodes.old nodes.new }
+    ensures goes_on { F.goes_on finder.old finder.new }
 {
-    least_with(alloc, problem, table, ranges, &[], known, nodes)
-}
-
-/// The range of all lines, for each person.
-pub fn whole(
-    alloc: Global,
-    problem: &Problem,
-    table: &Table,
-) -> Result<Vec<(usize, usize)>, AllocError>
-    requires { AreListed problem.now table.now }
-    ensures { IfOk result (λ ranges. AreWhole table.now (length table.now) ranges.items) }
-{
-    let mut ranges = Vec::new(alloc);
-    for k in 0..problem.persons().len() {
-        ranges.push((0, table.width(k)))?;
-    }
-    Ok(ranges)
+    least_with(alloc, problem, table, ranges, &[], known, finder)
 }
 
 /// `least_of_box`, if the least rosters of some bases are known, which aren't searched again.
@@ -151,30 +133,4 @@ fn with_base<F: Finder>(
         Some(part) => Ok(Some(merged(alloc, problem, base, &part, &places)?)),
         None => Ok(None),
     }
-}
-
-/// The roster with these places, if its key is before that of the known one.
-fn if_before(problem: &Problem, known: &Roster, places: Vec<u16>) -> Option<Roster>
-    requires { length places.items ≡ length problem.now.pairings }
-    ensures earlier { MatchOption result (key_le known.now (key_of problem.now places.items) ≡ true)
-        (λ roster. (roster ≡ key_of problem.now places.items)
-        × (key_le known.now roster ≡ false)) }
-    ensures before { IsBefore known.now result }
-{
-    let cost = roster_cost(problem, &places);
-    if !comes_after(known, cost, &places) {
-        return None;
-    }
-    Some(Roster {
-        places: Places::new(places),
-        cost,
-    })
-}
-
-/// Whether the roster's key is after that of the one with this cost and these places.
-fn comes_after(roster: &Roster, cost: i64, places: &[u16]) -> bool
-    ensures { result ≡ not (key_le roster.now (record { cost = cost; places = places.now })) }
-{
-    order_of_keys();
-    Key { cost, places } < Key::of(roster)
 }

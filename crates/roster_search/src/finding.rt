@@ -4,9 +4,11 @@ ghost use Rattle.std.specs.Prelude.{IfOk};
 ghost use Rattle.roster_model.specs.Settled.{IsFoundWithin};
 ghost use Rattle.roster_regions.specs.Regions.{IsIn, IsRegion};
 
-use crate::nodes::Nodes;
+use crate::nodes::{Nodes, Unseen};
 use crate::visiting::{OpenNode, Visited, visit};
+use roster_least::Finder;
 use roster_problem::Problem;
+use roster_regions::{DualPrices, Region};
 use roster_values::Roster;
 use std::alloc::{AllocError, Global};
 
@@ -35,4 +37,26 @@ pub fn find<N: Nodes>(
             find(alloc, problem, others, most, nodes)
         }
     }
+}
+
+impl Finder for Unseen {
+    ghost may_find = { Unit };
+
+    ghost goes_on = { λ old new. Unit };
+
+    fn find(
+        &mut self,
+        alloc: Global,
+        problem: &Problem,
+        region: Region,
+        prices: &DualPrices,
+        most: i64,
+    ) -> Result<Option<Roster>, AllocError> {
+        let node = OpenNode::new(region, prices.copy(alloc)?);
+        find(alloc, problem, node, most, self)
+    }
+
+    ghost stays = { λ now. tt };
+
+    ghost follows = { λ old mid new first then. tt };
 }

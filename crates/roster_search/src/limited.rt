@@ -4,12 +4,10 @@ ghost use Rattle.std.specs.Prelude.{IfOk};
 ghost use Rattle.roster_linetable.specs.Person.{AreListed};
 ghost use Rattle.roster_search.specs.Limited.{IsSearched};
 
-use crate::boxes::whole;
-use crate::finder::Finder;
-use crate::least::least;
 use crate::root::root_prices;
 use crate::stack::{MOST_NODES, lines_of_last, visit_last};
 use crate::visiting::OpenNode;
+use roster_least::{Finder, least_of_region, whole};
 use roster_linetable::Table;
 use roster_problem::Problem;
 use roster_regions::{DualPrices, Region};
@@ -48,7 +46,7 @@ pub fn least_within(
     let first = DualPrices::of_parts(alloc, problem, &region, prices, parts)?;
     let root = root_prices(alloc, problem, &region, &first, limit)?;
     let mut patience = Patience::new(work);
-    let found = least(alloc, problem, region, root, limit, &mut patience);
+    let found = least_of_region(alloc, problem, region, root, limit, &mut patience);
     match found {
         Ok(found) => Ok(Searched::Settled(found)),
         Err(_) if patience.is_over => Ok(Searched::GivenUp),

@@ -9,12 +9,12 @@ ghost use Rattle.roster_search.specs.Refined.{IsFixed, IsRefined};
 
 use crate::root::room;
 use crate::tuning::{FIRST_ROUNDING, MANY_LINES, NODE_STEPS};
-use roster_cost::roster_cost;
-use roster_narrowing::{is_in, is_split, pick, tighten};
+use roster_least::roster_in;
+use roster_narrowing::{is_split, pick, tighten};
 use roster_prices::{Ascent, branch, rounded};
 use roster_problem::Problem;
 use roster_regions::{DualPrices, Region};
-use roster_values::{Places, Roster};
+use roster_values::Roster;
 use std::alloc::{AllocError, Global};
 
 /// What is known of a region after its prices have risen.
@@ -209,26 +209,6 @@ fn rounded_in(
         return Ok(None);
     };
     roster_in(alloc, problem, region, places)
-}
-
-/// The roster of these places, with its cost, if it is one of the region.
-pub(crate) fn roster_in(
-    alloc: Global,
-    problem: &Problem,
-    region: &Region,
-    places: Vec<u16>,
-) -> Result<Option<Roster>, AllocError>
-    requires { IsRegion problem.now region.now }
-    ensures held { IfOk result (λ roster. IfSome roster (IsHeld problem.now)) }
-    ensures inside { IfOk result (λ roster. IfSome roster
-        (λ roster. IsIn problem.now region.now roster.places)) }
-{
-    let places = Places::new(places);
-    if !is_in(alloc, problem, region, places.as_slice())? {
-        return Ok(None);
-    }
-    let cost = roster_cost(problem, places.as_slice());
-    Ok(Some(Roster { places, cost }))
 }
 
 /// The person and the pairing to settle next, if all isn't decided.

@@ -5,21 +5,13 @@ ghost use Rattle.roster_regions.specs.Regions.{IsRegion};
 
 use crate::tuning::{FEW_LINES_TO_FIX, LAST_ROOT_STEP, ROOT_STEPS, STEPS_A_ROUNDING};
 use roster_cost::roster_cost;
+use roster_least::RootPrices;
 use roster_narrowing::tighten;
 use roster_prices::Ascent;
 use roster_problem::Problem;
 use roster_regions::{DualPrices, Region};
 use std::alloc::{AllocError, Global};
 use std::thread::Threads;
-
-/// Good prices for a region, what its least roster likely costs, and the places of the cheapest one that was
-/// rounded. Nothing rests on any of them.
-#[derive(Drop)]
-pub struct RootPrices {
-    pub(crate) prices: DualPrices,
-    pub(crate) likely: i64,
-    pub(crate) rounded: Option<Vec<u16>>,
-}
 
 /// Raises prices from the given ones on, for rosters that cost less than the limit. One that is rounded on
 /// the way lowers it; what costs more is left out of a copy of the region.

@@ -25,7 +25,3 @@ pub(crate) const MANY_LINES: usize = 20_000;
 
 /// After this step a roster is rounded, and after the last one.
 pub(crate) const FIRST_ROUNDING: usize = 1;
-
-/// How much larger each step of the cost that is asked for is than the one before. Five dense books of 12
-/// to 20 crew and 7 or 10 days had 4,000 nodes with 4, and 1,700 with this.
-pub(crate) const STEP_GROWTH: i64 = 2;

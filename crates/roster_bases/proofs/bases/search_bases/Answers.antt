@@ -3,9 +3,9 @@ use Rattle.std.specs.Prelude.{unwrap_or}
 use Rattle.roster_model.specs.Rosters.{Key}
 use Rattle.roster_model.specs.Settled.{Anywhere, Settles}
 use Rattle.roster_regions.specs.Regions.{IsInRanges}
-use Rattle.roster_search.specs.Parts.{AreWhole}
-use Rattle.roster_search.proofs.FindLemmas.{if_ok}
-use Rattle.roster_search.proofs.RangeParts.{settles_all}
+use Rattle.roster_least.specs.Parts.{AreWhole}
+use Rattle.roster_least.proofs.FindLemmas.{if_ok}
+use Rattle.roster_least.proofs.RangeParts.{settles_all}
 use Rattle.roster_bases.proofs.bases.search_bases.Goals as goal
 
 pub returns-clause-settled : goal.returns-clause-settled

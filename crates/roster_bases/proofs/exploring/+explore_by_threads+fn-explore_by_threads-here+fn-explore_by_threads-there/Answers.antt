@@ -5,7 +5,7 @@ use Rattle.std.proofs.lemmas.Result.{IfOk-at_ok}
 use Rattle.roster_regions.specs.Regions.{Region}
 use Rattle.roster_search.specs.Open.{IsInSome}
 use Rattle.roster_bases.specs.Explored.{IsExplored}
-use Rattle.roster_search.proofs.FindLemmas.{if_ok}
+use Rattle.roster_least.proofs.FindLemmas.{if_ok}
 use Rattle.roster_bases.proofs.ExploredLemmas.{explored_dealt}
 use Rattle.roster_bases.proofs.exploring.+explore_by_threads+fn-explore_by_threads-here+fn-explore_by_threads-there.Goals as goal
 

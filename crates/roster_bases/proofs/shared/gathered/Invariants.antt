@@ -1,5 +1,5 @@
 use Rattle.std.specs.Prelude.{All, IfOk, vec_len}
-use Rattle.roster_search.specs.Parts.{AreBaseParts}
+use Rattle.roster_least.specs.Parts.{AreBaseParts}
 use Rattle.roster_bases.proofs.shared.gathered.Given as goal
 
 -- what is left is found, and so is what was taken out

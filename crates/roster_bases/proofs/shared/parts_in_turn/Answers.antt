@@ -1,5 +1,5 @@
 use Rattle.std.proofs.lemmas.List.Elements.{All-push, All-same}
-use Rattle.roster_search.specs.Parts.{IsBasePart}
+use Rattle.roster_least.specs.Parts.{IsBasePart}
 use Rattle.roster_bases.proofs.shared.parts_in_turn.Goals as goal
 
 pub loop-preserved : goal.loop-preserved

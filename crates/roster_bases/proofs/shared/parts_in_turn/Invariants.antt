@@ -1,4 +1,4 @@
-use Rattle.roster_search.specs.Parts.{AreBaseParts}
+use Rattle.roster_least.specs.Parts.{AreBaseParts}
 use Rattle.roster_bases.proofs.shared.parts_in_turn.Given as goal
 
 -- what is found so far is true

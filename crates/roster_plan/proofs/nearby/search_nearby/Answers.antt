@@ -5,9 +5,9 @@ use Rattle.roster_model.specs.Rosters.{Key, key_of}
 use Rattle.roster_model.specs.Settled.{IsHeld}
 use Rattle.roster_model.proofs.KeyLemmas.{key_le-trans}
 use Rattle.roster_linetable.specs.Person.{IsOfTable}
-use Rattle.roster_search.specs.Least.{IsLeastBelow}
+use Rattle.roster_least.specs.Least.{IsLeastBelow}
 use Rattle.roster_search.specs.Limited.{IsSearched}
-use Rattle.roster_search.proofs.Keys.{by_cost}
+use Rattle.roster_least.proofs.Keys.{by_cost}
 use Rattle.roster_plan.specs.Near.{HasAllNear}
 use Rattle.roster_plan.proofs.nearby.search_nearby.Goals as goal
 

@@ -5,7 +5,7 @@ use Rattle.roster_model.specs.Settled.{IsFoundWithin}
 use Rattle.roster_regions.specs.Regions.{size_of, IsIn}
 use Rattle.roster_search.specs.Open.{IsParted}
 use Rattle.roster_search.specs.Refined.{IsRefined}
-use Rattle.roster_search.proofs.FindLemmas.{found_in_part}
+use Rattle.roster_least.proofs.FindLemmas.{found_in_part}
 use Rattle.roster_search.proofs.OpenLemmas.{parted_by}
 use Rattle.roster_search.proofs.visiting.visit.Goals as goal
 
