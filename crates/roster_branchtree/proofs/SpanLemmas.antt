@@ -18,8 +18,7 @@ use Rattle.roster_regions.specs.Regions.{IsInRanges}
 use Rattle.roster_linetable.proofs.TableLemmas.{all_lines_in_table, sets_at}
 use Rattle.roster_bounds.proofs.OfNode.{has_line, later_is_apart}
 use Rattle.roster_branchtree.specs.Spans.{range_at, range_or, AreRangesOf}
-use Rattle.roster_spans.specs.Spans.{IsInSpan}
-use Rattle.roster_spans.specs.Spans.{Span}
+use Rattle.roster_spans.specs.Spans.{IsInSpan, Span}
 
 -- ---- ranges
 

@@ -92,9 +92,7 @@ impl<'a> SpanSearch for Branching<'a> {
     }
 }
 
-/// Takes spans from the pool and searches them, until the pool is at rest or was stopped, as
-/// `roster_workers::work` does. What it answers are the spans that it finished, with the roster by which each is
-/// settled, in order.
+/// `roster_workers::work`, whose spans are searched by branch and bound with these tables.
 pub fn work<R: Wait, L: Ledger, G: Gate>(
     rt: &R,
     alloc: Global,
@@ -118,10 +116,8 @@ pub fn work<R: Wait, L: Ledger, G: Gate>(
     )
 }
 
-/// The best roster of all that workers found, as `roster_workers::combine` puts it together: `lists` has for
-/// each worker what it answered. If each list has just the spans that the pool lists for its worker, and the
-/// pool was one over this table, the roster of least key among them is the best of all. If not, all rosters are
-/// searched once more, and `fallbacks` is 1.
+/// `roster_workers::combine`, which searches by branch and bound if what workers handed in doesn't agree with
+/// the pool. The tables for that are made first, so want of memory may be told though all agrees.
 pub fn combine(
     alloc: Global,
     problem: &Problem,

@@ -1,15 +1,11 @@
 //! A search by several threads.
 
-ghost use Rattle.std.specs.Prelude.{◌≡◌, ◌+◌, ◌<◌, ◌≤◌, [], All, IfErr, IfOk, List, length, map, unwrap_or};
-ghost use Rattle.std.specs.Prelude.{vec_len};
+ghost use Rattle.std.specs.Prelude.{◌≡◌, ◌<◌, ◌≤◌, IfOk, length, unwrap_or};
 ghost use Rattle.std.specs.Arc.{arc_value};
-ghost use Rattle.std.specs.Thread.{IsSync};
-ghost use Rattle.roster_model.specs.Problem.{Problem as PlainProblem};
 ghost use Rattle.roster_model.specs.Settled.{IsHeld};
-ghost use Rattle.roster_linetable.specs.Entries.{Entry};
 ghost use Rattle.roster_linetable.specs.Person.{IsTableOf};
 ghost use Rattle.roster_bounds.specs.Chosen.{priced_table};
-ghost use Rattle.roster_workers.specs.Parts.{AreSettled, IsBestKey};
+ghost use Rattle.roster_workers.specs.Parts.{IsBestKey};
 
 use crate::branching::Branching;
 use roster_bases::search_bases;

@@ -14,9 +14,7 @@ use roster_problem::{Problem, open_number};
 use roster_values::{Places, Roster, Set};
 use std::alloc::{AllocError, Global};
 
-/// Whether the places are a legal roster and the cost is what it costs. The roster may be anything: of
-/// another problem, too long or too short, with numbers that are nobody's. It takes no memory, and is
-/// never refused.
+/// `is_held`, as an answer that is never refused.
 pub fn check(problem: &Problem, table: &Table, roster: &Roster) -> Result<bool, AllocError>
     requires { IsTableOf problem.now table.now }
     ensures { IsOkAnd result (λ yes. IsTrue yes ↔ IsHeld problem.now roster.now) }
@@ -37,7 +35,8 @@ pub fn all_left(alloc: Global, problem: &Problem) -> Result<Roster, AllocError>
     })
 }
 
-/// `check`, of which nothing can be refused.
+/// Whether the places are a legal roster and the cost is what it costs. The roster may be anything: of
+/// another problem, too long or too short, with numbers that are nobody's. It takes no memory.
 pub fn is_held(problem: &Problem, table: &Table, roster: &Roster) -> bool
     requires { IsTableOf problem.now table.now }
     ensures { IsTrue result ↔ IsHeld problem.now roster.now }

@@ -1,4 +1,5 @@
-//! The best roster that several searches have found so far, behind a lock, and who shows it to them.
+//! The best roster that several searches have found so far, behind a lock; who shows it to them; and whether
+//! what is shown is a legal roster with its cost.
 //!
 //! Who finds a roster raises the incumbent to it, and who searches looks at it now and then. No answer
 //! rests on what a look shows: a search checks each roster that it is shown. In reading order:

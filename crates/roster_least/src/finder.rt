@@ -9,8 +9,7 @@ use roster_regions::{DualPrices, Region};
 use roster_values::Roster;
 use std::alloc::{AllocError, Global};
 
-/// Answers whether a region has a roster that costs at most so much: one thread, whose nodes are counted, or
-/// several.
+/// Answers whether a region has a roster that costs at most so much: one thread, or several.
 pub trait Finder {
     /// Whether it may be asked.
     ghost may_find: { Type 0 };

@@ -33,8 +33,8 @@ pub fn region_of_base(
     Region::of_ranges(alloc, problem, table, &own)
 }
 
-/// The least roster of the base, in its region, if there is one. Any prices will do; good ones make the search
-/// short.
+/// The least roster of the base, in its region, if there is one. Any prices will do; good ones make the
+/// search short.
 pub fn least_in<F: Finder>(
     alloc: Global,
     problem: &Problem,

@@ -1,14 +1,13 @@
 //! What the rosters of a region cost at least, by dual prices.
 
-ghost use Rattle.std.specs.Prelude.{◌≡◌, ◌<◌, ◌≤◌, ◌*◌, ℕ, List, ◌≤ℤ◌, All, IfOk, length, pos};
+ghost use Rattle.std.specs.Prelude.{◌≡◌, ◌<◌, ◌≤◌, ◌*◌, All, IfOk, length, pos};
 ghost use Rattle.roster_model.specs.Costs.{total};
 ghost use Rattle.roster_cost.specs.Amounts.{IsWithin};
 ghost use Rattle.roster_regions.specs.Prices.{ArePrices};
-ghost use Rattle.roster_regions.specs.Regions.{IsIn, IsRegion};
-ghost use Rattle.roster_narrowing.specs.Bounds.{bound_of, fine_cost, fine_penalty, term_of, AreLeastValues};
+ghost use Rattle.roster_regions.specs.Regions.{IsRegion};
+ghost use Rattle.roster_narrowing.specs.Bounds.{bound_of, fine_penalty, term_of, AreLeastValues};
 ghost use Rattle.roster_narrowing.specs.Bounds.{AreTerms};
 
-use roster_cost::priced_shares_add_up;
 use roster_model::limits::{MOST_PAIRINGS, MOST_PENALTY, MOST_PERSONS};
 use roster_problem::Problem;
 use roster_regions::{MOST_SCALE, MOST_VALUE, Region, price_of};
@@ -121,24 +120,4 @@ pub(crate) fn terms(
         terms.push(term(problem, region, prices, p))?;
     }
     Ok(terms)
-}
-
-/// A cost that no roster of the region is below, in parts of a cost unit above what it costs that
-/// nobody has a pairing.
-pub fn bound(
-    alloc: Global,
-    problem: &Problem,
-    region: &Region,
-    prices: &[i64],
-) -> Result<i64, AllocError>
-    requires region { IsRegion problem.now region.now }
-    requires prices { ArePrices prices.now }
-    ensures { IfOk result (λ bound. (places : List ℕ) → IsIn problem.now region.now places
-        → bound ≤ℤ fine_cost problem.now region.now places) }
-{
-    problem.is_sound();
-    priced_shares_add_up();
-    let values = least_values(alloc, problem, region, prices)?;
-    let terms = terms(alloc, problem, region, prices)?;
-    Ok(sum_of_both(&values, &terms))
 }

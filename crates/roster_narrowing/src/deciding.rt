@@ -1,6 +1,6 @@
 //! What is left to decide in a region, and the roster if nothing is.
 
-ghost use Rattle.std.specs.Prelude.{◌≡◌, ◌<◌, ◌↔◌, ℕ, List, IfOk, IfSome, IsTrue, MatchOption, length};
+ghost use Rattle.std.specs.Prelude.{◌<◌, ◌↔◌, IfOk, IfSome, IsTrue, MatchOption, length};
 ghost use Rattle.roster_regions.specs.Regions.{lines_of, IsDecided, IsIn, IsRegion, IsSplit};
 ghost use Rattle.roster_narrowing.specs.Propagation.{IsEmpty};
 ghost use Rattle.roster_narrowing.specs.Splits.{AgreesOn, IsNumberOf, IsOnlyIn};

@@ -2,7 +2,7 @@
 //!
 //! - `bounding`: what the rosters of a region cost at least
 //! - `propagate`: what follows for the other persons from the lines of each
-//! - `tightening`: without what costs too much
+//! - `tightening`: regions without what costs too much
 //! - `inside`: whether a roster is in a region
 //! - `deciding`: what is left to decide in a region, and the roster if nothing is
 #![tactic(auto)]
@@ -13,7 +13,6 @@ mod inside;
 mod propagate;
 mod tightening;
 
-pub use bounding::bound;
 pub use deciding::{is_split, only, pick};
 pub use inside::is_in;
 pub use tightening::tighten;

@@ -1,6 +1,6 @@
 //! What follows for the other persons from the lines of each.
 
-ghost use Rattle.std.specs.Prelude.{◌≡◌, ◌<◌, ℕ, IfNone, IfOk, IfSome, MatchBool, OnOk, length};
+ghost use Rattle.std.specs.Prelude.{◌<◌, ℕ, IfNone, IfOk, IfSome, MatchBool, OnOk, length};
 ghost use Rattle.roster_regions.specs.Regions.{Has, IsNarrowed, IsRegion, IsWhollyIn};
 ghost use Rattle.roster_narrowing.specs.Propagation.{Anything, AreHolders, IsEmpty, IsUncertain};
 

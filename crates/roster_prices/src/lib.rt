@@ -1,7 +1,7 @@
-//! Dual prices of pairings, and rosters that are rounded from them: what makes a search short. No answer
-//! of a search rests on them, since any prices give a bound that holds, and a rounded roster is tested.
-//! So the contracts say little: prices stay within their limits, and places are as many as pairings.
-//! Bounds that are told are estimates. In reading order:
+//! How dual prices of pairings move, and rosters that are rounded from them: what makes a search short. No
+//! answer of a search rests on them, since any prices give a bound that holds, and a rounded roster is
+//! tested. So the contracts say little: places are as many as pairings. Bounds that are told are estimates.
+//! In reading order:
 //!
 //! - `tuning`: the numbers that decide how long a search takes
 //! - `powers`: powers of two and logarithms

@@ -1,4 +1,5 @@
-//! Regions of rosters: for each person some of their lines, and for each pairing whether it may be open.
+//! Regions of rosters: for each person some of their lines, and for each pairing whether it may be open; and
+//! dual prices of pairings.
 //!
 //! - `choice`: a step in the tree of a person's lines
 //! - `parts`: costs in parts of a cost unit
@@ -15,7 +16,7 @@
 //! - `region`: regions, and what makes them smaller
 //! - `build`: regions of the lines whose numbers are in ranges
 //! - `reading`: lists read past their ends
-//! - `dual_prices`: dual prices of pairings, and how they move
+//! - `dual_prices`: dual prices of pairings, and one step of them
 #![tactic(auto)]
 
 mod all_lines;

@@ -1,10 +1,9 @@
 //! The least roster of a box of lines.
 //!
 //! `least_of_box` answers the least legal roster of a box if it is before a known one; `least_within` is
-//! given up after so much work. What they ask again and again is whether a region has a roster that costs at
-//! most so much: `find`. Least cost and ties are loops of `roster_least` round that, so nothing that prunes
-//! knows of ties. Bases share neither persons nor pairings, so each is searched apart; `roster_bases` has
-//! several threads do so, by the parts that are public here. In reading order:
+//! given up after so much work. `find` is what `roster_least` asks again and again, by one thread. Each base
+//! is searched apart; `roster_bases` has several threads do so, by the parts that are public here. In
+//! reading order:
 //!
 //! - `boxes`: the least roster of a box, merged from those of its bases
 //! - `limited`: a search that is given up once it has done so much work

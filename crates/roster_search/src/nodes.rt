@@ -15,7 +15,7 @@ pub trait Nodes {
     ghost follows: { (old mid new : Self) → goes_on old mid → goes_on mid new → goes_on old new };
 }
 
-/// Nodes that nobody counts.
+/// Nodes that nobody counts; it is a `Finder` of one thread too.
 #[derive(Drop)]
 pub struct Unseen;
 

@@ -1,4 +1,4 @@
-//! Values that need no problem: names, sets of pairings, rosters, rules, and what may be asked for.
+//! Values that need no problem: names, sets of pairings, rosters, rules, steps, and what may be asked for.
 //!
 //! A `Roster` says who flies what, whatever the problem is. In reading order:
 //!

@@ -5,8 +5,7 @@ use Rattle.roster_model.specs.Costs.{cost_of}
 use Rattle.roster_model.specs.Rosters.{Key, key_le}
 use Rattle.roster_model.specs.Settled.{IsBest, IsHeld, IsNotAfter}
 use Rattle.roster_linetable.specs.Entries.{Entry}
-use Rattle.roster_spans.specs.Spans.{IsInSpan}
-use Rattle.roster_spans.specs.Spans.{Span}
+use Rattle.roster_spans.specs.Spans.{IsInSpan, Span}
 use Rattle.roster_subtreepool.specs.States.{Ended, Part}
 
 -- what all workers search

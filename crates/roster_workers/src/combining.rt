@@ -81,6 +81,19 @@ pub(crate) fn solved_again<F: SpanSearch>(
     })
 }
 
+/// The best roster if there is nobody: the only one, which leaves all open.
+pub fn solved_by_nobody(alloc: Global, problem: &Problem) -> Result<Solved, AllocError>
+    requires { length problem.now.persons ≡ 0 }
+    ensures best { IfOk result (λ solved. IsBestKey problem.now (arc_value solved.roster)) }
+    ensures once { IfOk result (λ solved. solved.fallbacks ≡ 0) }
+{
+    let roster = first_known(alloc, problem)?;
+    Ok(Solved {
+        roster,
+        fallbacks: 0,
+    })
+}
+
 /// The least roster of lists that agree with the pool.
 fn least_agreed(
     alloc: Global,

@@ -1,9 +1,8 @@
 //! Workers in threads of their own.
 
-ghost use Rattle.std.specs.Prelude.{◌≡◌, ◌+◌, ◌<◌, ◌≤◌, [], All, IfErr, IfOk, List, length, map};
+ghost use Rattle.std.specs.Prelude.{◌≡◌, ◌+◌, ◌<◌, ◌≤◌, All, IfOk, List, length, map};
 ghost use Rattle.std.specs.Prelude.{vec_len};
 ghost use Rattle.std.specs.Arc.{arc_value};
-ghost use Rattle.std.specs.Thread.{IsSync};
 ghost use Rattle.roster_model.specs.Problem.{Problem as PlainProblem};
 ghost use Rattle.roster_linetable.specs.Entries.{Entry};
 ghost use Rattle.roster_linetable.specs.Person.{IsTableOf};
@@ -24,9 +23,11 @@ use std::sync::ledger::{Blank, Ledger};
 use std::sync::{Arc, Wait};
 use std::thread::{Threads, map_vec};
 
-/// The best roster, found by so many workers, who share a new pool of all rosters; the incumbent begins with the
-/// given roster, which may be any. The calling thread is worker 0. If a thread can't be started, its worker
-/// comes last, when nothing is left to do.
+/// The best roster, found by so many workers, who share a new pool of all rosters; `blank` has a part for
+/// each. The incumbent begins with the given roster, which may be any. The calling thread is worker 0. If a
+/// thread can't be started, its worker comes last, when nothing is left to do. Each worker passes the gate.
+/// If what they hand in doesn't agree with the pool, all is searched once more, and `fallbacks` is 1. The
+/// only refusal is want of memory. It may wait for threads and locks.
 pub fn work_together<
     L: Ledger + Send + Sync,
     R: Threads + Wait + Sync,

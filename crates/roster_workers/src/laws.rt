@@ -1,6 +1,6 @@
 //! What follows from nothing but the definitions.
 
-ghost use Rattle.std.specs.Prelude.{ℕ, All, List, length, map};
+ghost use Rattle.std.specs.Prelude.{All, List, length, map};
 ghost use Rattle.roster_model.specs.Problem.{Problem};
 ghost use Rattle.roster_model.specs.Rosters.{Key};
 ghost use Rattle.roster_model.specs.Settled.{IsHeld};

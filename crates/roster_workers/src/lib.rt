@@ -22,11 +22,11 @@ mod span_search;
 mod stage;
 mod working;
 
-pub use combining::{Solved, combine};
+pub use combining::{Solved, combine, solved_by_nobody};
 pub use crew::work_together;
 pub use gate::{Gate, Open, Point};
 pub use laws::least_handed_in_is_best;
-pub use root::{first_known, solved_by_nobody};
+pub use root::first_known;
 pub use span_search::SpanSearch;
 pub use stage::replay_steps;
 pub use working::work;

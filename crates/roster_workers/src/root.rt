@@ -8,7 +8,6 @@ ghost use Rattle.roster_model.specs.Settled.{IsHeld};
 ghost use Rattle.roster_spans.specs.Spans.{IsInSpan};
 ghost use Rattle.roster_workers.specs.Parts.{IsBestKey};
 
-use crate::combining::Solved;
 use crate::span_search::SpanSearch;
 use roster_incumbent::{Sight, all_left};
 use roster_linetable::Table;
@@ -47,19 +46,6 @@ pub(crate) fn search_root<F: SpanSearch>(
     let Done { piece, best } = found(searcher.search(root, &mut Nothing, 0, &known))?;
     piece.forgo();
     Ok(best)
-}
-
-/// The best roster if there is nobody: the only one, which leaves all open.
-pub fn solved_by_nobody(alloc: Global, problem: &Problem) -> Result<Solved, AllocError>
-    requires { length problem.now.persons ≡ 0 }
-    ensures best { IfOk result (λ solved. IsBestKey problem.now (arc_value solved.roster)) }
-    ensures once { IfOk result (λ solved. solved.fallbacks ≡ 0) }
-{
-    let roster = first_known(alloc, problem)?;
-    Ok(Solved {
-        roster,
-        fallbacks: 0,
-    })
 }
 
 /// What a search found. If memory ran out, the piece is given up.

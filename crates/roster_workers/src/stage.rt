@@ -311,10 +311,9 @@ impl<'a, L: Ledger, F: SpanSearch> Stage<'a, L, F> {
     }
 }
 
-/// The best roster, found under a schedule: in one thread, which does for `MOST_WORKERS` workers what the steps
-/// say, one after another, on a new pool of all rosters. A step that the pool refuses, or that needs a span
-/// while the worker has none, changes nothing. After the last step the workers give back what they have, and
-/// worker 0 searches what is left.
+/// The best roster, found in one thread, which does what the steps say for `MOST_WORKERS` workers on a new
+/// pool of all rosters; `blank` has a part for each. After the last step they give back what they have, and
+/// worker 0 searches what is left, so nothing is searched again. The only refusal is want of memory.
 pub fn replay_steps<L: Ledger, F: SpanSearch>(
     alloc: Global,
     problem: &Problem,

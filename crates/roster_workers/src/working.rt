@@ -1,6 +1,6 @@
 //! What a worker does.
 
-ghost use Rattle.std.specs.Prelude.{◌≡◌, ◌+◌, ◌≤◌, IfErr, IfOk, IfSome, MatchOption, OnErr, vec_capacity};
+ghost use Rattle.std.specs.Prelude.{◌≡◌, ◌+◌, IfOk, IfSome, MatchOption};
 ghost use Rattle.std.specs.Prelude.{vec_len};
 ghost use Rattle.std.specs.Arc.{arc_value};
 ghost use Rattle.roster_linetable.specs.Person.{IsTableOf};
@@ -25,10 +25,10 @@ use std::sync::{Arc, Wait};
 /// are the spans that it finished, with the roster by which each is settled, in order.
 ///
 /// Before each search it splits its span while nothing is pending for other workers, unless the searcher
-/// knows that nothing comes before its last roster. It looks at the incumbent at each node of its searches, and
-/// raises it to each roster that it finds. A pool that refuses its calls is stopped, and the list so far is
-/// the answer. If memory runs out, the pool is stopped too, and its hand stays full. It may wait for a span
-/// and for the locks.
+/// knows that nothing comes before its last roster. It looks at the incumbent at each node of its searches,
+/// and raises it to each roster that it finds. A pool that refuses its calls is stopped, and the list so far
+/// is the answer. If memory runs out, the pool is stopped too, and its hand stays full. It may wait for a
+/// span and for the locks.
 pub fn work<R: Wait, L: Ledger, F: SpanSearch, G: Gate>(
     rt: &R,
     alloc: Global,
