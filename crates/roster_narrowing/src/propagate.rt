@@ -5,7 +5,7 @@ ghost use Rattle.roster_regions.specs.Regions.{Has, IsNarrowed, IsRegion, IsWhol
 ghost use Rattle.roster_narrowing.specs.Propagation.{Anything, AreHolders, IsEmpty, IsUncertain};
 
 use roster_problem::{Problem, open_number};
-use roster_regions::{Region, joined};
+use roster_regions::Region;
 use roster_values::Set;
 use std::alloc::{AllocError, Global};
 
@@ -178,9 +178,9 @@ fn claims_in(region: &Region) -> Claims {
     for k in 0..region.persons() {
         let possible = region.possible(k);
         let contested = claims.possible.and(&possible);
-        claims.contested = joined(&claims.contested, &contested);
-        claims.possible = joined(&claims.possible, &possible);
-        claims.certain = joined(&claims.certain, &region.certain(k));
+        claims.contested = claims.contested.or(&contested);
+        claims.possible = claims.possible.or(&possible);
+        claims.certain = claims.certain.or(&region.certain(k));
     }
     claims
 }

@@ -1,7 +1,7 @@
 //! Regions from the lines of a table.
 
 ghost use Rattle.std.specs.Prelude.{[], ◌≡◌, ◌<◌, ◌≤◌, ◌+◌, ◌^◌, ◌*◌, ◌*ℤ◌, ℕ, pos, IsTrue, ◌↔◌, List, OnOk};
-ghost use Rattle.std.specs.Prelude.{IfOk, All, get_or, length, slice_get, slice_index, max, take, Some, ◌-ℤ◌};
+ghost use Rattle.std.specs.Prelude.{IfOk, All, get_or, length, slice_get, slice_index, max, take, Some};
 ghost use Rattle.roster_cost.specs.Amounts.{IsWithin, most_extra};
 ghost use Rattle.roster_linetable.specs.Entries.{Entry, sets_of};
 ghost use Rattle.roster_linetable.specs.Person.{lines_at, AreListed};

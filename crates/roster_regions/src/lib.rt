@@ -43,4 +43,4 @@ pub use reading::number_at;
 pub use region::Region;
 pub use rows::Rows;
 pub use sums::price_of;
-pub use writer::{is_same, joined};
+pub use writer::is_same;

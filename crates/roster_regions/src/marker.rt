@@ -8,7 +8,6 @@ ghost use Rattle.roster_regions.specs.Trees.{line_here, next_path, path_after, A
 
 use crate::choice::Choice;
 use crate::path::Path;
-use crate::writer::joined;
 use roster_values::Set;
 use std::alloc::{AllocError, Global};
 
@@ -79,7 +78,7 @@ impl Marker {
         let certain = self.certain_with(&set);
         self.marks.push(true)?;
         self.certain = certain;
-        self.possible = joined(&self.possible, &set);
+        self.possible = self.possible.or(&set);
         self.count += 1;
         Ok(())
     }

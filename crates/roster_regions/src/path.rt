@@ -1,6 +1,6 @@
 //! The pairings that a walk through a tree of choices has come to.
 
-ghost use Rattle.std.specs.Prelude.{◌≡◌, ◌+◌, ◌<◌, ◌≤◌, ◌-◌, ◌↔◌, [], ℕ, IsTrue, OnOk, length, slice_index};
+ghost use Rattle.std.specs.Prelude.{◌≡◌, ◌<◌, ◌≤◌, ◌-◌, ◌↔◌, [], ℕ, IsTrue, OnOk, length, slice_index};
 ghost use Rattle.roster_model.specs.declared.limits.TheConstants.{MOST_PAIRINGS};
 ghost use Rattle.roster_model.specs.Rules.{is_among};
 ghost use Rattle.roster_regions.specs.Trees.{next_path, IsLimited};

@@ -1,6 +1,6 @@
 //! Writes a tree of choices, line after line.
 
-ghost use Rattle.std.specs.Prelude.{◌≡◌, ◌↔◌, ◌+◌, ◌≤◌, ◌++◌, ◌∷◌, ◌||◌, if◌then◌else◌, ℕ, [], IsTrue, List};
+ghost use Rattle.std.specs.Prelude.{◌≡◌, ◌↔◌, ◌+◌, ◌≤◌, ◌++◌, ◌∷◌, if◌then◌else◌, ℕ, [], IsTrue, List};
 ghost use Rattle.std.specs.Prelude.{OnOk, length};
 ghost use Rattle.roster_model.specs.Rules.{is_among};
 ghost use Rattle.roster_cost.specs.Amounts.{IsWithin};
@@ -70,7 +70,7 @@ impl Writer {
             live: true,
         })?;
         self.certain = certain;
-        self.possible = joined(&self.possible, &set);
+        self.possible = self.possible.or(&set);
         self.count += 1;
         self.shared = depth;
         Ok(())
@@ -126,22 +126,6 @@ impl Writer {
         }
         Ok(())
     }
-}
-
-/// The pairings that are in one of two sets.
-pub fn joined(set: &Set, other: &Set) -> Set
-    ensures { (p : ℕ) → is_among result p ≡ (is_among set.now p || is_among other.now p) }
-{
-    if set.and(other) == *other {
-        return *set;
-    }
-    let mut all = *set;
-    let mut from = 0;
-    while let Some(p) = other.first_from(from) {
-        all = all.with(p).unwrap();
-        from = p + 1;
-    }
-    all
 }
 
 /// Whether both have the same pairings.

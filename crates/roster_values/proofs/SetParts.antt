@@ -1,8 +1,8 @@
 -- A set with one place more, and its places from one on.
-use Rattle.std.proofs.Common.{◌≡◌, ℕ, ◌+◌, ◌<◌, ◌≤◌, Bool, true, false, ◌&&◌, ◌||◌, ◌==◌, eqb, eq-eqb, List, [], ◌∷◌, ◌++◌, refl, sym, ap, ◌∙◌, subst, inl, inr, arith}
+use Rattle.std.proofs.Common.{◌≡◌, ℕ, ◌+◌, ◌<◌, ◌≤◌, Bool, true, false, ◌&&◌, ◌||◌, eqb, eq-eqb, List, [], ◌∷◌, ◌++◌, refl, sym, ap, ◌∙◌, subst, inl, inr, arith}
 use Rattle.std.specs.Prelude.{nat_lt, nat_le, All, filter}
 use Rattle.std.proofs.Math.Bool.{or-false, or-true, or_comm}
-use Rattle.std.proofs.lemmas.Bool.{both_ways, cases_order, cases_lt, eqb-true, or_cases, or_left, or_right, lt-ltb, le-ltb, le-leb, lt-leb, ltb-true, leb-true, ne_eqb}
+use Rattle.std.proofs.lemmas.Bool.{cases_order, cases_lt, eqb-true, lt-ltb, le-ltb, le-leb, lt-leb, ltb-true, leb-true, ne_eqb}
 use Rattle.std.proofs.lemmas.List.Elements.{All-cons, All-weaker, filter_passes}
 use Rattle.roster_model.specs.Rules.{is_among}
 use Rattle.roster_model.proofs.SetLemmas.{Ascends, Ascends-push, Ascends-append, Ascends-filter, is_among-append, is_among-filter, same_set, empty_set}
@@ -108,55 +108,3 @@ places_from-some from p set up l here before =
 pub places_from-first : (set : List ℕ) → places_from 0 set ≡ set
 places_from-first [] = refl
 places_from-first (p ∷ set) = rw (le-leb 0 p (omega arith)) (ap (λ xs. p ∷ xs) (places_from-first set))
-
--- ---- what is in one of two sets
-
-same_answer : (a b : Bool) → (a ≡ true → b ≡ true) → (b ≡ true → a ≡ true) → a ≡ b
-same_answer true b there back = sym (there refl)
-same_answer false true there back = back refl
-same_answer false false there back = refl
-
--- those of the first, and those of the second before a place
-pub record AreJoined (one other : List ℕ) (from : ℕ) (both : List ℕ) : Type 0 where
-  pub within : (q : ℕ) → is_among both q ≡ true → (is_among one q || is_among other q) ≡ true
-  pub first : (q : ℕ) → is_among one q ≡ true → is_among both q ≡ true
-  pub second : (q : ℕ) → q < from → is_among other q ≡ true → is_among both q ≡ true
-
-pub AreJoined-start : (one other : List ℕ) → AreJoined one other 0 one
-AreJoined-start one other = record {
-  within = λ q h. or_left _ _ h;
-  first = λ q h. h;
-  second = λ q before h. absurd (omega arith);
-}
-
--- the next one with them
-pub AreJoined-next : (one other both more : List ℕ) (from p : ℕ) → AreJoined one other from both
-    → is_among other p ≡ true → ((q : ℕ) → from ≤ q → q < p → is_among other q ≡ false)
-    → ((q : ℕ) → is_among more q ≡ (is_among both q || p == q)) → AreJoined one other (p + 1) more
-AreJoined-next one other both more from p are here none each = record {
-  within = λ q h. elim (or_cases _ _ (sym (each q) ∙ h)) [
-    | inl old ↦ are.within q old
-    | inr new ↦ or_right _ _ (subst (λ r. is_among other r ≡ true) (eqb-true p q new) here)
-  ];
-  first = λ q h. each q ∙ or_left _ _ (are.first q h);
-  second = λ q before h. elim (cases_lt q from) [
-    | inl less ↦ each q ∙ or_left _ _ (are.second q less h)
-    | inr later ↦ elim (cases_lt q p) [
-      | inl less ↦ absurd (both_ways _ (none q later less) h)
-      | inr past ↦ each q ∙ or_right _ _ (eq-eqb p q (omega arith))
-    ]
-  ];
-}
-
--- all of both
-pub AreJoined-all : (one other both : List ℕ) (from : ℕ) → AreJoined one other from both
-    → ((q : ℕ) → from ≤ q → is_among other q ≡ false) → (p : ℕ)
-    → is_among both p ≡ (is_among one p || is_among other p)
-AreJoined-all one other both from are none p =
-    same_answer _ _ (are.within p) (λ either. elim (or_cases _ _ either) [
-      | inl first ↦ are.first p first
-      | inr second ↦ elim (cases_lt p from) [
-        | inl before ↦ are.second p before second
-        | inr later ↦ absurd (both_ways _ (none p later) second)
-      ]
-    ])

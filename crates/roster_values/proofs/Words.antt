@@ -1,14 +1,14 @@
 -- One bit of some words: read, set, and the first from one on.
-use Rattle.std.proofs.Common.{◌≡◌, ℕ, zero, suc, ◌+◌, ◌-◌, ◌*◌, ◌/◌, ◌%◌, ◌^◌, ◌<◌, ◌≤◌, true, false, ◌&&◌, ◌||◌, eqb, eq-eqb, List, [], length, get_or, set, refl, sym, ap, ◌∙◌, subst, inl, inr, arith, bit_and, bit_or, w64, lit<}
-use Rattle.std.specs.Prelude.{All, Option, Some, None, min, replicate}
+use Rattle.std.proofs.Common.{◌≡◌, ℕ, zero, suc, ◌+◌, ◌-◌, ◌*◌, ◌/◌, ◌%◌, ◌^◌, ◌<◌, ◌≤◌, true, false, ◌&&◌, ◌||◌, eqb, eq-eqb, List, [], length, get_or, set, refl, sym, ap, ◌∙◌, subst, inl, inr, arith, bit_and, bit_or, ap₂, w64, lit<}
+use Rattle.std.specs.Prelude.{All, Option, Some, None, max, min, replicate}
 use Rattle.std.specs.Int.{bit_at, trailing_zeros}
 use Rattle.std.proofs.Math.Bool.{or-false, or-true}
 use Rattle.std.proofs.Math.Nat.{div-div-eq-div-mul, div-le_self}
 use Rattle.std.proofs.lemmas.Bool.{cases_eq, cases_lt, ne_eqb, both_ways}
-use Rattle.std.proofs.lemmas.List.{get_or-set_same, get_or-set_other, get_or_past, length-replicate}
+use Rattle.std.proofs.lemmas.List.{get_or-set_same, get_or-set_other, get_or_past, length-replicate, length-set}
 use Rattle.std.proofs.lemmas.List.Elements.{All-replicate, All-set}
 use Rattle.std.proofs.lemmas.Nat.{div-add-mod', pow-add, and_le_l, or_lt}
-use Rattle.std.proofs.lemmas.Nat.Bits.{bit_at-lt, bit_at_above, bit_at-zero, bit_at_and, bit_at_set_same, bit_at_set_other, bit_at-trailing_zeros}
+use Rattle.std.proofs.lemmas.Nat.Bits.{bit_at-lt, bit_at_above, bit_at-zero, bit_at_and, bit_at_or, bit_at_set_same, bit_at_set_other, bit_at-trailing_zeros}
 use Rattle.roster_values.specs.Set.{has_bit, places_in, IsSet, IsFirstInWord, IsFirstBit}
 use Rattle.roster_values.specs.declared.set.TheConstants.{SET_WORDS}
 use Rattle.roster_values.specs.Bits.{has_bit_at, places_in_set}
@@ -185,6 +185,60 @@ meet_in_word words others i fits some =
     (sym (bit_at_and (get_or words i 0) (get_or others i 0) bit) ∙ lowest.1) in
     (i * 64 + bit, has_bit_at words i bit lowest.0 ∙ ap (λ n. eqb n 1) ones.0, has_bit_at others i bit lowest.0 ∙ ap (λ n. eqb n 1) ones.1)
 
+-- ---- bits of both, and of either
+
+-- the words before word i are made of two words each, and the others are as they were
+pub record AreCombined (op : ℕ → ℕ → ℕ) (old others : List ℕ) (i : ℕ) (words : List ℕ) : Type 0 where
+  pub long : length words ≡ SET_WORDS
+  pub done : (j : ℕ) → j < i → get_or words j 0 ≡ op (get_or old j 0) (get_or others j 0)
+  pub rest : (j : ℕ) → i ≤ j → get_or words j 0 ≡ get_or old j 0
+  pub fits : All (λ word. word < 2 ^ 64) old → All (λ word. word < 2 ^ 64) others
+      → All (λ word. word < 2 ^ 64) words
+
+pub AreCombined-start : (op : ℕ → ℕ → ℕ) (old others : List ℕ) → length old ≡ SET_WORDS
+    → AreCombined op old others 0 old
+AreCombined-start op old others long = record {
+  long = long;
+  done = λ j l. absurd (omega arith);
+  rest = λ j l. refl;
+  fits = λ fits _. fits;
+}
+
+-- one word more
+pub AreCombined-next : (op : ℕ → ℕ → ℕ) (old others words : List ℕ) (i : ℕ)
+    → ((a b : ℕ) → a < 2 ^ 64 → b < 2 ^ 64 → op a b < 2 ^ 64) → i < SET_WORDS → length others ≡ SET_WORDS
+    → AreCombined op old others i words
+    → AreCombined op old others (i + 1) (set words i (op (get_or words i 0) (get_or others i 0)))
+AreCombined-next op old others words i small below as_long are =
+    let new : ℕ = op (get_or words i 0) (get_or others i 0) in
+    let inside : i < length words = omega (arith, are.long) in
+    record {
+      long = length-set words i new ∙ are.long;
+      done = λ j l. elim (cases_eq j i) [
+        | inl same ↦
+            subst (λ k. get_or (set words i new) k 0 ≡ op (get_or old k 0) (get_or others k 0)) (sym same)
+            (get_or-set_same words i new 0 inside ∙ ap (λ word. op word (get_or others i 0)) (are.rest i (omega arith)))
+        | inr other ↦ get_or-set_other words i j new 0 other ∙ are.done j (omega arith)
+      ];
+      rest = λ j l. get_or-set_other words i j new 0 (λ e. omega arith) ∙ are.rest j (omega arith);
+      fits = λ fits theirs.
+          let all = are.fits fits theirs in
+          All-set (λ word. word < 2 ^ 64) words i new
+          (small _ _ (all i 0 inside) (theirs i 0 (omega (arith, as_long)))) all;
+    }
+
+-- all words
+pub combined : (op : ℕ → ℕ → ℕ) (old others words : List ℕ) (i : ℕ) → op 0 0 ≡ 0 → SET_WORDS ≤ i
+    → length old ≡ SET_WORDS → length others ≡ SET_WORDS → AreCombined op old others i words → (j : ℕ)
+    → get_or words j 0 ≡ op (get_or old j 0) (get_or others j 0)
+combined op old others words i none whole long as_long are j =
+    elim (cases_lt j SET_WORDS) [
+      | inl inside ↦ are.done j (omega (arith, inside, whole))
+      | inr past ↦
+          get_or_past words j 0 (omega (arith, are.long)) ∙ sym none
+          ∙ sym (ap₂ op (get_or_past old j 0 (omega (arith, long))) (get_or_past others j 0 (omega (arith, as_long))))
+    ]
+
 one_of_both : (a b : ℕ) → a < 2 → b < 2 → eqb (min a b) 1 ≡ (eqb a 1 && eqb b 1)
 one_of_both zero b l m = let none : min 0 b ≡ 0 = omega arith in ap (λ n. eqb n 1) none
 one_of_both (suc zero) zero l m = refl
@@ -201,3 +255,22 @@ bit_of_both words others both p word =
     ap (λ w. eqb (bit_at w bit) 1) word
     ∙ ap (λ n. eqb n 1) (bit_at_and (get_or words (p / 64) 0) (get_or others (p / 64) 0) bit)
     ∙ one_of_both _ _ (bit_at-lt (get_or words (p / 64) 0) bit) (bit_at-lt (get_or others (p / 64) 0) bit)
+
+one_of_either : (a b : ℕ) → a < 2 → b < 2 → eqb (max a b) 1 ≡ (eqb a 1 || eqb b 1)
+one_of_either zero zero l m = refl
+one_of_either zero (suc zero) l m = refl
+one_of_either zero (suc (suc b)) l m = absurd (omega arith)
+one_of_either (suc zero) zero l m = refl
+one_of_either (suc zero) (suc zero) l m = refl
+one_of_either (suc zero) (suc (suc b)) l m = absurd (omega arith)
+one_of_either (suc (suc a)) b l m = absurd (omega arith)
+
+-- a bit of words that have the bits of either
+pub bit_of_either : (words others either : List ℕ) (p : ℕ)
+    → get_or either (p / 64) 0 ≡ bit_or (get_or words (p / 64) 0) (get_or others (p / 64) 0)
+    → has_bit either p ≡ (has_bit words p || has_bit others p)
+bit_of_either words others either p word =
+    let bit : ℕ = p % 64 in
+    ap (λ w. eqb (bit_at w bit) 1) word
+    ∙ ap (λ n. eqb n 1) (bit_at_or (get_or words (p / 64) 0) (get_or others (p / 64) 0) bit)
+    ∙ one_of_either _ _ (bit_at-lt (get_or words (p / 64) 0) bit) (bit_at-lt (get_or others (p / 64) 0) bit)

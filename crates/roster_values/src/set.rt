@@ -134,13 +134,9 @@ impl Set {
     pub fn or(&self, other: &Set) -> Set
         ensures { (p : ℕ) → is_among result p ≡ (is_among self.now p || is_among other.now p) }
     {
-        let mut both = *self;
-        let mut from = 0;
-        while let Some(p) = other.first_from(from) {
-            both.put(p);
-            from = p + 1;
-        }
-        both
+        let mut words = self.words;
+        add_bits(&mut words, &other.words);
+        Set { words }
     }
 
     /// The least place at or after `from` whose pairing is in it. To go over all places in ascending
@@ -193,10 +189,22 @@ fn set_bit(words: &mut [u64; SET_WORDS], p: usize)
 /// Keeps the bits that are set in the others too.
 fn keep_bits(words: &mut [u64; SET_WORDS], others: &[u64; SET_WORDS])
     ensures bits { (p : ℕ) → has_bit words.new p ≡ (has_bit words.old p && has_bit others.now p) }
-    ensures fits { All (λ word. word < 2 ^ 64) words.old → All (λ word. word < 2 ^ 64) words.new }
+    ensures fits { All (λ word. word < 2 ^ 64) words.old → All (λ word. word < 2 ^ 64) others.now
+        → All (λ word. word < 2 ^ 64) words.new }
 {
     for i in 0..SET_WORDS {
         words[i] &= others[i];
+    }
+}
+
+/// Sets the bits that are set in the others.
+fn add_bits(words: &mut [u64; SET_WORDS], others: &[u64; SET_WORDS])
+    ensures bits { (p : ℕ) → has_bit words.new p ≡ (has_bit words.old p || has_bit others.now p) }
+    ensures fits { All (λ word. word < 2 ^ 64) words.old → All (λ word. word < 2 ^ 64) others.now
+        → All (λ word. word < 2 ^ 64) words.new }
+{
+    for i in 0..SET_WORDS {
+        words[i] |= others[i];
     }
 }
 

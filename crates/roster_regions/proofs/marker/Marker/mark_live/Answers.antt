@@ -10,6 +10,6 @@ overflow_add-self c = omega (arith, few-marked _ c.requires.known.0 c.requires.k
 pub returns : goal.returns
 returns c choices lines choice is there =
     IsMarking-live c.args.self.now _ c.args.path.now choices lines choice is there c.in_ok-push.ensures.items
-    (λ p. c.joined-self.ensures p ∙ ap (λ b. is_among c.args.self.now.possible p || b) (c.set-set.ensures p))
+    (λ p. c.or-self.ensures p ∙ ap (λ b. is_among c.args.self.now.possible p || b) (c.set-set.ensures p))
     (c.certain_with-certain.ensures choices lines (allowed c.args.path.now choice.extra) is (λ p. sym (c.set-set.ensures p)))
     refl

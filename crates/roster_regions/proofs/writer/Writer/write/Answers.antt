@@ -17,7 +17,7 @@ returns c lines before =
     let is = c.in_ok-reach.ensures.same lines before in
     let same = to_z-of_z w64 c.args.extra c.ranges.extra in
     IsWriting-live c.reach.new.self _ c.args.path.now lines _ c.args.extra same is c.in_ok-reach.ensures.there c.in_ok-push.ensures.items
-    (λ p. c.joined-self.ensures p ∙ ap (λ b. is_among c.reach.new.self.possible p || b) (c.set-set.ensures p))
+    (λ p. c.or-self.ensures p ∙ ap (λ b. is_among c.reach.new.self.possible p || b) (c.set-set.ensures p))
     (c.certain_with-certain.ensures c.args.path.now lines (allowed c.args.path.now c.args.extra) is (λ p. sym (c.set-set.ensures p)))
     refl c.length-depth.ensures.value
     (record {

@@ -7,7 +7,7 @@ use Rattle.roster_values.proofs.set.Set.and.Goals as goal
 
 both_set : (c : After-keep_bits) → IsSet c.keep_bits.new.words
 both_set c = record {
-  fits = c.keep_bits.ensures.fits c.self.invariant.fits;
+  fits = c.keep_bits.ensures.fits c.self.invariant.fits c.other.invariant.fits;
   long = c.keep_bits.array_long;
   within = λ p h.
       c.self.invariant.within p (and_parts (has_bit c.self.inside.words p) (has_bit c.other.inside.words p) (sym (c.keep_bits.ensures.bits p) ∙ h)).0;

@@ -1,11 +1,25 @@
-use Rattle.roster_values.proofs.SetParts.{AreJoined-all, AreJoined-next, AreJoined-start}
+use Rattle.std.proofs.Common.{◌||◌, inl, inr, sym, ap₂, ◌∙◌}
+use Rattle.std.proofs.lemmas.Bool.{or_cases}
+use Rattle.roster_values.specs.Set.{has_bit, IsSet}
+use Rattle.roster_values.specs.Bits.{is_among-places_in}
+use Rattle.roster_values.proofs.set.Set.or.Goals.{After-add_bits}
 use Rattle.roster_values.proofs.set.Set.or.Goals as goal
 
-pub loop-p-init : goal.loop-p-init
-loop-p-init c = AreJoined-start c.args.self.now c.args.other.now
+either_set : (c : After-add_bits) → IsSet c.add_bits.new.words
+either_set c = record {
+  fits = c.add_bits.ensures.fits c.self.invariant.fits c.other.invariant.fits;
+  long = c.add_bits.array_long;
+  within = λ p h. elim (or_cases (has_bit c.self.inside.words p) (has_bit c.other.inside.words p) (sym (c.add_bits.ensures.bits p) ∙ h)) [
+    | inl mine ↦ c.self.invariant.within p mine
+    | inr theirs ↦ c.other.invariant.within p theirs
+  ];
+}
 
-pub loop-p-preserved : goal.loop-p-preserved
-loop-p-preserved c = AreJoined-next c.args.self.now c.args.other.now c.loop-p.both c.put.new.self c.loop-p.from c.in-Some.p c.loop-p.invariant c.in-Some.ensures.place.2 c.in-Some.ensures.least c.put.ensures.members
+pub invariant_of-result : goal.invariant_of-result
+invariant_of-result c = either_set c
 
 pub returns : goal.returns
-returns c = AreJoined-all c.args.self.now c.args.other.now c.loop-p.both c.loop-p.from c.loop-p.invariant c.in_default.ensures.least
+returns c p =
+    is_among-places_in c.add_bits.new.words (either_set c) p
+    ∙ c.add_bits.ensures.bits p
+    ∙ rw (← c.self.view_is, ← c.other.view_is) (sym (ap₂ (λ a b. a || b) (is_among-places_in c.self.inside.words c.self.invariant p) (is_among-places_in c.other.inside.words c.other.invariant p)))
