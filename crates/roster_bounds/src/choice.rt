@@ -2,7 +2,7 @@
 
 ghost use Rattle.std.specs.Prelude.{◌≡◌, ◌≤◌, ◌⊎◌, IfOk};
 ghost use Rattle.roster_linetable.specs.Person.{IsTableOf};
-ghost use Rattle.roster_bounds.specs.Chosen.{priced_table, AreHalves};
+ghost use Rattle.roster_bounds.specs.Chosen.{AreHalves};
 
 use crate::node::Node;
 use crate::prices::Prices;

@@ -1,6 +1,6 @@
 //! A span as the node of its path, and as a range of lines for each person.
 
-ghost use Rattle.std.specs.Prelude.{◌≡◌, ◌<◌, ◌≤◌, ℕ, IfOk, List, MatchOption, length};
+ghost use Rattle.std.specs.Prelude.{◌≡◌, ◌<◌, ℕ, IfOk, List, MatchOption, length};
 ghost use Rattle.roster_model.specs.Rosters.{IsLegalRoster};
 ghost use Rattle.roster_linetable.specs.Person.{IsTableOf};
 ghost use Rattle.roster_bounds.specs.Chosen.{HasLines};

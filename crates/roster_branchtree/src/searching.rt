@@ -1,9 +1,8 @@
 //! The search of a span.
 
-ghost use Rattle.std.specs.Prelude.{◌≡◌, ◌<◌, ℕ, true, IfErr, IfOk, List, MatchBool, Some, length, unwrap_or};
+ghost use Rattle.std.specs.Prelude.{◌≡◌, ◌<◌, true, IfErr, IfOk, MatchBool, Some, length, unwrap_or};
 ghost use Rattle.std.specs.Arc.{arc_value};
 ghost use Rattle.roster_linetable.specs.Person.{IsTableOf};
-ghost use Rattle.roster_model.specs.Rosters.{key_le, key_of, IsLegalRoster};
 ghost use Rattle.roster_model.specs.Settled.{IsHeld, IsNotAfter, Settles};
 ghost use Rattle.roster_bounds.specs.Chosen.{priced_table};
 ghost use Rattle.roster_branchtree.specs.Spans.{AreLineNumbers};

@@ -1,6 +1,6 @@
 //! What is seen on the way of a search.
 
-ghost use Rattle.std.specs.Prelude.{◌≡◌, ◌<◌, true, not, IfOk, IfSome, IsTrue, MatchOption};
+ghost use Rattle.std.specs.Prelude.{◌≡◌, ◌<◌, true, IfOk, IfSome, IsTrue, MatchOption};
 ghost use Rattle.std.specs.Arc.{arc_value};
 ghost use Rattle.roster_linetable.specs.Person.{IsTableOf};
 ghost use Rattle.roster_model.specs.Rosters.{key_le};

@@ -298,7 +298,7 @@ module _ (stepped : Stepped) (p : ℕ) (ordered : IsInOrder stepped.loads.proble
 
 -- what the fixed duties leave
 pub rooms-fixed : (problem : Problem) (k : ℕ) (days : Days) (list : List Duty) (year eleven : ℕ) (rooms : List ℕ) → rooms ≡ map (room_of days list year eleven) (judged_sums days) → days ≡ (home_of problem k).days → list ≡ duty_list problem k [] → year ≡ year_of problem k → eleven ≡ eleven_of problem k → AreRoomsOf problem k [] rooms
-rooms-fixed problem k days list year eleven rooms is same_days same_list same_year same_eleven =
+rooms-fixed problem k _ list year eleven rooms is same_days same_list same_year same_eleven =
     is
     ∙ ap (λ (d : Days). map (room_of d list year eleven) (judged_sums d)) same_days
     ∙ ap (λ (l : List Duty). map (room_of (home_of problem k).days l year eleven) (judged_sums (home_of problem k).days)) same_list
@@ -307,7 +307,7 @@ rooms-fixed problem k days list year eleven rooms is same_days same_list same_ye
 
 pub year-of_person : (problem : Problem) (k : ℕ) (person : Person) → slice_get problem.persons k ≡ Some person
     → (person.year ≡ year_of problem k) × (person.eleven ≡ eleven_of problem k)
-year-of_person problem k person at = (
+year-of_person _ k person at = (
   sym (ap (λ (o : Option Person). unwrap_or (option_map (λ p. p.year) o) 0) at),
   sym (ap (λ (o : Option Person). unwrap_or (option_map (λ p. p.eleven) o) 0) at),
 )

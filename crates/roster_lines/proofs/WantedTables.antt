@@ -1,7 +1,7 @@
 -- Tables of the lines that are wanted, one person after another.
 use Rattle.std.proofs.Common.{◌≡◌, ℕ, List, [], ◌∷◌, ◌++◌, length, Some, sym, subst, ◌∙◌}
 use Rattle.std.specs.Prelude.{slice_get}
-use Rattle.std.proofs.lemmas.Option.{none-some, same_Some}
+use Rattle.std.proofs.lemmas.Option.{same_Some}
 use Rattle.roster_model.specs.Problem.{Problem}
 use Rattle.roster_model.proofs.PushLemmas.{each-push}
 use Rattle.roster_linetable.specs.Entries.{Entry, sets_of}
@@ -23,10 +23,4 @@ AreAllWanted-push {X} wants problem wanted table lines x all at here = record {
       (λ k some there y mine. all.each k some y there mine)
       (λ y mine. subst (λ z. AreWantedLines problem (length table) (wants z problem (length table)) (sets_of lines)) (same_Some _ _ (sym at ∙ mine)) here)
       k some there y mine;
-}
-
--- of nobody
-pub AreAllWanted-none : {X : Type 0} (wants : X → Problem → ℕ → List ℕ → Type 0) (problem : Problem) (wanted : List X) → AreAllWanted wants problem wanted []
-AreAllWanted-none wants problem wanted = record {
-  each = λ k lines x there mine. absurd (none-some _ there);
 }

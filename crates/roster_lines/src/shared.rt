@@ -1,6 +1,6 @@
 //! The lines of all persons, by several threads.
 
-ghost use Rattle.std.specs.Prelude.{◌≡◌, ◌<◌, All, IfErr, IfOk, length};
+ghost use Rattle.std.specs.Prelude.{◌<◌, All, IfErr, IfOk};
 ghost use Rattle.roster_linetable.specs.Person.{IsTableOf};
 ghost use Rattle.roster_lines.specs.Made.{AreMadeFor, AreMadeOf};
 ghost use Rattle.roster_lines.specs.TableFaults.{IsTableFaultOf};

@@ -1,7 +1,7 @@
 //! The lines of a person.
 
-ghost use Rattle.std.specs.Prelude.{◌≡◌, ◌<◌, ◌≤◌, ◌↔◌, ◌++◌, ◌∷◌, ℕ, false, true, [], List, All, IfOk};
-ghost use Rattle.std.specs.Prelude.{IsTrue, OnOk, Some, length, slice_get};
+ghost use Rattle.std.specs.Prelude.{◌≡◌, ◌<◌, ◌≤◌, ◌↔◌, ◌++◌, ◌∷◌, ℕ, false, [], List, All, IfOk};
+ghost use Rattle.std.specs.Prelude.{OnOk, Some, length, slice_get};
 ghost use Rattle.roster_model.specs.Lines.{AreOrdered};
 ghost use Rattle.roster_model.specs.Places.{places_le};
 ghost use Rattle.roster_linetable.specs.Entries.{costs_of, entry_of, longer, set_at, sets_of, IsCut};

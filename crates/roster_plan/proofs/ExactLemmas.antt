@@ -1,9 +1,9 @@
 -- Why a search of the lines of cheap rosters speaks of all rosters.
-use Rattle.std.proofs.Common.{◌≡◌, ℕ, true, List, sym, subst, inl, inr, arith, ℤ, pos, ◌+ℤ◌, ◌<ℤ◌, ◌≤ℤ◌}
+use Rattle.std.proofs.Common.{ℕ, List, subst, inl, inr, arith, ℤ, pos, ◌+ℤ◌, ◌<ℤ◌, ◌≤ℤ◌}
 use Rattle.std.proofs.lemmas.Int.{ints}
 use Rattle.roster_model.specs.Costs.{cost_of}
 use Rattle.roster_model.specs.Problem.{Problem}
-use Rattle.roster_model.specs.Rosters.{Key, key_le, key_of}
+use Rattle.roster_model.specs.Rosters.{Key, key_of}
 use Rattle.roster_model.specs.Settled.{Anywhere, IsBest, IsHeld, IsLowerBound, IsNotAfter}
 use Rattle.roster_model.proofs.SettledLemmas.{held-key}
 use Rattle.roster_linetable.specs.Entries.{Entry}
@@ -51,12 +51,6 @@ pub best_is_home_bound : (problem : Problem) (base : ℕ) (key : Key)
     → IsNotAfter problem (IsHome problem base) key → IsHomeBound problem base key.cost
 best_is_home_bound problem base key best places legal home =
     no_dearer key (key_of problem places) (best places legal home)
-
--- nor is any before it
-pub best_is_first : (problem : Problem) (key known : Key) → IsNotAfter problem Anywhere key
-    → IsHeld problem known → key_le key known ≡ true
-best_is_first problem key known best is =
-    subst (λ k. key_le key k ≡ true) (sym (held-key problem known is)) (best known.places is.legal tt)
 
 -- and it is the best of the definitions
 pub is_best : (problem : Problem) (key : Key) → IsHeld problem key → IsNotAfter problem Anywhere key

@@ -146,9 +146,6 @@ is_bound problem base p bound first below places roster home =
 abbrev pub missed_until : Problem → List ℕ → ℕ → ℕ
 missed_until problem places n = sum_by (λ k. missed_target problem k (set_of k places)) (range_with_len 0 n)
 
-pub nobody_misses : (problem : Problem) (places : List ℕ) → pos 0 ≤ℤ pos (missed_until problem places 0)
-nobody_misses problem places = omega (arith, ints)
-
 pub one_misses_more : (problem : Problem) (places : List ℕ) (k : ℕ) (missed more sum : ℤ)
     → missed ≤ℤ pos (missed_until problem places k) → more ≤ℤ pos (missed_target problem k (set_of k places))
     → sum ≤ℤ (missed +ℤ more)

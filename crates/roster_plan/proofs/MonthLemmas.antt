@@ -1,18 +1,15 @@
 -- Months that go on from one another.
-use Rattle.std.proofs.Common.{◌≡◌, ℕ, Some, refl, sym, subst, ◌∙◌, Global, Vec, ℤ, ◌≤ℤ◌}
+use Rattle.std.proofs.Common.{◌≡◌, ℕ, Some, refl, sym, subst, ◌∙◌, ℤ, ◌≤ℤ◌}
 use Rattle.std.specs.Prelude.{slice_get}
 use Rattle.std.proofs.lemmas.Option.{get_or_from_slice_get}
 use Rattle.roster_model.specs.Problem.{Problem}
 use Rattle.roster_model.specs.Rosters.{Key}
 use Rattle.roster_plan.specs.declared.months.Month.{Month}
-use Rattle.roster_plan.specs.declared.known.Planned.{Planned}
 use Rattle.roster_plan.specs.declared.parts.Part.{Part}
-use Rattle.roster_plan.specs.Parts.{AreParts}
-use Rattle.roster_plan.specs.Planned.{IsPlannedFrom}
 use Rattle.roster_plan.specs.Months.{HasBound, IsMonth, IsMonthFrom}
 use Rattle.roster_plan.proofs.PlannedLemmas.{on_from, same_on}
 
--- what goes on from a month goes on from what that goes on from,
+-- what goes on from a month goes on from what that goes on from
 pub month_on : (problem : Problem) (before : Key) (mid month : Month) → IsMonthFrom problem before mid
     → IsMonthFrom problem mid.planned.roster month → IsMonthFrom problem before month
 month_on problem before mid month first then = record {
@@ -20,15 +17,7 @@ month_on problem before mid month first then = record {
   planned = on_from problem before mid.planned month.planned first.planned then.planned;
 }
 
--- so does one whose plan goes on from one that goes on,
-pub month_from : (problem : Problem) (before : Key) (mid planned : Planned) (parts : Vec Part Global)
-    → AreParts problem parts.items → IsPlannedFrom problem before mid
-    → IsPlannedFrom problem mid.roster planned
-    → IsMonthFrom problem before (record { parts = parts; planned = planned })
-month_from problem before mid planned parts are first then =
-    record { parts = are; planned = on_from problem before mid planned first then }
-
--- a month from itself,
+-- a month goes on from itself
 pub month_same : (problem : Problem) (month : Month) → IsMonth problem month
     → IsMonthFrom problem month.planned.roster month
 month_same problem month is = record {
@@ -36,7 +25,7 @@ month_same problem month is = record {
   planned = same_on problem month.planned.roster month.planned is.known refl;
 }
 
--- and one that goes on from another is one
+-- what goes on from a month is one
 pub month_of : (problem : Problem) (before : Key) (month : Month) → IsMonthFrom problem before month
     → IsMonth problem month
 month_of problem before month from = record { parts = from.parts; known = from.planned.known }

@@ -28,13 +28,6 @@ chosen_held problem kept start open_one known legal starts opens from =
     either problem start open_one known (held problem kept start starts legal)
     (held problem (all_open problem) open_one opens (all_open_legal problem)) from
 
--- and so is the earlier one of what is found and of a roster that is held
-pub found_held : (problem : Problem) (found : List ℕ) (best known key : Key) → IsLegalRoster problem found
-    → IsHeld problem known
-    → best ≡ key_of problem found → (key ≡ best) ⊎ (key ≡ known) → IsHeld problem key
-found_held problem found best known key legal is finds from =
-    either problem best known key (held problem found best finds legal) is from
-
 pub planned : (problem : Problem) (given kept : List ℕ) (start open_one known final : Key) (bound : ℤ)
     → IsKeptOf problem given kept → IsHeld problem final → IsLowerBound problem bound
     → start ≡ key_of problem kept → open_one ≡ key_of problem (all_open problem)

@@ -2,11 +2,9 @@
 use Rattle.std.proofs.Common.{◌≡◌, true, sym, subst}
 use Rattle.roster_model.specs.Problem.{Problem}
 use Rattle.roster_model.specs.Rosters.{Key, key_le}
-use Rattle.roster_model.specs.Settled.{Anywhere, IsHeld, IsNotAfter}
 use Rattle.roster_model.proofs.KeyLemmas.{key_le-refl, key_le-trans}
 use Rattle.roster_plan.specs.declared.known.Planned.{Planned}
 use Rattle.roster_plan.specs.Planned.{IsKnown, IsPlannedFrom}
-use Rattle.roster_plan.proofs.ExactLemmas.{best_is_first}
 
 -- what goes on from a plan goes on from what that goes on from
 pub on_from : (problem : Problem) (before : Key) (mid planned : Planned) → IsPlannedFrom problem before mid
@@ -16,7 +14,7 @@ on_from problem before mid planned first then = record {
   kept = key_le-trans planned.roster mid.roster before then.kept first.kept;
 }
 
--- a plan of a roster that isn't after the one before,
+-- a plan of a roster that isn't after the one before
 pub roster_on : (problem : Problem) (before key : Key) (planned : Planned) → IsKnown problem planned
     → planned.roster ≡ key → key_le key before ≡ true → IsPlannedFrom problem before planned
 roster_on problem before key planned known is kept = record {
@@ -24,15 +22,8 @@ roster_on problem before key planned known is kept = record {
   kept = subst (λ k. key_le k before ≡ true) (sym is) kept;
 }
 
--- of the same roster,
+-- and of the same roster
 pub same_on : (problem : Problem) (before : Key) (planned : Planned) → IsKnown problem planned
     → planned.roster ≡ before → IsPlannedFrom problem before planned
 same_on problem before planned known is =
     roster_on problem before before planned known is (key_le-refl before)
-
--- and of the best one
-pub best_on : (problem : Problem) (before key : Key) (planned : Planned) → IsKnown problem planned
-    → planned.roster ≡ key → IsNotAfter problem Anywhere key → IsHeld problem before
-    → IsPlannedFrom problem before planned
-best_on problem before key planned known is best held =
-    roster_on problem before key planned known is (best_is_first problem key before best held)

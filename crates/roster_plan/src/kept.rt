@@ -3,7 +3,7 @@
 ghost use Rattle.std.specs.Prelude.{◌≡◌, ◌<◌, ◌≤◌, All, IfOk, length};
 ghost use Rattle.roster_model.specs.Plans.{IsKeptOf};
 ghost use Rattle.roster_model.specs.Rosters.{IsLegalRoster};
-ghost use Rattle.roster_plan.specs.Kept.{AreKept, IsKeptNext};
+ghost use Rattle.roster_plan.specs.Kept.{IsKeptNext};
 
 use roster_legal::Judge;
 use roster_problem::{Problem, open_number};

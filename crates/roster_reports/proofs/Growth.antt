@@ -1,5 +1,5 @@
 -- How a roster grows, pairing by pairing and person by person.
-use Rattle.std.proofs.Common.{◌≡◌, ℕ, ◌+◌, ◌<◌, ◌≤◌, List, Some, length, sym, ap, ◌∙◌, subst, inl, inr, arith, refl, get_or}
+use Rattle.std.proofs.Common.{◌≡◌, ℕ, ◌+◌, ◌<◌, List, Some, length, sym, ap, ◌∙◌, subst, inl, inr, arith, get_or}
 use Rattle.std.specs.Prelude.{All, map, option_map, slice_get}
 use Rattle.std.proofs.lemmas.Bool.{cases_eq}
 use Rattle.std.proofs.lemmas.List.Elements.{All-get_or}
@@ -7,16 +7,6 @@ use Rattle.std.proofs.lemmas.Option.{get_or_from_slice_get, same_Some, slice_get
 use Rattle.roster_model.specs.Problem.{Problem}
 use Rattle.roster_reports.specs.Given.{GivesPairing, Grows, HasFirst, HasGiven, HasNames, HasPairing, IsAmongNames, IsGivenFirst, IsPairing}
 use Rattle.roster_reports.specs.Text.{Given}
-
--- nothing is given yet
-pub same_roster : (problem : Problem) (Gives : ℕ → ℕ → Type 0) (places : List ℕ)
-    → All (λ x. x ≤ length problem.persons) places → Grows problem Gives places places
-same_roster problem Gives places numbers = record {
-  covers = refl;
-  numbers = numbers;
-  keeps = λ p k few at. at;
-  only = λ p k few at. inl at;
-}
 
 -- what is given first and what is given then are given
 pub then_grows : (problem : Problem) (First Then Gives : ℕ → ℕ → Type 0) (old mid new : List ℕ)
@@ -49,13 +39,6 @@ pub record AreNamesPut (problem : Problem) (number : ℕ) (names : List (List �
   pub grows : Grows problem (λ p k. (k ≡ number) × IsAmongNames problem names count p) old new
   pub has : HasNames problem new number names count
 
-pub no_names : (problem : Problem) (number : ℕ) (names : List (List ℕ)) (places : List ℕ)
-    → All (λ x. x ≤ length problem.persons) places → AreNamesPut problem number names 0 places places
-no_names problem number names places numbers = record {
-  grows = same_roster problem (λ p k. (k ≡ number) × IsAmongNames problem names 0 p) places numbers;
-  has = λ i name below at. absurd (omega (arith, below));
-}
-
 among_more : (problem : Problem) (names : List (List ℕ)) (count p : ℕ) → IsAmongNames problem names count p
     → IsAmongNames problem names (count + 1) p
 among_more problem names count p among = (among.0, among.1, omega (arith, among.2), among.3, among.4)
@@ -87,13 +70,6 @@ next_name problem number names count name old mid new few at put grows has = rec
 pub record AreFirstPut (problem : Problem) (list : List Given) (count : ℕ) (old new : List ℕ) : Type 0 where
   pub grows : Grows problem (IsGivenFirst problem list count) old new
   pub has : HasFirst problem new list count
-
-pub none_put : (problem : Problem) (list : List Given) (places : List ℕ)
-    → All (λ x. x ≤ length problem.persons) places → AreFirstPut problem list 0 places places
-none_put problem list places numbers = record {
-  grows = same_roster problem (IsGivenFirst problem list 0) places numbers;
-  has = λ i given below at. absurd (omega (arith, below));
-}
 
 first_more : (problem : Problem) (list : List Given) (count p k : ℕ) → IsGivenFirst problem list count p k
     → IsGivenFirst problem list (count + 1) p k

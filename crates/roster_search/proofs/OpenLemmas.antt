@@ -1,9 +1,7 @@
 -- Open nodes of a search.
-use Rattle.std.proofs.Common.{◌≡◌, ℕ, ◌<◌, ◌⊎◌, inl, inr, All, MatchOption, List, [], ◌∷◌, ◌++◌, reverse, Option, Some, None, ℤ, sym, subst, arith}
+use Rattle.std.proofs.Common.{◌≡◌, ℕ, ◌<◌, ◌⊎◌, inl, inr, All, MatchOption, List, [], ◌∷◌, ◌++◌, Option, Some, None, ℤ, sym, subst, arith}
 use Rattle.std.proofs.lemmas.Int.{ints}
-use Rattle.std.proofs.lemmas.List.{reverse-append, reverse-reverse}
-use Rattle.std.proofs.lemmas.List.Elements.{All-append, All-pop, All-push}
-use Rattle.std.proofs.lemmas.List.Sorted.{All-permutation, IsPermutation-reverse}
+use Rattle.std.proofs.lemmas.List.Elements.{All-pop, All-push}
 use Rattle.roster_model.specs.Costs.{cost_of}
 use Rattle.roster_model.specs.Problem.{Problem}
 use Rattle.roster_model.specs.Rosters.{Key}
@@ -54,15 +52,6 @@ some_cases problem xs x places is =
     ]
 
 -- ---- what is left to search
-
--- at first all is
-pub open_same : (problem : Problem) (most : ℤ) (left : List Region) → All (IsRegion problem) left
-    → AreOpenOf problem (IsInSome problem left) most left
-open_same problem most left are = record {
-  are = are;
-  inside = λ places is. is;
-  all = λ places is _. is;
-}
 
 -- what is left of what is left
 pub open_then : (problem : Problem) (Rosters : List ℕ → Type 0) (most : ℤ) (mid new : List Region)
@@ -171,16 +160,6 @@ open_one problem most node nodes same is =
       inside = λ places there. elim there [ inl here ↦ here | inr none ↦ absurd none ];
       all = λ places here _. inl here;
     })
-
--- what is found at last
-pub found_at_last : (problem : Problem) (Rosters : List ℕ → Type 0) (most : ℤ) (nodes : List Region) (found : Option Key) → AreOpenOf problem Rosters most nodes → IsFoundWithin problem (IsInSome problem nodes) most found → IsFoundWithin problem Rosters most found
-found_at_last problem Rosters most nodes (Some key) are found =
-    found_then problem Rosters most nodes key are found
-found_at_last problem Rosters most nodes None are none =
-    λ others legal inside. elim (cost_cases most (cost_of problem others)) [
-      | inl cheap ↦ none others legal (are.all others inside cheap)
-      | inr more ↦ more
-    ]
 
 -- what prices and a branch make of it
 pub parted_by : (problem : Problem) (k p : ℕ) (most : ℤ) (old mid having others : Region)

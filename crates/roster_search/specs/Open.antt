@@ -1,7 +1,7 @@
 -- Open nodes of a search: parts of a region that are still to be searched.
 use Rattle.std.specs.Prelude.{ℕ, ◌<◌, ◌⊎◌, All, List, [], ◌∷◌, ℤ}
 use Rattle.roster_model.specs.Problem.{Problem}
-use Rattle.roster_model.specs.Settled.{IsFoundWithin, IsWithinCost}
+use Rattle.roster_model.specs.Settled.{IsFoundWithin}
 use Rattle.roster_regions.specs.Regions.{size_of, IsIn, IsRegion, Region}
 use Rattle.roster_narrowing.specs.Bounds.{CostsAtMost}
 use Rattle.roster_search.specs.declared.visiting.Visited.{Visited}

@@ -1,6 +1,6 @@
 //! Open nodes of which the last one is visited first.
 
-ghost use Rattle.std.specs.Prelude.{◌≡◌, All, IfOk, MatchOption};
+ghost use Rattle.std.specs.Prelude.{All, IfOk, MatchOption};
 ghost use Rattle.roster_model.specs.Settled.{IsWithinCost};
 ghost use Rattle.roster_regions.specs.Regions.{IsRegion};
 ghost use Rattle.roster_search.specs.Open.{AreOpenOf, IsInSome};

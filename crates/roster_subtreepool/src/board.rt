@@ -1,6 +1,6 @@
 //! Where each span of a pool is.
 
-ghost use Rattle.std.specs.Prelude.{◌≡◌, ◌<◌, ◌↔◌, ◌∷◌, ◌++◌, [], ℕ, All, IfErr, IfOk, IsTrue, None, OnErr};
+ghost use Rattle.std.specs.Prelude.{◌≡◌, ◌<◌, ◌↔◌, ◌∷◌, ◌++◌, [], All, IfOk, IsTrue, None, OnErr};
 ghost use Rattle.std.specs.Prelude.{Some, length, replicate, slice_get};
 ghost use Rattle.roster_subtreepool.specs.Refusals.{descend_fault, halve_fault, hand_fault, is_free, is_held};
 ghost use Rattle.roster_subtreepool.specs.Refusals.{is_same, take_fault};

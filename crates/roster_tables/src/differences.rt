@@ -1,6 +1,6 @@
 //! What differs between two rosters.
 
-ghost use Rattle.std.specs.Prelude.{◌≡◌, ◌<◌, ◌≤◌, All, length};
+ghost use Rattle.std.specs.Prelude.{◌≡◌, ◌<◌, length};
 
 use crate::sums::{NAMES, Sums, sums_of};
 use roster_cost::roster_cost;

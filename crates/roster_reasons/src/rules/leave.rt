@@ -1,6 +1,6 @@
 //! Duties in a leave.
 
-ghost use Rattle.std.specs.Prelude.{◌≡◌, ◌<◌, true, MatchOption, length};
+ghost use Rattle.std.specs.Prelude.{◌≡◌, ◌<◌, true, MatchOption};
 ghost use Rattle.roster_model.specs.Calendar as calendar;
 ghost use Rattle.roster_model.specs.Problem.{leaves_of};
 ghost use Rattle.roster_model.specs.Rules.Leave.{IsOffLeave, KeepsLeave};

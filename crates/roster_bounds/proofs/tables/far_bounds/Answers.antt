@@ -1,4 +1,4 @@
-use Rattle.std.proofs.Common.{ℕ, ◌<◌, length, replicate, List, ℤ, pos, sym, ap, ap₂, ◌∙◌, subst}
+use Rattle.std.proofs.Common.{ℕ, length, replicate, List, ℤ, pos, sym, ap, ap₂, ◌∙◌, subst}
 use Rattle.std.proofs.lemmas.List.{length-replicate, get_or-replicate}
 use Rattle.roster_model.specs.Problem.{Problem}
 use Rattle.roster_bounds.specs.Amounts.{AreReduced}
