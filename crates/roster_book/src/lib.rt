@@ -2,7 +2,7 @@
 //!
 //! `read_book` reads records until their end or their first fault, and answers the problem of the
 //! book with the roster that its assignments give and its steps, or that fault. Values are those of
-//! `roster_problem`, given again here. In reading order:
+//! `roster_problem` and `roster_values`, given again here. In reading order:
 //!
 //! - `code`: what may be wrong with a record
 //! - `refusal`: why a record isn't taken
