@@ -1,4 +1,4 @@
-//! Open nodes, which threads explore until one of them has nothing left.
+//! Open nodes, which threads explore until one finds a roster or has nothing left, or others are idle.
 
 ghost use Rattle.std.specs.Prelude.{◌<◌, ◌++◌, All, IfOk, List, ℤ};
 ghost use Rattle.std.specs.Thread.{IsSync};

@@ -42,7 +42,7 @@ fn sum_of(values: &[i64]) -> i64
     sum
 }
 
-/// The bound that persons' values and pairings' terms make. There are fewer persons than pairings, and a
+/// The bound that persons' values and pairings' terms make. There are at most `MOST_PERSONS` values, and a
 /// term is much smaller than a value, so two such sums and a limit fit a word.
 pub(crate) fn sum_of_both(values: &[i64], terms: &[i64]) -> i64
     requires persons { length values.now ≤ MOST_PERSONS }

@@ -184,8 +184,8 @@ fn tighten_once(
     }
 }
 
-/// Takes away what no roster that costs at most so much has: lines, and open or flown pairings. It
-/// answers no if there is no such roster in the region.
+/// Takes away what no roster that costs at most so much has: lines, and open or flown pairings. If it
+/// answers no, the region has no such roster.
 pub fn tighten(
     alloc: Global,
     problem: &Problem,
@@ -211,7 +211,7 @@ pub fn tighten(
     Ok(true)
 }
 
-/// What the parts add at least, and what a cost leaves over; none if every roster costs more.
+/// What the parts add at least, and what a cost leaves over; if it answers none, every roster costs more.
 fn bounds_of(
     alloc: Global,
     problem: &Problem,

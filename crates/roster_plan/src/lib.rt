@@ -5,7 +5,8 @@
 //! `plan` begins with what is legal of a given roster, improves it by a fixed number of random changes, then
 //! by searches of neighbourhoods. Prices bound what the base costs, and what costs little more is searched.
 //! `plan` promises neither the best roster nor a near one: each step keeps the roster legal, and the result
-//! is the earliest of what was given, of no pairings at all, and of what was found. In reading order:
+//! is the earliest of what is kept of the given one, of no pairings at all, and of what was found. In reading
+//! order:
 //!
 //! - `kept`: what is legal of a given roster
 //! - `means`: what a plan may take

@@ -25,7 +25,8 @@ const FEWEST_WORK: u64 = 1 << 19;
 /// What a plan may take. It is the same plan for any number of workers.
 #[derive(Clone, Copy)]
 pub struct Means {
-    /// How much is tried, from 0 to 9: each one more doubles it. What is more counts as 9.
+    /// How much is tried, from 0 to 9: each one more doubles the changes of a run and what a search of a
+    /// base or of gaps may look at, and adds neighbourhoods and looks at prices. What is more counts as 9.
     pub effort: u32,
     /// So many threads at most, and one at least, share what is done for
     /// each person, runs of changes, and searches.

@@ -106,9 +106,10 @@ impl<'a> PricedBound<'a> {
 
     /// Raises the bound by so many looks at other prices. Each look lists the chains that cost least, and the
     /// next prices are the best ones for all chains that are known: column generation, with prices kept near
-    /// those of the best look. It ends before so many looks if many in a row say no more, or if the bound is
-    /// what a known roster costs. So many threads at most share the persons of a look, and each number of
-    /// them gives the same bound.
+    /// those of the best look. If many looks in a row say no more, looks list lines from then on. It ends
+    /// before so many looks if many in a row say no more by lines too, or if the bound is what a known roster
+    /// costs. So many threads at most share the persons of a look, and each number of them gives the same
+    /// bound.
     pub fn raise<R: Threads + Sync>(
         &mut self,
         rt: &R,

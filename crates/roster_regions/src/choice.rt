@@ -9,8 +9,8 @@ pub const MOST_EXTRA: u64 = 1 << 52;
 /// A dual price, at most, and below 0, in parts of a cost unit.
 pub const MOST_PRICE: u64 = 1 << 42;
 
-/// What a line costs more than the empty one less the prices of its pairings, at most, in parts of a cost
-/// unit.
+/// What a line costs more than the empty one less the prices of its pairings, at most, and below 0, in parts
+/// of a cost unit.
 pub const MOST_VALUE: u64 = 1 << 53;
 
 /// A line of a person, by what it has behind the one before: its first pairings are as many of those of

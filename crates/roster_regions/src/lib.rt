@@ -1,5 +1,5 @@
 //! Regions of rosters: for each person some of their lines, and for each pairing whether it may be open; and
-//! dual prices of pairings.
+//! dual prices of pairings. In reading order:
 //!
 //! - `choice`: a step in the tree of a person's lines
 //! - `parts`: costs in parts of a cost unit

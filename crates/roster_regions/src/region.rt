@@ -21,8 +21,8 @@ use std::marker::Model;
 
 /// Some rosters: for each person the lines that are allowed, and which pairings must be open and which
 /// must not. Costs are in parts of a cost unit, and those of a line are what it costs more than the
-/// person's empty one. All lines of a person stay in the table. A copy takes little memory, since lines
-/// are shared until one of the two changes.
+/// person's empty one. Lines stay in the table if many of a person's are left, and few are copied. A copy of
+/// a region takes little memory, since lines are shared until one of the two changes.
 #[derive(Drop)]
 pub struct Region {
     pub(crate) persons: Vec<Shared>,
@@ -52,7 +52,7 @@ impl Model for Region {
 }
 
 impl Region {
-    /// How many parts a cost unit is counted in, from 1 to `MOST_SCALE`.
+    /// How many parts a cost unit is counted in, at most `MOST_SCALE`.
     pub fn scale(&self) -> u32
         ensures value { result ≡ self.now.scale }
         ensures bound { result ≤ MOST_SCALE }

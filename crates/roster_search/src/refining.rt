@@ -80,8 +80,8 @@ fn end_or_part(
     Ok(None)
 }
 
-/// Leaves out of the region what costs more than it may by the prices, if that is worth its time. False
-/// if each roster costs more.
+/// Leaves out of the region what costs more than it may by the prices, if that is worth its time. If it
+/// answers no, each roster costs more.
 fn fix(
     alloc: Global,
     problem: &Problem,
@@ -103,7 +103,8 @@ fn fix(
 }
 
 /// Leaves out of a region of many lines what costs more than it may by the prices, before they are looked
-/// at: that is cheaper than a look, and often leaves little to look at. False if each roster costs more.
+/// at: that is cheaper than a look, and often leaves little to look at. If it answers no, each roster costs
+/// more.
 fn fix_first(
     alloc: Global,
     problem: &Problem,
@@ -120,7 +121,8 @@ fn fix_first(
     fix_by_prices(alloc, problem, region, ascent, most)
 }
 
-/// Leaves out of the region what costs more than it may by the prices. False if each roster costs more.
+/// Leaves out of the region what costs more than it may by the prices. If it answers no, each roster costs
+/// more.
 fn fix_by_prices(
     alloc: Global,
     problem: &Problem,
