@@ -1,5 +1,5 @@
 -- One bit of some words: read, set, and the first from one on.
-use Rattle.std.proofs.Common.{◌≡◌, ℕ, zero, suc, ◌+◌, ◌-◌, ◌*◌, ◌/◌, ◌%◌, ◌^◌, ◌<◌, ◌≤◌, true, false, ◌&&◌, ◌||◌, eqb, eq-eqb, List, [], length, get_or, set, refl, sym, ap, ◌∙◌, subst, inl, inr, arith, bit_and, bit_or, ap₂, w64, lit<}
+use Rattle.std.proofs.Common.{◌≡◌, ℕ, zero, suc, ◌+◌, ◌-◌, ◌*◌, ◌/◌, ◌%◌, ◌^◌, ◌<◌, ◌≤◌, Bool, true, false, ◌&&◌, ◌||◌, eqb, eq-eqb, List, [], length, get_or, set, refl, sym, ap, ◌∙◌, subst, inl, inr, arith, bit_and, bit_or, ap₂, w64, lit<}
 use Rattle.std.specs.Prelude.{All, Option, Some, None, max, min, replicate}
 use Rattle.std.specs.Int.{bit_at, trailing_zeros}
 use Rattle.std.proofs.Math.Bool.{or-false, or-true}
@@ -246,16 +246,6 @@ one_of_both (suc zero) (suc zero) l m = refl
 one_of_both (suc zero) (suc (suc b)) l m = absurd (omega arith)
 one_of_both (suc (suc a)) b l m = absurd (omega arith)
 
--- a bit of words that have the bits of both
-pub bit_of_both : (words others both : List ℕ) (p : ℕ)
-    → get_or both (p / 64) 0 ≡ bit_and (get_or words (p / 64) 0) (get_or others (p / 64) 0)
-    → has_bit both p ≡ (has_bit words p && has_bit others p)
-bit_of_both words others both p word =
-    let bit : ℕ = p % 64 in
-    ap (λ w. eqb (bit_at w bit) 1) word
-    ∙ ap (λ n. eqb n 1) (bit_at_and (get_or words (p / 64) 0) (get_or others (p / 64) 0) bit)
-    ∙ one_of_both _ _ (bit_at-lt (get_or words (p / 64) 0) bit) (bit_at-lt (get_or others (p / 64) 0) bit)
-
 one_of_either : (a b : ℕ) → a < 2 → b < 2 → eqb (max a b) 1 ≡ (eqb a 1 || eqb b 1)
 one_of_either zero zero l m = refl
 one_of_either zero (suc zero) l m = refl
@@ -265,12 +255,23 @@ one_of_either (suc zero) (suc zero) l m = refl
 one_of_either (suc zero) (suc (suc b)) l m = absurd (omega arith)
 one_of_either (suc (suc a)) b l m = absurd (omega arith)
 
--- a bit of words that have the bits of either
+-- a bit of words that are made of two words each, if bits are made of bits
+bit_of_combined : (op bit : ℕ → ℕ → ℕ) (test : Bool → Bool → Bool)
+    → ((a b n : ℕ) → bit_at (op a b) n ≡ bit (bit_at a n) (bit_at b n))
+    → ((a b : ℕ) → a < 2 → b < 2 → eqb (bit a b) 1 ≡ test (eqb a 1) (eqb b 1))
+    → (words others made : List ℕ) (p : ℕ)
+    → get_or made (p / 64) 0 ≡ op (get_or words (p / 64) 0) (get_or others (p / 64) 0)
+    → has_bit made p ≡ test (has_bit words p) (has_bit others p)
+bit_of_combined op bit test bits tests words others made p word =
+    ap (λ w. eqb (bit_at w (p % 64)) 1) word ∙ ap (λ n. eqb n 1) (bits _ _ (p % 64))
+    ∙ tests _ _ (bit_at-lt (get_or words (p / 64) 0) (p % 64)) (bit_at-lt (get_or others (p / 64) 0) (p % 64))
+
+pub bit_of_both : (words others both : List ℕ) (p : ℕ)
+    → get_or both (p / 64) 0 ≡ bit_and (get_or words (p / 64) 0) (get_or others (p / 64) 0)
+    → has_bit both p ≡ (has_bit words p && has_bit others p)
+bit_of_both = bit_of_combined bit_and min (λ a b. a && b) bit_at_and one_of_both
+
 pub bit_of_either : (words others either : List ℕ) (p : ℕ)
     → get_or either (p / 64) 0 ≡ bit_or (get_or words (p / 64) 0) (get_or others (p / 64) 0)
     → has_bit either p ≡ (has_bit words p || has_bit others p)
-bit_of_either words others either p word =
-    let bit : ℕ = p % 64 in
-    ap (λ w. eqb (bit_at w bit) 1) word
-    ∙ ap (λ n. eqb n 1) (bit_at_or (get_or words (p / 64) 0) (get_or others (p / 64) 0) bit)
-    ∙ one_of_either _ _ (bit_at-lt (get_or words (p / 64) 0) bit) (bit_at-lt (get_or others (p / 64) 0) bit)
+bit_of_either = bit_of_combined bit_or max (λ a b. a || b) bit_at_or one_of_either
