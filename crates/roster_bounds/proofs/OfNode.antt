@@ -7,7 +7,7 @@ use Rattle.roster_model.specs.Places.{set_of}
 use Rattle.roster_model.proofs.PlacesLemmas.{is_among-set_of_past}
 use Rattle.roster_model.specs.Rules.{is_among}
 use Rattle.roster_model.proofs.PlacesParts.{in_set_of_number, number_from_set_of}
-use Rattle.roster_linetable.specs.Entries.{Entry}
+use Rattle.roster_lines_table.specs.Entries.{Entry}
 use Rattle.roster_bounds.specs.Chosen.{line_set, is_placed, penalty_at, penalty_or_price, placing_person, price_at, ChosenLines, HasLines, IsNode, IsOfNode, Meets, PricedTable}
 use Rattle.roster_bounds.proofs.PricedLines.{line_set-at}
 use Rattle.roster_bounds.proofs.Placing.{placed_from, placed_has, placing_most}

@@ -6,8 +6,8 @@ use Rattle.std.proofs.lemmas.Int.{ints}
 use Rattle.std.proofs.lemmas.List.{drop_more, length-append}
 use Rattle.std.proofs.lemmas.Option.{same_Some, slice_get_within}
 use Rattle.roster_model.specs.Rules.{is_among}
-use Rattle.roster_linetable.specs.Entries.{Entry}
-use Rattle.roster_linetable.specs.Person.{lines_at}
+use Rattle.roster_lines_table.specs.Entries.{Entry}
+use Rattle.roster_lines_table.specs.Person.{lines_at}
 use Rattle.roster_bounds.specs.Amounts.{AreReduced}
 use Rattle.roster_bounds.specs.Chosen.{line_set, is_placed, placing_person, reduced_at, reduced_costs, AreApart, IsNode, Meets, PricedTable}
 

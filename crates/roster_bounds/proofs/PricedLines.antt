@@ -15,9 +15,9 @@ use Rattle.roster_model.proofs.SetLemmas.{length_within}
 use Rattle.roster_problem.specs.Sound.{IsSound}
 use Rattle.roster_cost.specs.Amounts.{IsWithin, most_units}
 use Rattle.roster_cost.proofs.Fits.{total-within, within_more}
-use Rattle.roster_linetable.specs.Entries.{Entry, costs_of, sets_of}
-use Rattle.roster_linetable.specs.Person.{lines_at, IsTableOf}
-use Rattle.roster_linetable.proofs.TableLemmas.{all_lines_in_table, whole_table-at}
+use Rattle.roster_lines_table.specs.Entries.{Entry, costs_of, sets_of}
+use Rattle.roster_lines_table.specs.Person.{lines_at, IsTableOf}
+use Rattle.roster_lines_table.proofs.TableLemmas.{all_lines_in_table, whole_table-at}
 use Rattle.roster_bounds.specs.declared.prices.TheConstants.{MOST_PRICE}
 use Rattle.roster_bounds.specs.Amounts.{AreReduced, most_prices}
 use Rattle.roster_bounds.specs.Chosen.{line_set, price_at}

@@ -8,8 +8,8 @@ use Rattle.roster_model.specs.Rules.{is_among}
 use Rattle.roster_model.specs.Costs.{total}
 use Rattle.roster_cost.specs.Priced.{reduced_cost}
 use Rattle.roster_bounds.specs.Amounts.{AreReduced}
-use Rattle.roster_linetable.specs.Entries.{Entry, set_at, sets_of}
-use Rattle.roster_linetable.specs.Person.{lines_at, IsTableOf}
+use Rattle.roster_lines_table.specs.Entries.{Entry, set_at, sets_of}
+use Rattle.roster_lines_table.specs.Person.{lines_at, IsTableOf}
 
 -- a problem, the lines of its persons, and a price for each pairing
 pub record PricedTable : Type 0 where

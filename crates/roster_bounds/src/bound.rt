@@ -9,7 +9,7 @@ ghost use Rattle.roster_model.specs.Places.{places_le, set_of};
 ghost use Rattle.roster_model.specs.Rosters.{key_le, key_of};
 ghost use Rattle.roster_cost.specs.Amounts.{IsWithin};
 ghost use Rattle.roster_cost.specs.Priced.{penalties_and_prices};
-ghost use Rattle.roster_linetable.specs.Person.{lines_at};
+ghost use Rattle.roster_lines_table.specs.Person.{lines_at};
 ghost use Rattle.roster_bounds.specs.Amounts.{most_prices, AreReduced};
 ghost use Rattle.roster_bounds.specs.Chosen.{line_set, penalty_or_price, price_at, reduced_at, IsOfNode};
 ghost use Rattle.roster_bounds.specs.Chosen.{Meets};

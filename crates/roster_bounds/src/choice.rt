@@ -1,13 +1,13 @@
 //! Which prices to take if none are known.
 
 ghost use Rattle.std.specs.Prelude.{◌≡◌, ◌≤◌, ◌⊎◌, IfOk};
-ghost use Rattle.roster_linetable.specs.Person.{IsTableOf};
+ghost use Rattle.roster_lines_table.specs.Person.{IsTableOf};
 ghost use Rattle.roster_bounds.specs.Chosen.{AreHalves};
 
 use crate::node::Node;
 use crate::prices::Prices;
 use crate::tables::Tables;
-use roster_linetable::Table;
+use roster_lines_table::Table;
 use roster_problem::Problem;
 use std::alloc::{AllocError, Global};
 

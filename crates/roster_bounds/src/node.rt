@@ -3,11 +3,11 @@
 ghost use Rattle.std.specs.Prelude.{◌≡◌, ◌<◌, ◌↔◌, ◌||◌, ◌++◌, ◌∷◌, [], ℕ, IfOk, IsTrue, MatchOption, Some};
 ghost use Rattle.std.specs.Prelude.{length, slice_get, List, ◌≤◌};
 ghost use Rattle.roster_model.specs.Rules.{is_among};
-ghost use Rattle.roster_linetable.specs.Person.{lines_at};
+ghost use Rattle.roster_lines_table.specs.Person.{lines_at};
 ghost use Rattle.roster_bounds.specs.Chosen.{line_set, one_line_more, placing_person, IsOfNode, Meets};
 
 use crate::tables::Tables;
-use roster_linetable::Table;
+use roster_lines_table::Table;
 use roster_model::limits::MOST_PERSONS;
 use roster_values::Set;
 use std::alloc::{AllocError, Global};

@@ -6,13 +6,13 @@ ghost use Rattle.std.specs.List.Sorted.{IsStrictlyIncreasing};
 ghost use Rattle.roster_model.specs.Costs.{line_cost, total};
 ghost use Rattle.roster_cost.specs.Amounts.{most_units};
 ghost use Rattle.roster_cost.specs.Priced.{reduced_cost};
-ghost use Rattle.roster_linetable.specs.Person.{lines_at};
+ghost use Rattle.roster_lines_table.specs.Person.{lines_at};
 ghost use Rattle.roster_bounds.specs.Amounts.{AreReduced};
 ghost use Rattle.roster_bounds.specs.Chosen.{ArePriced, AreSums, IsReducedBound, line_set, price_at};
 
 use crate::prices::{MOST_PRICE, Prices};
 use roster_cost::units_of_set;
-use roster_linetable::Table;
+use roster_lines_table::Table;
 use roster_model::limits::{MOST_PAIRINGS, MOST_UNITS};
 use roster_problem::Problem;
 use std::alloc::{AllocError, Global};

@@ -4,7 +4,7 @@ ghost use Rattle.std.specs.Prelude.{◌≡◌, ◌<◌, ◌≤ℤ◌, IfErr, IfO
 ghost use Rattle.std.specs.Arc.{arc_value};
 ghost use Rattle.roster_model.specs.Lines.{IsLine};
 ghost use Rattle.roster_model.specs.Settled.{Anywhere, IsNotAfter};
-ghost use Rattle.roster_linetable.specs.Person.{lines_at, IsTableOf};
+ghost use Rattle.roster_lines_table.specs.Person.{lines_at, IsTableOf};
 ghost use Rattle.roster_cost.specs.Amounts.{IsWithin};
 ghost use Rattle.roster_bounds.specs.declared.prices.TheConstants.{MOST_PRICE};
 ghost use Rattle.roster_bounds.specs.Amounts.{AreReduced};
@@ -14,7 +14,7 @@ ghost use Rattle.roster_bounds.specs.Chosen.{AreReducedBounds, IsReducedBound, p
 use crate::prices::Prices;
 use crate::reduced::{least_of_any, least_reduced, reduced};
 use roster_cost::comes_before;
-use roster_linetable::Table;
+use roster_lines_table::Table;
 use roster_problem::Problem;
 use roster_values::{Roster, Set};
 use std::alloc::{AllocError, Global};

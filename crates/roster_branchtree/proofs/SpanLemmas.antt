@@ -9,16 +9,16 @@ use Rattle.roster_model.specs.Places.{set_of}
 use Rattle.roster_model.specs.Rosters.{IsLegalRoster, Key}
 use Rattle.roster_model.specs.Settled.{Settles}
 use Rattle.roster_model.proofs.SettledLemmas.{Settles-wider, Settles-within}
-use Rattle.roster_linetable.specs.Entries.{Entry, sets_of}
-use Rattle.roster_linetable.specs.Person.{lines_at, IsTableOf}
+use Rattle.roster_lines_table.specs.Entries.{Entry, sets_of}
+use Rattle.roster_lines_table.specs.Person.{lines_at, IsTableOf}
 use Rattle.roster_bounds.specs.Chosen.{line_set, HasLines, Meets}
-use Rattle.roster_linetable.proofs.Cuts.{one_place}
-use Rattle.roster_linetable.proofs.Numbers.{AreNumbersOf-exist}
-use Rattle.roster_regions.specs.Regions.{IsInRanges}
-use Rattle.roster_linetable.proofs.TableLemmas.{all_lines_in_table, sets_at}
+use Rattle.roster_lines_table.proofs.Cuts.{one_place}
+use Rattle.roster_lines_table.proofs.Numbers.{AreNumbersOf-exist}
+use Rattle.roster_search_regions.specs.Regions.{IsInRanges}
+use Rattle.roster_lines_table.proofs.TableLemmas.{all_lines_in_table, sets_at}
 use Rattle.roster_bounds.proofs.OfNode.{has_line, later_is_apart}
 use Rattle.roster_branchtree.specs.Spans.{range_at, range_or, AreRangesOf}
-use Rattle.roster_spans.specs.Spans.{IsInSpan, Span}
+use Rattle.roster_subtreepool_spans.specs.Spans.{IsInSpan, Span}
 
 -- ---- ranges
 

@@ -1,8 +1,8 @@
 -- The range of lines that a span leaves each person.
 use Rattle.std.specs.Prelude.{◌≡◌, ℕ, ◌<◌, ◌+◌, ◌==◌, if◌then◌else◌, List, Option, Some, None, length, slice_get}
-use Rattle.roster_linetable.specs.Entries.{Entry}
-use Rattle.roster_linetable.specs.Person.{lines_at}
-use Rattle.roster_spans.specs.Spans.{Span}
+use Rattle.roster_lines_table.specs.Entries.{Entry}
+use Rattle.roster_lines_table.specs.Person.{lines_at}
+use Rattle.roster_subtreepool_spans.specs.Spans.{Span}
 
 -- the range of one line number, if there is one
 abbrev pub range_or : Option ℕ → ℕ × ℕ → ℕ × ℕ

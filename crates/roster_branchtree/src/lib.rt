@@ -13,5 +13,5 @@ mod searching;
 mod watch;
 
 pub use roster_incumbent::{Sight, all_left, check};
-pub use roster_spans::{Done, Path, Piece, Span};
+pub use roster_subtreepool_spans::{Done, Path, Piece, Span};
 pub use searching::search;

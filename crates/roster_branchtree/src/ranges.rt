@@ -2,14 +2,14 @@
 
 ghost use Rattle.std.specs.Prelude.{◌≡◌, ◌<◌, ℕ, IfOk, List, MatchOption, length};
 ghost use Rattle.roster_model.specs.Rosters.{IsLegalRoster};
-ghost use Rattle.roster_linetable.specs.Person.{IsTableOf};
+ghost use Rattle.roster_lines_table.specs.Person.{IsTableOf};
 ghost use Rattle.roster_bounds.specs.Chosen.{HasLines};
 ghost use Rattle.roster_branchtree.specs.Spans.{range_at, AreLineNumbers, AreRangesOf};
 
 use roster_bounds::{Node, Tables};
-use roster_linetable::Table;
+use roster_lines_table::Table;
 use roster_problem::Problem;
-use roster_spans::Span;
+use roster_subtreepool_spans::Span;
 use std::alloc::{AllocError, Global};
 
 /// The node of the path: of the legal rosters that give the first persons these lines. There is none if

@@ -2,22 +2,22 @@
 
 ghost use Rattle.std.specs.Prelude.{◌≡◌, ◌<◌, true, IfErr, IfOk, MatchBool, Some, length, unwrap_or};
 ghost use Rattle.std.specs.Arc.{arc_value};
-ghost use Rattle.roster_linetable.specs.Person.{IsTableOf};
+ghost use Rattle.roster_lines_table.specs.Person.{IsTableOf};
 ghost use Rattle.roster_model.specs.Settled.{IsHeld, IsNotAfter, Settles};
 ghost use Rattle.roster_bounds.specs.Chosen.{priced_table};
 ghost use Rattle.roster_branchtree.specs.Spans.{AreLineNumbers};
-ghost use Rattle.roster_spans.specs.Spans.{IsInSpan};
+ghost use Rattle.roster_subtreepool_spans.specs.Spans.{IsInSpan};
 
 use crate::ranges::{node_of, ranges_of};
 use crate::watch::{Watch, earlier_if};
 use roster_bounds::Tables;
 use roster_cost::Key;
 use roster_incumbent::Sight;
-use roster_least::Finder;
-use roster_linetable::{Table, all_lines_are_some};
+use roster_lines_table::{Table, all_lines_are_some};
 use roster_problem::Problem;
 use roster_search::{Nodes, least_of_box};
-use roster_spans::{Done, Piece, Span};
+use roster_search_least::Finder;
+use roster_subtreepool_spans::{Done, Piece, Span};
 use roster_values::Roster;
 use std::alloc::{AllocError, Global};
 use std::sync::Arc;

@@ -2,18 +2,18 @@
 
 ghost use Rattle.std.specs.Prelude.{◌≡◌, ◌<◌, true, IfOk, IfSome, IsTrue, MatchOption};
 ghost use Rattle.std.specs.Arc.{arc_value};
-ghost use Rattle.roster_linetable.specs.Person.{IsTableOf};
+ghost use Rattle.roster_lines_table.specs.Person.{IsTableOf};
 ghost use Rattle.roster_model.specs.Rosters.{key_le};
 ghost use Rattle.roster_model.specs.Settled.{IsHeld};
 ghost use Rattle.roster_incumbent.specs.Kept.{IsEarlierOf};
 
 use roster_cost::{comes_before, keys_are_in_order};
 use roster_incumbent::{Sight, is_held};
-use roster_least::Finder;
-use roster_linetable::Table;
+use roster_lines_table::Table;
 use roster_problem::Problem;
-use roster_regions::{DualPrices, Region};
 use roster_search::{Nodes, OpenNode, find};
+use roster_search_least::Finder;
+use roster_search_regions::{DualPrices, Region};
 use roster_values::Roster;
 use std::alloc::{AllocError, Global};
 use std::marker::Model;
@@ -35,7 +35,7 @@ pub(crate) struct Watch<'a, S> {
 impl<'a, S> Model for Watch<'a, S> {
     ghost use Rattle.std.specs.Prelude.{◌≤◌};
     ghost use Rattle.std.specs.Arc.{arc_value};
-    ghost use Rattle.roster_linetable.specs.Person.{IsTableOf};
+    ghost use Rattle.roster_lines_table.specs.Person.{IsTableOf};
     ghost use Rattle.roster_branchtree.specs.Shown.{Watched};
 
     ghost Value = { Watched };

@@ -1,9 +1,9 @@
 -- Which outcome an exit status stands for.
 use Rattle.std.proofs.Common.{◌≡◌, ℕ, false, nat_eq, eq-eqb, sym, ◌∙◌, refl}
 use Rattle.std.proofs.lemmas.Bool.{false≢true}
-use Rattle.roster_run.specs.Run.{exit_number}
-use Rattle.roster_run.specs.declared.status.Status.{Status}
-use Rattle.roster_run.specs.declared.status.Status.TheVariants as statuses
+use Rattle.roster_cli_run.specs.Run.{exit_number}
+use Rattle.roster_cli_run.specs.declared.status.Status.{Status}
+use Rattle.roster_cli_run.specs.declared.status.Status.TheVariants as statuses
 
 pub differ : (m n : ℕ) → nat_eq m n ≡ false → m ≡ n → ⊥
 differ m n apart same = false≢true (sym apart ∙ eq-eqb m n same)

@@ -6,7 +6,7 @@ use Rattle.roster_model.specs.Record as model
 use Rattle.roster_values.specs.View.{command_of}
 use Rattle.roster_values.specs.declared.command.Command.{Command}
 use Rattle.roster_book.specs.Reading.{OfTold}
-use Rattle.roster_commandline.specs.Line.{command_name, spelling}
+use Rattle.roster_cli_arguments.specs.Line.{command_name, spelling}
 use Rattle.roster_watched.specs.Watch.{inner_of, has_failed}
 use Rattle.roster_watched.specs.declared.watched.Watched.{Watched}
 use Rattle.roster_report.specs.Writing.{AppendsPrefix}

@@ -12,13 +12,13 @@ ghost use Rattle.roster_model.specs.Answer.{IsAnswer, IsRefusal, IsReport};
 ghost use Rattle.roster_values.specs.declared.command.Command as asked;
 ghost use Rattle.roster_watched.specs.Watch.{inner_of, has_failed, is_flushed};
 ghost use Rattle.roster_report.specs.Writing.{AppendsPrefix, Writes, WritesPart};
-ghost use Rattle.roster_run.specs.Run.{exit_number, message_text};
-ghost use Rattle.roster_commandline.specs.Line.{roster_app, command_name, spelling};
+ghost use Rattle.roster_cli_run.specs.Run.{exit_number, message_text};
+ghost use Rattle.roster_cli_arguments.specs.Line.{roster_app, command_name, spelling};
 ghost use Rattle.roster_cli.specs.Program.{OfAsked, TellsLine, no_text, texts_of};
 
+use roster_cli_arguments::{LineFault, read_line};
+use roster_cli_run::{Status, run};
 use roster_combine::Gate;
-use roster_commandline::{LineFault, read_line};
-use roster_run::{Status, run};
 use roster_watched::Watched;
 use std::alloc::Global;
 use std::io;

@@ -2,19 +2,19 @@
 
 ghost use Rattle.std.specs.Prelude.{◌≡◌, ◌+◌, ◌≤◌, All, IfOk, length, map, vec_len};
 ghost use Rattle.std.specs.Arc.{arc_value};
-ghost use Rattle.roster_linetable.specs.Person.{IsTableOf};
+ghost use Rattle.roster_lines_table.specs.Person.{IsTableOf};
 ghost use Rattle.roster_bounds.specs.Chosen.{priced_table};
-ghost use Rattle.roster_workers.specs.Parts.{Agree, AreSettled, IsBestKey};
+ghost use Rattle.roster_combine_workers.specs.Parts.{Agree, AreSettled, IsBestKey};
 
 use roster_bounds::{Tables, choose_tables};
 use roster_branchtree::search;
+use roster_combine_workers::{Gate, Solved, SpanSearch};
 use roster_incumbent::{Incumbent, Sight};
-use roster_linetable::Table;
+use roster_lines_table::Table;
 use roster_problem::Problem;
-use roster_spans::{Done, Piece};
 use roster_subtreepool::{Closed, Pool, Settled, Share};
+use roster_subtreepool_spans::{Done, Piece};
 use roster_values::Roster;
-use roster_workers::{Gate, Solved, SpanSearch};
 use std::alloc::{AllocError, Global};
 use std::marker::Model;
 use std::sync::ledger::Ledger;
@@ -32,9 +32,9 @@ pub(crate) struct Branching<'a> {
 
 impl<'a> Model for Branching<'a> {
     ghost use Rattle.std.specs.Prelude.{◌≡◌};
-    ghost use Rattle.roster_linetable.specs.Person.{IsTableOf};
+    ghost use Rattle.roster_lines_table.specs.Person.{IsTableOf};
     ghost use Rattle.roster_bounds.specs.Chosen.{priced_table};
-    ghost use Rattle.roster_workers.specs.Parts.{Task};
+    ghost use Rattle.roster_combine_workers.specs.Parts.{Task};
 
     ghost Value = { Task };
 
@@ -92,7 +92,7 @@ impl<'a> SpanSearch for Branching<'a> {
     }
 }
 
-/// `roster_workers::work`, whose spans are searched by branch and bound with these tables.
+/// `roster_combine_workers::work`, whose spans are searched by branch and bound with these tables.
 pub fn work<R: Wait, L: Ledger, G: Gate>(
     rt: &R,
     alloc: Global,
@@ -111,12 +111,12 @@ pub fn work<R: Wait, L: Ledger, G: Gate>(
     ensures counted { IfOk result (λ list. share.new ≡ share.old + vec_len list) }
 {
     let searcher = Branching::new(alloc, problem, table, tables);
-    roster_workers::work(
+    roster_combine_workers::work(
         rt, alloc, problem, table, &searcher, pool, incumbent, worker, share, gate,
     )
 }
 
-/// `roster_workers::combine`, which searches by branch and bound if what workers handed in doesn't agree with
+/// `roster_combine_workers::combine`, which searches by branch and bound if what workers handed in doesn't agree with
 /// the pool. The tables for that are made first, so want of memory may be told though all agrees.
 pub fn combine(
     alloc: Global,
@@ -136,5 +136,5 @@ pub fn combine(
 {
     let tables = choose_tables(alloc, problem, table)?;
     let searcher = Branching::new(alloc, problem, table, &tables);
-    roster_workers::combine(alloc, problem, table, &searcher, lists, closed)
+    roster_combine_workers::combine(alloc, problem, table, &searcher, lists, closed)
 }

@@ -2,20 +2,20 @@
 
 ghost use Rattle.std.specs.Prelude.{◌≡◌, ◌<◌, ℕ, IfErr, IfOk, length};
 ghost use Rattle.std.specs.Arc.{arc_value};
-ghost use Rattle.roster_linetable.specs.Person.{IsTableOf};
+ghost use Rattle.roster_lines_table.specs.Person.{IsTableOf};
 ghost use Rattle.roster_model.specs.Lines.{IsCrowded};
-ghost use Rattle.roster_workers.specs.Parts.{IsBestKey};
+ghost use Rattle.roster_combine_workers.specs.Parts.{IsBestKey};
 ghost use Rattle.roster_combine.specs.SolveFaults.{IsSolveFaultOf};
 
 use crate::branching::Branching;
 use crate::search::SolveFault;
 use roster_bounds::choose_tables;
+use roster_combine_workers::{Solved, replay_steps, solved_by_nobody};
 use roster_lines::table_of;
-use roster_linetable::{Table, nobody_is_crowded};
+use roster_lines_table::{Table, nobody_is_crowded};
 use roster_model::limits::MOST_WORKERS;
 use roster_problem::Problem;
 use roster_values::Step;
-use roster_workers::{Solved, replay_steps, solved_by_nobody};
 use std::alloc::{AllocError, Global};
 use std::marker::Brand;
 use std::sync::ledger::Blank;

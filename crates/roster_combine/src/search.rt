@@ -3,14 +3,14 @@
 ghost use Rattle.std.specs.Prelude.{◌≡◌, ◌<◌, ◌≤◌, ℕ, IfErr, IfOk, length};
 ghost use Rattle.std.specs.Arc.{arc_value};
 ghost use Rattle.roster_model.specs.Lines.{IsCrowded};
-ghost use Rattle.roster_workers.specs.Parts.{IsBestKey};
+ghost use Rattle.roster_combine_workers.specs.Parts.{IsBestKey};
 ghost use Rattle.roster_combine.specs.SolveFaults.{IsSolveFaultOf};
 
 use crate::threads::solve_over;
+use roster_combine_workers::{Gate, Solved};
 use roster_lines::{TableFault, all_lines};
-use roster_linetable::nobody_is_crowded;
+use roster_lines_table::nobody_is_crowded;
 use roster_problem::Problem;
-use roster_workers::{Gate, Solved};
 use std::alloc::{AllocError, Global};
 use std::sync::Wait;
 use std::thread::Threads;

@@ -3,17 +3,17 @@
 ghost use Rattle.std.specs.Prelude.{◌≡◌, ◌<◌, ◌≤◌, IfOk, length, unwrap_or};
 ghost use Rattle.std.specs.Arc.{arc_value};
 ghost use Rattle.roster_model.specs.Settled.{IsHeld};
-ghost use Rattle.roster_linetable.specs.Person.{IsTableOf};
+ghost use Rattle.roster_lines_table.specs.Person.{IsTableOf};
 ghost use Rattle.roster_bounds.specs.Chosen.{priced_table};
-ghost use Rattle.roster_workers.specs.Parts.{IsBestKey};
+ghost use Rattle.roster_combine_workers.specs.Parts.{IsBestKey};
 
 use crate::branching::Branching;
-use roster_bases::search_bases;
 use roster_bounds::Tables;
-use roster_linetable::Table;
+use roster_combine_workers::{Gate, Solved, first_known, solved_by_nobody, work_together};
+use roster_lines_table::Table;
 use roster_problem::Problem;
+use roster_search_threads::search_bases;
 use roster_values::Roster;
-use roster_workers::{Gate, Solved, first_known, solved_by_nobody, work_together};
 use std::alloc::{AllocError, Global};
 use std::marker::Brand;
 use std::sync::ledger::Blank;

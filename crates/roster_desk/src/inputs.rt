@@ -1,7 +1,7 @@
 //! What the paths of a command line hold.
 
 use roster_desk_answers::Inputs;
-use roster_desk_commandline::{Question, TellLine};
+use roster_desk_arguments::{Question, TellLine};
 use std::alloc::Global;
 use std::fs::File;
 use std::io;

@@ -15,9 +15,9 @@ ghost use Rattle.roster_watched.specs.Watch.{has_failed};
 
 use inputs::{InputFault, STANDARD_INPUT, read_book_at, read_inputs, read_report_at, shares_input};
 use roster_desk_answers::{Untold, show, tell, tell_assigns};
-use roster_desk_commandline::{Line, LineFault, PageLine, PlanLine, TellLine, read_line};
+use roster_desk_arguments::{Line, LineFault, PageLine, PlanLine, TellLine, read_line};
 use roster_desk_run::{Status, run};
-use roster_desk_text::Unknown;
+use roster_desk_words::Unknown;
 use roster_plan::Means;
 use roster_watched::Watched;
 use std::fs::File;

@@ -5,9 +5,9 @@ ghost use Rattle.roster_watched.specs.Watch.{has_failed};
 
 use crate::telling::{refuse, write};
 use roster_book::{BookFault, Command, read_book};
-use roster_desk_commandline::Page;
+use roster_desk_arguments::Page;
 use roster_desk_fault::{fault_text, warn_text};
-use roster_desk_text::Status;
+use roster_desk_words::Status;
 use roster_watched::Watched;
 use std::alloc::{AllocError, Global};
 use std::io::Write;

@@ -4,13 +4,13 @@ ghost use Rattle.std.specs.Prelude.{◌≡◌, IfOk, length, false};
 ghost use Rattle.roster_watched.specs.Watch.{has_failed};
 
 use roster_book::{Book, BookFault, Command, read_book};
+use roster_desk_arguments::{Question, TellLine};
 use roster_desk_chart::chart_text;
-use roster_desk_commandline::{Question, TellLine};
-use roster_desk_text::{Status, Unknown, find, limits_text, read_zones, why_text};
+use roster_desk_reports::{ReportFault, assigns_text, read_report, read_roster};
+use roster_desk_tables::{differences_text, persons_table, roster_table};
+use roster_desk_words::{Status, Unknown, find, limits_text, read_zones, why_text};
 use roster_problem::Problem;
 use roster_report::{TextFault, write_fault};
-use roster_reports::{ReportFault, assigns_text, read_report, read_roster};
-use roster_tables::{differences_text, persons_table, roster_table};
 use roster_values::Places;
 use roster_watched::Watched;
 use std::alloc::{AllocError, Global};

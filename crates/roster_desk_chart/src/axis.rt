@@ -4,7 +4,7 @@ ghost use Rattle.std.specs.Prelude.{◌≤◌};
 
 use crate::html::{Place, percent};
 use jiff_core::civil::Date;
-use roster_desk_text::{instant, push_all, time};
+use roster_desk_words::{instant, push_all, time};
 use roster_instants::{BaseDays, Minute, Period};
 use roster_model::limits::DAYS_BEFORE;
 use roster_problem::{Holder, Problem};

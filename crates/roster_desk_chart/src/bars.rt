@@ -4,11 +4,11 @@ ghost use Rattle.std.specs.Prelude.{◌<◌, length};
 
 use crate::axis::{Axis, midnight, minute};
 use crate::html::{Place, percent, push_open, push_text};
-use roster_desk_text::{pairing_name, push_all, time};
+use roster_desk_words::{pairing_name, push_all, time};
 use roster_instants::Minute;
+use roster_legal_reasons::Reason;
 use roster_model::limits::DAYS_BEFORE;
 use roster_problem::{Duty, DutyList, Holder, Leave, Problem};
-use roster_reasons::Reason;
 use roster_restrules::is_recurrent;
 use std::alloc::{AllocError, Global};
 

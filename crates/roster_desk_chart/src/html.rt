@@ -4,7 +4,7 @@ ghost use Rattle.std.specs.Prelude.{◌≡◌, ◌++◌, OnOk};
 ghost use Rattle.std.specs.List.{flat_map};
 ghost use Rattle.roster_desk_chart.specs.Markup.{shown_as};
 
-use roster_desk_text::push_all;
+use roster_desk_words::push_all;
 use std::alloc::{AllocError, Global};
 
 /// Appends a byte of text so that it is no markup.

@@ -1,7 +1,7 @@
 //! A page that shows a book's roster: one file of HTML, which fetches nothing.
 //!
 //! What is drawn stands where the definitions have it: local days are those of the bases, meters and reasons
-//! those of `roster_reasons`. How it looks is only tested. In reading order:
+//! those of `roster_legal_reasons`. How it looks is only tested. In reading order:
 //!
 //! - `style`: how the page looks, and what it does
 //! - `html`: text of a page

@@ -3,9 +3,9 @@
 ghost use Rattle.std.specs.Prelude.{◌<◌, ◌≤◌, length};
 
 use crate::html::push_text;
-use roster_desk_text::{push_all, push_limit};
+use roster_desk_words::{push_all, push_limit};
+use roster_legal_reasons::{Amount, standing};
 use roster_problem::{DutyList, Problem};
-use roster_reasons::{Amount, standing};
 use roster_values::Limit;
 use std::alloc::{AllocError, Global};
 

@@ -8,7 +8,7 @@ use crate::open::{is_open, open_count, push_reasons, push_row};
 use crate::persons::push_person;
 use crate::style::{SCRIPT, STYLE};
 use roster_cost::roster_cost;
-use roster_desk_text::{Zones, push_all};
+use roster_desk_words::{Zones, push_all};
 use roster_model::limits::MOST_BASES;
 use roster_problem::Problem;
 use std::alloc::{AllocError, Global};

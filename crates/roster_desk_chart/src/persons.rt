@@ -6,9 +6,9 @@ use crate::axis::Axis;
 use crate::bars::{push_days_off, push_duties, push_leaves, push_rests};
 use crate::html::push_text;
 use crate::meters::push_meters;
-use roster_desk_text::{Zones, broken_with, duties_with, push_all, push_reason};
+use roster_desk_words::{Zones, broken_with, duties_with, push_all, push_reason};
+use roster_legal_reasons::Reason;
 use roster_problem::{DutyList, Problem};
-use roster_reasons::Reason;
 use std::alloc::{AllocError, Global};
 
 /// Appends the head of the row: the name, and the word of the rule that the person breaks.

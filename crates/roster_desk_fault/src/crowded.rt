@@ -4,7 +4,7 @@ ghost use Rattle.std.specs.Prelude.{◌<◌, ◌↔◌, ℕ, IfOk, IsTrue, Match
 ghost use Rattle.roster_model.specs.Lines.{IsCrowded, IsFirstCrowded};
 
 use roster_lines::{LinesFault, lines_of};
-use roster_linetable::few_are_not_crowded;
+use roster_lines_table::few_are_not_crowded;
 use roster_problem::Problem;
 use std::alloc::{AllocError, Global};
 

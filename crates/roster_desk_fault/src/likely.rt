@@ -5,7 +5,7 @@ use crate::rows::Row;
 use crate::seen::Seen;
 use crate::times::span_of;
 use crate::warning::{Warning, warn};
-use roster_desk_text::time;
+use roster_desk_words::time;
 use roster_instants::{BaseDays, Minute, read_minute};
 use std::alloc::{AllocError, Global};
 

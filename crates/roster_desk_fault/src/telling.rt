@@ -13,7 +13,7 @@ use crate::rows::{Row, kept_at, kept_text, read_rows};
 use crate::seen::{Other, Seen};
 use crate::shown::{push_field, push_record};
 use roster_book::{Book, BookFault, Command, read_book};
-use roster_desk_text::push_all;
+use roster_desk_words::push_all;
 use roster_problem::Problem;
 use roster_watched::Watched;
 use std::alloc::{AllocError, Global};

@@ -4,7 +4,7 @@ use crate::finding::Finding;
 use crate::kinds::Kind;
 use crate::rows::Row;
 use crate::seen::{Other, Seen, Span};
-use roster_desk_text::instant;
+use roster_desk_words::instant;
 use roster_instants::read_minute;
 use std::alloc::{AllocError, Global};
 

@@ -7,10 +7,10 @@ use Rattle.roster_model.specs.Problem.{Problem, problem_of}
 use Rattle.roster_model.specs.Record.{Check, Record}
 use Rattle.roster_model.specs.Texts.{fault_text, IsPlanOf, IsReportOf}
 use Rattle.roster_plan.specs.declared.known.Planned.{Planned}
-use Rattle.roster_reports.specs.Given.{HasAll, IsGiven}
-use Rattle.roster_reports.specs.Text.{given_by_text}
-use Rattle.roster_desk_text.specs.declared.status.Status.{Status}
-use Rattle.roster_desk_text.specs.declared.status.Status.TheVariants as statuses
+use Rattle.roster_desk_reports.specs.Given.{HasAll, IsGiven}
+use Rattle.roster_desk_reports.specs.Text.{given_by_text}
+use Rattle.roster_desk_words.specs.declared.status.Status.{Status}
+use Rattle.roster_desk_words.specs.declared.status.Status.TheVariants as statuses
 
 -- ---- what is written of a plan
 

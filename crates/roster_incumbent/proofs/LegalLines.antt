@@ -8,9 +8,9 @@ use Rattle.roster_model.specs.Places.{set_of}
 use Rattle.roster_model.specs.Rules.{IsLegal}
 use Rattle.roster_model.specs.Lines.{IsLine}
 use Rattle.roster_model.proofs.SetLemmas.{Ascends-set_of, places_of_number, rising_from_Ascends}
-use Rattle.roster_linetable.specs.Entries.{Entry, sets_of}
-use Rattle.roster_linetable.specs.Person.{lines_at, IsTableOf}
-use Rattle.roster_linetable.proofs.TableLemmas.{all_lines_in_table}
+use Rattle.roster_lines_table.specs.Entries.{Entry, sets_of}
+use Rattle.roster_lines_table.specs.Person.{lines_at, IsTableOf}
+use Rattle.roster_lines_table.proofs.TableLemmas.{all_lines_in_table}
 
 -- what a table finds
 abbrev pub Finds : List (List Entry) → ℕ → List ℕ → Option ℕ → Type 0

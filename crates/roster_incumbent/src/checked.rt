@@ -1,14 +1,14 @@
 //! Whether a roster is legal and has its cost, by the table of lines.
 
 ghost use Rattle.std.specs.Prelude.{◌≡◌, ◌↔◌, ◌<◌, ◌≤◌, All, IfOk, IsOkAnd, IsTrue, length, replicate};
-ghost use Rattle.roster_linetable.specs.Person.{IsTableOf};
+ghost use Rattle.roster_lines_table.specs.Person.{IsTableOf};
 ghost use Rattle.roster_model.specs.Places.{set_of};
 ghost use Rattle.roster_model.specs.Rosters.{key_of, IsLegalRoster};
 ghost use Rattle.roster_model.specs.Rules.{IsLegal};
 ghost use Rattle.roster_model.specs.Settled.{IsHeld};
 
 use roster_cost::roster_cost;
-use roster_linetable::Table;
+use roster_lines_table::Table;
 use roster_model::limits::MOST_PAIRINGS;
 use roster_problem::{Problem, open_number};
 use roster_values::{Places, Roster, Set};

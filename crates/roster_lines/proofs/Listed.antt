@@ -9,8 +9,8 @@ use Rattle.roster_model.specs.Problem.{Problem, units_of}
 use Rattle.roster_model.specs.Rules.{is_among, IsLegal}
 use Rattle.roster_model.proofs.CostLemmas.{total-nil}
 use Rattle.roster_model.proofs.SetLemmas.{Ascends, Ascends-from_rising, Ascends-push, rising_from_Ascends, is_among-append, is_among-here, All-is_among, All-from_is_among}
-use Rattle.roster_linetable.proofs.Fronts.{among_behind, among_front, Ascends-parts}
-use Rattle.roster_linetable.proofs.Lists.{IsLine-empty}
+use Rattle.roster_lines_table.proofs.Fronts.{among_behind, among_front, Ascends-parts}
+use Rattle.roster_lines_table.proofs.Lists.{IsLine-empty}
 use Rattle.roster_lines.specs.declared.stem.Stem.{Stem}
 use Rattle.roster_lines.specs.Listing.{AreAlone, AreLegalAlone, ArePartsLegal, AreTogether, IsStem, IsRow}
 

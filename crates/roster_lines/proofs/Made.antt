@@ -7,10 +7,10 @@ use Rattle.roster_model.specs.declared.limits.TheConstants.{MOST_LINES}
 use Rattle.roster_model.specs.Lines.{AreLines, IsCrowded, IsFirstCrowded}
 use Rattle.roster_model.specs.Problem.{Problem}
 use Rattle.roster_model.proofs.PushLemmas.{each-push}
-use Rattle.roster_linetable.specs.Entries.{Entry, sets_of}
-use Rattle.roster_linetable.specs.Person.{AreCosted, IsTableOf}
-use Rattle.roster_linetable.proofs.Lists.{not_crowded}
-use Rattle.roster_linetable.proofs.TreeLemmas.{length-sets_of}
+use Rattle.roster_lines_table.specs.Entries.{Entry, sets_of}
+use Rattle.roster_lines_table.specs.Person.{AreCosted, IsTableOf}
+use Rattle.roster_lines_table.proofs.Lists.{not_crowded}
+use Rattle.roster_lines_table.proofs.TreeLemmas.{length-sets_of}
 use Rattle.roster_lines.specs.declared.extend.LinesFault.{LinesFault}
 use Rattle.roster_lines.specs.SomeLines.{IsFaultOf}
 use Rattle.roster_lines.specs.Made.{AreMade, IsMadeOf, IsTableSoFar}

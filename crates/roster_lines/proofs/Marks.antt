@@ -10,10 +10,10 @@ use Rattle.roster_model.specs.Lines.{AreSomeLines, IsLine}
 use Rattle.roster_model.specs.Problem.{Problem}
 use Rattle.roster_model.specs.Places.{places_le}
 use Rattle.roster_model.proofs.PlacesOrder.{before-trans_right, between_marks, front_at_most, front_before, marks_at_most, nothing_between, places_le-append, places_le-trans, by_less}
-use Rattle.roster_linetable.proofs.Cuts.{before_count}
-use Rattle.roster_linetable.proofs.Fronts.{All-behind}
-use Rattle.roster_linetable.proofs.Lists.{IsLine-empty}
-use Rattle.roster_linetable.proofs.TreeLemmas.{AreOrdered-push}
+use Rattle.roster_lines_table.proofs.Cuts.{before_count}
+use Rattle.roster_lines_table.proofs.Fronts.{All-behind}
+use Rattle.roster_lines_table.proofs.Lists.{IsLine-empty}
+use Rattle.roster_lines_table.proofs.TreeLemmas.{AreOrdered-push}
 use Rattle.roster_lines.specs.Listing.{IsUpTo}
 use Rattle.roster_lines.specs.SomeLines.{AreWantedLines, HasMoreLines}
 

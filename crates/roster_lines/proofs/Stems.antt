@@ -11,10 +11,10 @@ use Rattle.roster_model.specs.Rules.{is_among}
 use Rattle.roster_model.proofs.SetLemmas.{is_among-here}
 use Rattle.roster_legal.specs.Stepping.{IsLegalNext, IsNext, Stepped, with_next}
 use Rattle.roster_cost.specs.Amounts.{minutes_of_pairing}
-use Rattle.roster_linetable.specs.Entries.{Entry, entry_of, longer, sets_of}
-use Rattle.roster_linetable.specs.Person.{AreCosted}
-use Rattle.roster_linetable.proofs.Fronts.{among_behind}
-use Rattle.roster_linetable.proofs.TreeLemmas.{sets_of-push}
+use Rattle.roster_lines_table.specs.Entries.{Entry, entry_of, longer, sets_of}
+use Rattle.roster_lines_table.specs.Person.{AreCosted}
+use Rattle.roster_lines_table.proofs.Fronts.{among_behind}
+use Rattle.roster_lines_table.proofs.TreeLemmas.{sets_of-push}
 use Rattle.roster_lines.specs.declared.stem.Stem.{Stem}
 use Rattle.roster_lines.specs.Listing.{AreFlights, ArePartsLegal, HoldOnly, IsStem, IsUpTo, LineWith, NoneBehind, judged_as}
 use Rattle.roster_lines.proofs.Listed.{IsLine-with, no_line_behind, none_behind}

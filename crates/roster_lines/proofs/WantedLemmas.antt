@@ -7,8 +7,8 @@ use Rattle.roster_model.specs.Lines.{AreLines, IsLine}
 use Rattle.roster_model.specs.Problem.{Problem}
 use Rattle.roster_model.specs.Rules.{is_among}
 use Rattle.roster_model.proofs.SetLemmas.{Ascends-from_rising, is_among-before, is_among-here}
-use Rattle.roster_linetable.specs.Entries.{Entry, sets_of}
-use Rattle.roster_linetable.proofs.Fronts.{Ascends-parts, among_behind}
+use Rattle.roster_lines_table.specs.Entries.{Entry, sets_of}
+use Rattle.roster_lines_table.proofs.Fronts.{Ascends-parts, among_behind}
 use Rattle.roster_lines.specs.declared.extend.LinesFault.{LinesFault}
 use Rattle.roster_lines.specs.declared.extend.LinesFault.TheVariants.{TooMany, Memory}
 use Rattle.roster_lines.specs.Between.{HasBefore, IsBetween}

@@ -4,8 +4,8 @@ use Rattle.std.specs.Prelude.{slice_get}
 use Rattle.std.proofs.lemmas.Option.{same_Some}
 use Rattle.roster_model.specs.Problem.{Problem}
 use Rattle.roster_model.proofs.PushLemmas.{each-push}
-use Rattle.roster_linetable.specs.Entries.{Entry, sets_of}
-use Rattle.roster_linetable.specs.Person.{AreListedOf}
+use Rattle.roster_lines_table.specs.Entries.{Entry, sets_of}
+use Rattle.roster_lines_table.specs.Person.{AreListedOf}
 use Rattle.roster_lines.specs.SomeLines.{AreWantedLines}
 use Rattle.roster_lines.specs.WantedTables.{AreAllWanted, AreListedSoFar}
 

@@ -1,8 +1,8 @@
 -- Tables of the lines that are wanted.
 use Rattle.std.specs.Prelude.{◌≡◌, ℕ, List, Some, slice_get}
 use Rattle.roster_model.specs.Problem.{Problem}
-use Rattle.roster_linetable.specs.Entries.{Entry, sets_of}
-use Rattle.roster_linetable.specs.Person.{AreListedOf}
+use Rattle.roster_lines_table.specs.Entries.{Entry, sets_of}
+use Rattle.roster_lines_table.specs.Person.{AreListedOf}
 use Rattle.roster_lines.specs.SomeLines.{AreWantedLines}
 
 -- the table has some lines of each of the first persons

@@ -1,7 +1,7 @@
 //! Every line of each person: the legal sets of pairings, in order, and what each costs.
 //!
 //! `lines_of` lists the lines of one person, `table_of` those of each, and `all_lines` has threads do the
-//! same. The lists and the table of them stand in `roster_linetable`. In reading order:
+//! same. The lists and the table of them stand in `roster_lines_table`. In reading order:
 //!
 //! - `pairs`: which pairings are legal alone, and which of those together
 //! - `stem`: a line that others go on from

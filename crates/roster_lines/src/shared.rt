@@ -1,13 +1,13 @@
 //! The lines of all persons, by several threads.
 
 ghost use Rattle.std.specs.Prelude.{◌<◌, All, IfErr, IfOk};
-ghost use Rattle.roster_linetable.specs.Person.{IsTableOf};
+ghost use Rattle.roster_lines_table.specs.Person.{IsTableOf};
 ghost use Rattle.roster_lines.specs.Made.{AreMadeFor, AreMadeOf};
 ghost use Rattle.roster_lines.specs.TableFaults.{IsTableFaultOf};
 
 use crate::extend::{LinesFault, lines_of};
 use crate::table::{TableFault, add};
-use roster_linetable::{Lines, Table};
+use roster_lines_table::{Lines, Table};
 use roster_problem::Problem;
 use std::alloc::{AllocError, Global};
 use std::sync::atomic::{AtomicUsize, Ordering};

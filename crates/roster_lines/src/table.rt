@@ -1,12 +1,12 @@
 //! The lines of all persons, made one after another.
 
 ghost use Rattle.std.specs.Prelude.{◌≡◌, ◌<◌, ◌+◌, IfErr, IfOk, OnOk, length};
-ghost use Rattle.roster_linetable.specs.Person.{IsTableOf};
+ghost use Rattle.roster_lines_table.specs.Person.{IsTableOf};
 ghost use Rattle.roster_lines.specs.Made.{IsMadeOf, IsTableSoFar};
 ghost use Rattle.roster_lines.specs.TableFaults.{IsTableFaultOf};
 
 use crate::extend::{LinesFault, lines_of};
-use roster_linetable::{Lines, Table};
+use roster_lines_table::{Lines, Table};
 use roster_problem::Problem;
 use std::alloc::{AllocError, Global};
 use thiserror::Error;

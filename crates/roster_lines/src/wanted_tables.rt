@@ -2,7 +2,7 @@
 
 ghost use Rattle.std.specs.Prelude.{◌≡◌, ◌<◌, ◌≤◌, ℕ, IfErr, IfOk, length};
 ghost use Rattle.roster_model.specs.Problem.{Problem as Book};
-ghost use Rattle.roster_linetable.specs.Person.{AreListed};
+ghost use Rattle.roster_lines_table.specs.Person.{AreListed};
 ghost use Rattle.roster_lines.specs.Listing.{AreAllPairs};
 ghost use Rattle.roster_lines.specs.SomeLines.{IsFaultWithin};
 ghost use Rattle.roster_lines.specs.TableFaults.{IsTableFaultWithin};
@@ -12,7 +12,7 @@ use crate::extend::{LinesFault, lines_of_pairs};
 use crate::pairs::Pairs;
 use crate::table::TableFault;
 use crate::wanted::Wanted;
-use roster_linetable::Table;
+use roster_lines_table::Table;
 use roster_model::limits::MOST_LINES;
 use roster_problem::Problem;
 use std::alloc::Global;

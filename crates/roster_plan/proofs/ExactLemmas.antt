@@ -6,12 +6,12 @@ use Rattle.roster_model.specs.Problem.{Problem}
 use Rattle.roster_model.specs.Rosters.{Key, key_of}
 use Rattle.roster_model.specs.Settled.{Anywhere, IsBest, IsHeld, IsLowerBound, IsNotAfter}
 use Rattle.roster_model.proofs.SettledLemmas.{held-key}
-use Rattle.roster_linetable.specs.Entries.{Entry}
-use Rattle.roster_linetable.specs.Person.{IsOfTable}
-use Rattle.roster_pricing.specs.Homes.{EachHomeRoster, IsHome, IsHomeBound}
-use Rattle.roster_least.specs.Least.{CostsAtLeast, IsLeast}
-use Rattle.roster_least.proofs.FindLemmas.{cost_cases}
-use Rattle.roster_least.proofs.Keys.{by_cost, no_dearer}
+use Rattle.roster_lines_table.specs.Entries.{Entry}
+use Rattle.roster_lines_table.specs.Person.{IsOfTable}
+use Rattle.roster_plan_bound.specs.Homes.{EachHomeRoster, IsHome, IsHomeBound}
+use Rattle.roster_search_least.specs.Least.{CostsAtLeast, IsLeast}
+use Rattle.roster_search_least.proofs.FindLemmas.{cost_cases}
+use Rattle.roster_search_least.proofs.Keys.{by_cost, no_dearer}
 
 -- each roster of the base that costs at most so much has lines of the table
 abbrev pub HasAllWithin : Problem → ℕ → List (List Entry) → ℤ → Type 0

@@ -12,8 +12,8 @@ use Rattle.roster_model.specs.Places.{set_of, open_number}
 use Rattle.roster_model.specs.Rules.{is_among, IsLegal}
 use Rattle.roster_model.specs.Costs.{cost_of, open_penalties, placed_units, missed_target, missed_targets}
 use Rattle.roster_model.specs.Rosters.{IsLegalRoster}
-use Rattle.roster_pricing.specs.Homes.{EachHomeRoster, IsHome, IsHomeBound}
-use Rattle.roster_least.specs.Parts.{base_of_person}
+use Rattle.roster_plan_bound.specs.Homes.{EachHomeRoster, IsHome, IsHomeBound}
+use Rattle.roster_search_least.specs.Parts.{base_of_person}
 use Rattle.roster_plan.proofs.PartLemmas.{of_home}
 use Rattle.roster_model.proofs.CostLemmas.{total-pos}
 use Rattle.roster_model.proofs.SumLemmas.{sum_by-range_more}

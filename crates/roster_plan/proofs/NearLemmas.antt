@@ -9,13 +9,13 @@ use Rattle.roster_model.specs.Rosters.{IsLegalRoster}
 use Rattle.roster_model.specs.Rules.{is_among}
 use Rattle.roster_model.proofs.LineLemmas.{given_line}
 use Rattle.roster_model.proofs.PlacesLemmas.{is_among-set_of_past}
-use Rattle.roster_linetable.specs.Entries.{Entry}
-use Rattle.roster_linetable.specs.Person.{lines_at, AreListed}
+use Rattle.roster_lines_table.specs.Entries.{Entry}
+use Rattle.roster_lines_table.specs.Person.{lines_at, AreListed}
 use Rattle.roster_lines.specs.declared.wanted.Between.{Between}
 use Rattle.roster_lines.specs.Between.{IsBetween}
 use Rattle.roster_lines.specs.WantedTables.{AreAllWanted}
-use Rattle.roster_pricing.specs.Homes.{IsHome}
-use Rattle.roster_least.specs.Parts.{base_of_person}
+use Rattle.roster_plan_bound.specs.Homes.{IsHome}
+use Rattle.roster_search_least.specs.Parts.{base_of_person}
 use Rattle.roster_plan.specs.Near.{HasAllNear, IsNear}
 use Rattle.roster_plan.proofs.PartLemmas.{of_home}
 

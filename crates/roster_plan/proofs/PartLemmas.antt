@@ -16,13 +16,13 @@ use Rattle.roster_model.proofs.KeyLemmas.{key_le-trans}
 use Rattle.roster_model.proofs.PushLemmas.{each-next}
 use Rattle.roster_model.proofs.RosterLemmas.{all_open_legal}
 use Rattle.roster_problem.specs.Sound.{IsSound}
-use Rattle.roster_pricing.specs.Homes.{IsHome, IsHomeBound}
-use Rattle.roster_least.specs.Parts.{base_of_person, before, merge}
-use Rattle.roster_least.proofs.Bases.{found_at}
-use Rattle.roster_least.proofs.BoxLemmas.{all_open, every_base, least_of_none, next_base, nobody_flies}
-use Rattle.roster_least.proofs.Keys.{no_dearer}
-use Rattle.roster_least.proofs.LeastParts.{merged_not_after}
-use Rattle.roster_least.proofs.Merges.{SharesAddUp, cost_of-merge, legal-merge, set_of-merge, set_of-merge_other}
+use Rattle.roster_plan_bound.specs.Homes.{IsHome, IsHomeBound}
+use Rattle.roster_search_least.specs.Parts.{base_of_person, before, merge}
+use Rattle.roster_search_least.proofs.Bases.{found_at}
+use Rattle.roster_search_least.proofs.BoxLemmas.{all_open, every_base, least_of_none, next_base, nobody_flies}
+use Rattle.roster_search_least.proofs.Keys.{no_dearer}
+use Rattle.roster_search_least.proofs.LeastParts.{merged_not_after}
+use Rattle.roster_search_least.proofs.Merges.{SharesAddUp, cost_of-merge, legal-merge, set_of-merge, set_of-merge_other}
 use Rattle.roster_plan.specs.declared.parts.Part.{Part}
 use Rattle.roster_plan.specs.Parts.{ArePartsOf, AreTogether, HasNoCrew, IsOf, IsPart}
 

@@ -2,7 +2,7 @@
 use Rattle.std.specs.Prelude.{ℕ}
 use Rattle.roster_model.specs.Problem.{Problem}
 use Rattle.roster_model.specs.Settled.{IsHeld, IsNotAfter}
-use Rattle.roster_pricing.specs.Homes.{IsHome, IsHomeBound}
+use Rattle.roster_plan_bound.specs.Homes.{IsHome, IsHomeBound}
 use Rattle.roster_plan.specs.declared.exact.Found.{Found}
 use Rattle.roster_plan.specs.declared.exact.Found.TheVariants.{AtLeast, Best}
 

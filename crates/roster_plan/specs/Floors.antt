@@ -5,7 +5,7 @@ use Rattle.roster_model.specs.records.Pairing.{Pairing}
 use Rattle.roster_model.specs.Problem.{Problem, units_of}
 use Rattle.roster_model.specs.Rules.{IsLegal}
 use Rattle.roster_cost.specs.Amounts.{IsWithin}
-use Rattle.roster_least.specs.Parts.{base_of_person}
+use Rattle.roster_search_least.specs.Parts.{base_of_person}
 
 -- The pairing at place p costs no less, be it left open or flown by one of the first n persons who is of the
 -- base and for whom it is legal alone. The amount is within the limit of units and penalties.

@@ -3,8 +3,8 @@ use Rattle.std.specs.Prelude.{◌≡◌, ℕ, List, Some, slice_get}
 use Rattle.roster_model.specs.Places.{set_of}
 use Rattle.roster_model.specs.Problem.{Problem}
 use Rattle.roster_model.specs.Rosters.{IsLegalRoster}
-use Rattle.roster_linetable.specs.Entries.{Entry}
-use Rattle.roster_linetable.specs.Person.{IsOfTable}
+use Rattle.roster_lines_table.specs.Entries.{Entry}
+use Rattle.roster_lines_table.specs.Person.{IsOfTable}
 use Rattle.roster_lines.specs.Between.{IsBetween}
 use Rattle.roster_lines.specs.declared.wanted.Between.{Between}
 

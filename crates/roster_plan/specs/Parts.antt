@@ -7,8 +7,8 @@ use Rattle.roster_model.specs.Problem.{Problem}
 use Rattle.roster_model.specs.Rosters.{IsLegalRoster, key_of}
 use Rattle.roster_model.specs.Settled.{IsHeld, IsNotAfter}
 use Rattle.roster_model.specs.records.Crew.{Person}
-use Rattle.roster_pricing.specs.Homes.{IsHome, IsHomeBound}
-use Rattle.roster_least.specs.Parts.{base_of_person, before}
+use Rattle.roster_plan_bound.specs.Homes.{IsHome, IsHomeBound}
+use Rattle.roster_search_least.specs.Parts.{base_of_person, before}
 use Rattle.roster_plan.specs.declared.parts.Part.{Part}
 
 -- nobody is of the base

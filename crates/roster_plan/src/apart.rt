@@ -16,7 +16,7 @@ use crate::watching::{Step, Watcher};
 use roster_cost::keys_are_in_order;
 use roster_lines::Pairs;
 use roster_model::limits::MOST_BASES;
-use roster_pricing::{PricedBound, Pricing};
+use roster_plan_bound::{PricedBound, Pricing};
 use roster_problem::Problem;
 use std::alloc::{AllocError, Global};
 use std::thread::{Threads, for_each_mut};

@@ -5,7 +5,7 @@ ghost use Rattle.roster_model.specs.Costs.{missed_target, missed_targets};
 ghost use Rattle.roster_model.specs.Places.{set_of};
 ghost use Rattle.roster_cost.specs.Amounts.{most_line_cost};
 ghost use Rattle.roster_lines.specs.Listing.{AreAllPairs};
-ghost use Rattle.roster_pricing.specs.Homes.{IsHome, IsHomeBound};
+ghost use Rattle.roster_plan_bound.specs.Homes.{IsHome, IsHomeBound};
 ghost use Rattle.roster_plan.specs.Floors.{IsFloor, IsFloorOf};
 
 use roster_cost::line_cost;

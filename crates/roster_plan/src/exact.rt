@@ -9,7 +9,7 @@ ghost use Rattle.roster_plan.specs.Exact.{IsExact};
 
 use crate::means::Means;
 use roster_lines::TableFault;
-use roster_pricing::{PARTS, PricedBound};
+use roster_plan_bound::{PARTS, PricedBound};
 use roster_problem::Problem;
 use roster_search::{Searched, least_within};
 use roster_values::Roster;

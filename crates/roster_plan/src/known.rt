@@ -6,8 +6,8 @@ ghost use Rattle.roster_model.specs.Settled.{Anywhere, IsHeld, IsLowerBound, IsN
 ghost use Rattle.roster_plan.specs.Planned.{IsKnown};
 
 use roster_cost::{comes_before, keys_are_in_order, roster_cost};
-use roster_least::costs_fit;
 use roster_problem::Problem;
+use roster_search_least::costs_fit;
 use roster_values::{Places, Roster};
 
 /// A plan. Whoever is given one is promised what stands beside each field.

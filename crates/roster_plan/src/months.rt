@@ -4,7 +4,7 @@ ghost use Rattle.std.specs.Prelude.{◌≡◌, ◌<◌, IfOk, Some, slice_get};
 ghost use Rattle.roster_lines.specs.Listing.{AreAllPairs};
 ghost use Rattle.roster_model.specs.declared.limits.TheConstants.{MOST_BASES as most_bases};
 ghost use Rattle.roster_model.specs.Settled.{IsHeld, IsNotAfter};
-ghost use Rattle.roster_pricing.specs.Homes.{IsHome, IsHomeBound};
+ghost use Rattle.roster_plan_bound.specs.Homes.{IsHome, IsHomeBound};
 ghost use Rattle.roster_plan.specs.Exact.{IsExact};
 ghost use Rattle.roster_plan.specs.Months.{HasBound, IsMonth, IsMonthFrom};
 ghost use Rattle.roster_plan.specs.Parts.{AreParts, IsPart};

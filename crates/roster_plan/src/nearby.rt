@@ -5,20 +5,20 @@
 //! that neighbourhood nobody keeps anything, persons of the base may have all, and nobody else has anything.
 
 ghost use Rattle.std.specs.Prelude.{◌≡◌, ◌<◌, ◌≤◌, ℕ, false, true, IfOk, IfSome, length};
-ghost use Rattle.roster_linetable.specs.Person.{AreListed};
+ghost use Rattle.roster_lines_table.specs.Person.{AreListed};
 ghost use Rattle.roster_lines.specs.Listing.{AreAllPairs};
 ghost use Rattle.roster_model.specs.Rosters.{key_le};
 ghost use Rattle.roster_model.specs.Rules.{is_among};
 ghost use Rattle.roster_model.specs.Settled.{IsHeld, IsNotAfter};
-ghost use Rattle.roster_pricing.specs.Homes.{EachHomeRoster, IsHome};
+ghost use Rattle.roster_plan_bound.specs.Homes.{EachHomeRoster, IsHome};
 ghost use Rattle.roster_plan.specs.Near.{HasAllNear, IsNear};
 
 use crate::known::earlier;
 use roster_cost::{comes_before, keys_are_in_order};
 use roster_lines::{Between, Pairs, TableFault, wanted_table};
-use roster_linetable::Table;
+use roster_lines_table::Table;
 use roster_model::limits::{MOST_LINES, MOST_PAIRINGS};
-use roster_moves::penalties;
+use roster_plan_moves::penalties;
 use roster_problem::Problem;
 use roster_search::{Searched, least_within};
 use roster_values::{Roster, Set};

@@ -10,19 +10,19 @@ ghost use Rattle.roster_cost.specs.Amounts.{IsWithin};
 ghost use Rattle.roster_model.specs.declared.limits.TheConstants.{MOST_BASES as most_bases};
 ghost use Rattle.roster_model.specs.Rosters.{key_le};
 ghost use Rattle.roster_model.specs.Settled.{IsHeld, IsLowerBound, IsNotAfter};
-ghost use Rattle.roster_pricing.specs.Homes.{IsHome};
+ghost use Rattle.roster_plan_bound.specs.Homes.{IsHome};
 ghost use Rattle.roster_lines.specs.Listing.{AreAllPairs};
-ghost use Rattle.roster_least.specs.Parts.{merge};
+ghost use Rattle.roster_search_least.specs.Parts.{merge};
 ghost use Rattle.roster_plan.specs.Parts.{AreParts, HasNoCrew, IsPart};
 ghost use Rattle.roster_plan.specs.Planned.{IsKnown, IsPlannedFrom};
 
 use crate::bound::lower_bound;
 use crate::known::{Planned, best_plan, costed, earlier, so_far};
 use roster_cost::{comes_before, roster_cost, shares_add_up};
-use roster_least::{all_open, costs_fit, merged};
 use roster_lines::Pairs;
 use roster_model::limits::MOST_BASES;
 use roster_problem::Problem;
+use roster_search_least::{all_open, costs_fit, merged};
 use roster_values::Roster;
 use std::alloc::{AllocError, Global};
 

@@ -11,7 +11,7 @@ use crate::means::{MOST_EFFORT, Means};
 use crate::months::Month;
 use crate::parts::open_bases;
 use crate::watching::{Step, Watcher};
-use roster_moves::improved_by_changes;
+use roster_plan_moves::improved_by_changes;
 use roster_problem::Problem;
 use roster_values::Roster;
 use std::alloc::{AllocError, Global};

@@ -15,7 +15,7 @@ use crate::parts::{Part, open_bases};
 use crate::watching::{Step, Watcher};
 use roster_cost::{comes_before, keys_are_in_order};
 use roster_lines::Pairs;
-use roster_moves::{Neighbourhood, Neighbourhoods};
+use roster_plan_moves::{Neighbourhood, Neighbourhoods};
 use roster_problem::{Problem, open_number};
 use roster_values::Roster;
 use std::alloc::{AllocError, Global};

@@ -5,7 +5,7 @@ ghost use Rattle.roster_lines.specs.Listing.{AreAllPairs};
 ghost use Rattle.roster_model.specs.Problem.{Problem};
 ghost use Rattle.roster_model.specs.Settled.{IsHeld, IsNotAfter};
 ghost use Rattle.roster_model.specs.declared.limits.TheConstants.{MOST_BASES as most_bases};
-ghost use Rattle.roster_pricing.specs.Homes.{IsHome};
+ghost use Rattle.roster_plan_bound.specs.Homes.{IsHome};
 ghost use Rattle.roster_plan.specs.Bases.{AreWholes, IsWhole};
 ghost use Rattle.roster_plan.specs.Exact.{IsExact};
 ghost use Rattle.roster_plan.specs.Months.{IsMonth, IsMonthFrom};

@@ -6,10 +6,10 @@ use Rattle.roster_model.specs.Costs.{cost_of}
 use Rattle.roster_model.specs.Problem.{Problem}
 use Rattle.roster_model.specs.Rosters.{Key}
 use Rattle.roster_model.specs.Settled.{CostsMore, IsFoundWithin, IsWithinCost}
-use Rattle.roster_regions.specs.Regions.{size_of, Has, HasNot, IsIn, IsNarrowed, IsRegion, Region}
-use Rattle.roster_narrowing.specs.Bounds.{CostsAtMost}
+use Rattle.roster_search_regions.specs.Regions.{size_of, Has, HasNot, IsIn, IsNarrowed, IsRegion, Region}
+use Rattle.roster_search_fixing.specs.Bounds.{CostsAtMost}
 use Rattle.roster_search.specs.Open.{AreOpenOf, IsInSome, IsParted}
-use Rattle.roster_least.proofs.FindLemmas.{cost_cases, has_cases}
+use Rattle.roster_search_least.proofs.FindLemmas.{cost_cases, has_cases}
 
 -- ---- which region the places are in
 

@@ -2,8 +2,8 @@
 use Rattle.std.specs.Prelude.{ℕ, ◌<◌, ◌⊎◌, All, List, [], ◌∷◌, ℤ}
 use Rattle.roster_model.specs.Problem.{Problem}
 use Rattle.roster_model.specs.Settled.{IsFoundWithin}
-use Rattle.roster_regions.specs.Regions.{size_of, IsIn, IsRegion, Region}
-use Rattle.roster_narrowing.specs.Bounds.{CostsAtMost}
+use Rattle.roster_search_regions.specs.Regions.{size_of, IsIn, IsRegion, Region}
+use Rattle.roster_search_fixing.specs.Bounds.{CostsAtMost}
 use Rattle.roster_search.specs.declared.visiting.Visited.{Visited}
 use Rattle.roster_search.specs.declared.visiting.Visited.TheVariants.{Ended, Parted}
 

@@ -2,8 +2,8 @@
 use Rattle.std.specs.Prelude.{ℤ, Bool, MatchBool}
 use Rattle.roster_model.specs.Problem.{Problem}
 use Rattle.roster_model.specs.Settled.{IsWithinCost}
-use Rattle.roster_regions.specs.Regions.{IsIn, IsNarrowed, Region}
-use Rattle.roster_narrowing.specs.Bounds.{CostsAtMost, IsAllAbove}
+use Rattle.roster_search_regions.specs.Regions.{IsIn, IsNarrowed, Region}
+use Rattle.roster_search_fixing.specs.Bounds.{CostsAtMost, IsAllAbove}
 use Rattle.roster_search.specs.declared.refining.Refined.{Refined}
 use Rattle.roster_search.specs.declared.refining.Refined.TheVariants.{Found, Nothing, Part}
 

@@ -1,19 +1,19 @@
 //! The least roster of a box.
 
 ghost use Rattle.std.specs.Prelude.{◌≡◌, ◌+◌, IfOk, MatchOption, Some, length, unwrap_or};
-ghost use Rattle.roster_least.specs.Least.{IsBefore, IsLeast};
-ghost use Rattle.roster_least.specs.Parts.{before, AreBaseParts, IsInPart, IsWithoutPart};
-ghost use Rattle.roster_linetable.specs.Person.{AreListed};
+ghost use Rattle.roster_search_least.specs.Least.{IsBefore, IsLeast};
+ghost use Rattle.roster_search_least.specs.Parts.{before, AreBaseParts, IsInPart, IsWithoutPart};
+ghost use Rattle.roster_lines_table.specs.Person.{AreListed};
 ghost use Rattle.roster_model.specs.Rosters.{key_of};
 ghost use Rattle.roster_model.specs.Settled.{IsHeld, Settles};
-ghost use Rattle.roster_regions.specs.Regions.{IsInRanges};
+ghost use Rattle.roster_search_regions.specs.Regions.{IsInRanges};
 
 use crate::parts::least_at;
 use roster_cost::shares_add_up;
-use roster_least::{Finder, Part, all_open, costs_fit, if_before, merged};
-use roster_linetable::Table;
+use roster_lines_table::Table;
 use roster_model::limits::MOST_BASES;
 use roster_problem::Problem;
+use roster_search_least::{Finder, Part, all_open, costs_fit, if_before, merged};
 use roster_values::Roster;
 use std::alloc::{AllocError, Global};
 

@@ -2,13 +2,13 @@
 
 ghost use Rattle.std.specs.Prelude.{IfOk};
 ghost use Rattle.roster_model.specs.Settled.{IsFoundWithin};
-ghost use Rattle.roster_regions.specs.Regions.{IsIn, IsRegion};
+ghost use Rattle.roster_search_regions.specs.Regions.{IsIn, IsRegion};
 
 use crate::nodes::{Nodes, Unseen};
 use crate::visiting::{OpenNode, Visited, visit};
-use roster_least::Finder;
 use roster_problem::Problem;
-use roster_regions::{DualPrices, Region};
+use roster_search_least::Finder;
+use roster_search_regions::{DualPrices, Region};
 use roster_values::Roster;
 use std::alloc::{AllocError, Global};
 

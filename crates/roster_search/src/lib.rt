@@ -1,8 +1,8 @@
 //! The least roster of a box of lines.
 //!
 //! `least_of_box` answers the least legal roster of a box if it is before a known one; `least_within` is
-//! given up after so much work. `find` is what `roster_least` asks again and again, by one thread. Each base
-//! is searched apart; `roster_bases` has several threads do so, by the parts that are public here. In
+//! given up after so much work. `find` is what `roster_search_least` asks again and again, by one thread. Each base
+//! is searched apart; `roster_search_threads` has several threads do so, by the parts that are public here. In
 //! reading order:
 //!
 //! - `boxes`: the least roster of a box, merged from those of its bases

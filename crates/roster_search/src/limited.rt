@@ -1,16 +1,16 @@
 //! A search that is given up once it has done so much work.
 
 ghost use Rattle.std.specs.Prelude.{IfOk};
-ghost use Rattle.roster_linetable.specs.Person.{AreListed};
+ghost use Rattle.roster_lines_table.specs.Person.{AreListed};
 ghost use Rattle.roster_search.specs.Limited.{IsSearched};
 
 use crate::root::root_prices;
 use crate::stack::{MOST_NODES, lines_of_last, visit_last};
 use crate::visiting::OpenNode;
-use roster_least::{Finder, least_of_region, whole};
-use roster_linetable::Table;
+use roster_lines_table::Table;
 use roster_problem::Problem;
-use roster_regions::{DualPrices, Region};
+use roster_search_least::{Finder, least_of_region, whole};
+use roster_search_regions::{DualPrices, Region};
 use roster_values::Roster;
 use std::alloc::{AllocError, Global};
 

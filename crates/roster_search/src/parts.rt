@@ -1,15 +1,15 @@
 //! The least roster of one base of a box.
 
 ghost use Rattle.std.specs.Prelude.{◌≡◌, ◌^◌, ◌-◌, ◌==◌, IfOk, length, pos};
-ghost use Rattle.roster_least.specs.Least.{IsLeastBelow};
-ghost use Rattle.roster_least.specs.Parts.{AreBaseParts, IsInPart};
-ghost use Rattle.roster_linetable.specs.Person.{AreListed};
+ghost use Rattle.roster_search_least.specs.Least.{IsLeastBelow};
+ghost use Rattle.roster_search_least.specs.Parts.{AreBaseParts, IsInPart};
+ghost use Rattle.roster_lines_table.specs.Person.{AreListed};
 
 use crate::root::root_prices;
-use roster_least::{Finder, Part, least_in, region_of_base};
-use roster_linetable::Table;
+use roster_lines_table::Table;
 use roster_problem::Problem;
-use roster_regions::DualPrices;
+use roster_search_least::{Finder, Part, least_in, region_of_base};
+use roster_search_regions::DualPrices;
 use roster_values::Roster;
 use std::alloc::{AllocError, Global};
 

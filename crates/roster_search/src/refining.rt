@@ -2,18 +2,18 @@
 
 ghost use Rattle.std.specs.Prelude.{◌<◌, IfOk, IfSome, MatchOption, length};
 ghost use Rattle.roster_model.specs.Settled.{IsHeld, IsWithinCost};
-ghost use Rattle.roster_regions.specs.Prices.{ArePrices};
-ghost use Rattle.roster_regions.specs.Regions.{IsDecided, IsIn, IsNarrowed, IsRegion, IsSplit};
-ghost use Rattle.roster_narrowing.specs.Bounds.{CostsAtMost};
+ghost use Rattle.roster_search_regions.specs.Prices.{ArePrices};
+ghost use Rattle.roster_search_regions.specs.Regions.{IsDecided, IsIn, IsNarrowed, IsRegion, IsSplit};
+ghost use Rattle.roster_search_fixing.specs.Bounds.{CostsAtMost};
 ghost use Rattle.roster_search.specs.Refined.{IsFixed, IsRefined};
 
 use crate::root::room;
 use crate::tuning::{FIRST_ROUNDING, MANY_LINES, NODE_STEPS};
-use roster_least::roster_in;
-use roster_narrowing::{is_split, pick, tighten};
-use roster_prices::{Ascent, branch, rounded};
 use roster_problem::Problem;
-use roster_regions::{DualPrices, Region};
+use roster_search_fixing::{is_split, pick, tighten};
+use roster_search_least::roster_in;
+use roster_search_prices::{Ascent, branch, rounded};
+use roster_search_regions::{DualPrices, Region};
 use roster_values::Roster;
 use std::alloc::{AllocError, Global};
 

@@ -1,15 +1,15 @@
 //! Prices to begin with.
 
 ghost use Rattle.std.specs.Prelude.{◌≡◌, ◌<◌, IfOk, IsTrue, length};
-ghost use Rattle.roster_regions.specs.Regions.{IsRegion};
+ghost use Rattle.roster_search_regions.specs.Regions.{IsRegion};
 
 use crate::tuning::{FEW_LINES_TO_FIX, LAST_ROOT_STEP, ROOT_STEPS, STEPS_A_ROUNDING};
 use roster_cost::roster_cost;
-use roster_least::RootPrices;
-use roster_narrowing::tighten;
-use roster_prices::Ascent;
 use roster_problem::Problem;
-use roster_regions::{DualPrices, Region};
+use roster_search_fixing::tighten;
+use roster_search_least::RootPrices;
+use roster_search_prices::Ascent;
+use roster_search_regions::{DualPrices, Region};
 use std::alloc::{AllocError, Global};
 use std::thread::Threads;
 

@@ -2,7 +2,7 @@
 
 ghost use Rattle.std.specs.Prelude.{All, IfOk, MatchOption};
 ghost use Rattle.roster_model.specs.Settled.{IsWithinCost};
-ghost use Rattle.roster_regions.specs.Regions.{IsRegion};
+ghost use Rattle.roster_search_regions.specs.Regions.{IsRegion};
 ghost use Rattle.roster_search.specs.Open.{AreOpenOf, IsInSome};
 
 use crate::visiting::{OpenNode, Visited, visit};

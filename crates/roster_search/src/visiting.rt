@@ -2,13 +2,13 @@
 
 ghost use Rattle.std.specs.Prelude.{◌≡◌, ◌<◌, IfOk, length};
 ghost use Rattle.roster_model.specs.Settled.{IsFoundWithin};
-ghost use Rattle.roster_regions.specs.Regions.{size_of, Has, IsDecided, IsIn, IsNarrowed, IsRegion, IsSplit};
+ghost use Rattle.roster_search_regions.specs.Regions.{size_of, Has, IsDecided, IsIn, IsNarrowed, IsRegion, IsSplit};
 ghost use Rattle.roster_search.specs.Open.{IsVisited};
 
 use crate::refining::{Refined, next_split, refine};
 use roster_cost::roster_cost;
 use roster_problem::Problem;
-use roster_regions::{DualPrices, Region};
+use roster_search_regions::{DualPrices, Region};
 use roster_values::{Places, Roster};
 use std::alloc::{AllocError, Global};
 use std::marker::Model;
@@ -22,7 +22,7 @@ pub struct OpenNode {
 }
 
 impl Model for OpenNode {
-    ghost use Rattle.roster_regions.specs.Regions as regions;
+    ghost use Rattle.roster_search_regions.specs.Regions as regions;
 
     ghost Value = { regions.Region };
 
@@ -113,7 +113,7 @@ fn only(
     requires decided { IsDecided region.now }
     ensures { IfOk result (IsFoundWithin problem.now (IsIn problem.now region.now) most) }
 {
-    let Some(places) = roster_narrowing::only(alloc, problem, region)? else {
+    let Some(places) = roster_search_fixing::only(alloc, problem, region)? else {
         return Ok(None);
     };
     let cost = roster_cost(problem, &places);

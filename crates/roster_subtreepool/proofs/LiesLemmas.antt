@@ -4,7 +4,7 @@ use Rattle.std.specs.Prelude.{slice_get}
 use Rattle.std.specs.List.{sum_by}
 use Rattle.std.proofs.lemmas.Bool.Decides.{nat_tests}
 use Rattle.std.proofs.lemmas.List.Sums.{sum_by-cons, sum_by-le}
-use Rattle.roster_spans.specs.Spans.{LiesIn, Span}
+use Rattle.roster_subtreepool_spans.specs.Spans.{LiesIn, Span}
 use Rattle.roster_subtreepool.specs.Coverage.{IsInWidths, goes_on, times_finished, times_in, times_in_hand}
 use Rattle.roster_subtreepool.specs.States.{Ended, IsEnd}
 use Rattle.roster_subtreepool.proofs.SpanParts.{one}

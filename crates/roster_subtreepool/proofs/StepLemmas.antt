@@ -3,7 +3,7 @@ use Rattle.std.proofs.Common.{length-append, ◌≡◌, ℕ, ◌+◌, Bool, true
 use Rattle.std.specs.Prelude.{if◌then◌else◌, option_and_then, slice_get, slice_set}
 use Rattle.std.proofs.lemmas.List.Sums.{sum_by-cons, sum_by_push}
 use Rattle.std.proofs.Math.ListN.{length-set}
-use Rattle.roster_spans.specs.Spans.{Span}
+use Rattle.roster_subtreepool_spans.specs.Spans.{Span}
 use Rattle.roster_subtreepool.specs.States.{IsKept, State, after, back_in, can_descend, can_halve, descend_in, finish_in, finished_by, finishes, halve_in, held, opening, play, step, take_in}
 use Rattle.roster_subtreepool.specs.declared.event.Event.{Event}
 use Rattle.roster_subtreepool.specs.declared.event.Event.TheVariants.{Take, Halve, Descend, Back, Finish}

@@ -8,7 +8,7 @@ use Rattle.std.proofs.lemmas.List.{get_or_past}
 use Rattle.std.proofs.lemmas.List.Folds.{sum_by-replicate}
 use Rattle.std.proofs.lemmas.List.Sums.{sum_by-remove, sum_by-set, sum_by_push}
 use Rattle.std.proofs.lemmas.Option.{get_or_from_slice_get, slice_get_within}
-use Rattle.roster_spans.specs.Spans.{Span}
+use Rattle.roster_subtreepool_spans.specs.Spans.{Span}
 use Rattle.roster_subtreepool.specs.Coverage.{IsInWidths, goes_on, times, times_in, times_in_hand}
 use Rattle.roster_subtreepool.specs.States.{State, after, back_in, can_descend, can_halve, descend_in, descended, finish_in, halve_in, held, lower, middle, opening, play, root, step, take_in, upper}
 use Rattle.roster_subtreepool.specs.declared.event.Event.{Event}

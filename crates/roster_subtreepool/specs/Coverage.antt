@@ -1,7 +1,7 @@
 -- In how many spans of a pool a list of line numbers lies.
 use Rattle.std.specs.Prelude.{◌≡◌, ℕ, ◌+◌, ◌<◌, ◌==◌, ◌&&◌, nat_le, nat_lt, Bool, false, if◌then◌else◌, List, [], ◌∷◌, length, Option, Some, None, slice_index}
 use Rattle.std.specs.List.{sum_by}
-use Rattle.roster_spans.specs.Spans.{Span}
+use Rattle.roster_subtreepool_spans.specs.Spans.{Span}
 use Rattle.roster_subtreepool.specs.States.{State}
 
 -- one number for each person, that of a line: the lists of the box

@@ -1,7 +1,7 @@
 -- What a pool refuses: the first of the faults that a call has, want of memory aside.
 use Rattle.std.specs.Prelude.{ℕ, ◌==◌, ◌&&◌, nat_eq, nat_lt, Bool, true, false, if◌then◌else◌, length, Option, Some, None, slice_get, unwrap_or}
 use Rattle.std.specs.Cmp.Lexicographic.{pointwise}
-use Rattle.roster_spans.specs.Spans.{Span}
+use Rattle.roster_subtreepool_spans.specs.Spans.{Span}
 use Rattle.roster_subtreepool.specs.States.{State, can_descend, can_halve, held}
 use Rattle.roster_subtreepool.specs.declared.fault.PoolFault.{PoolFault}
 use Rattle.roster_subtreepool.specs.declared.fault.PoolFault.TheVariants.{NotYours, CannotSplit, Nothing, Memory}

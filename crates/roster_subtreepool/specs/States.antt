@@ -3,7 +3,7 @@
 use Rattle.std.specs.Prelude.{◌≡◌, ℕ, ◌+◌, ◌-◌, ◌/◌, ◌<◌, ◌==◌, ◌&&◌, nat_le, nat_lt, Bool, if◌then◌else◌, List, [], ◌∷◌, ◌++◌, length, Option, Some, None, All, option_and_then, remove, replicate, slice_get, slice_index, slice_index_or, slice_set}
 use Rattle.std.specs.List.{sum_by}
 use Rattle.roster_model.specs.Rosters.{Key}
-use Rattle.roster_spans.specs.Spans.{Span}
+use Rattle.roster_subtreepool_spans.specs.Spans.{Span}
 use Rattle.roster_subtreepool.specs.declared.event.Event.{Event}
 use Rattle.roster_subtreepool.specs.declared.event.Event.TheVariants.{Take, Halve, Descend, Back, Finish}
 

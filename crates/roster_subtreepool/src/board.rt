@@ -8,7 +8,7 @@ ghost use Rattle.roster_subtreepool.specs.States.{IsAtRest, can_descend, descend
 ghost use Rattle.roster_subtreepool.specs.States.{step};
 
 use crate::event::Event;
-use roster_spans::{Path, Piece, Span};
+use roster_subtreepool_spans::{Path, Piece, Span};
 use std::alloc::{AllocError, Global};
 use std::marker::Model;
 

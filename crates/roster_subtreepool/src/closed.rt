@@ -1,10 +1,10 @@
 //! A pool that has ended.
 
 ghost use Rattle.std.specs.Prelude.{◌≡◌, ◌<◌, ℕ, List, Some, length, slice_get};
-ghost use Rattle.roster_spans.specs.Spans.{LiesIn, Span as PlainSpan};
+ghost use Rattle.roster_subtreepool_spans.specs.Spans.{LiesIn, Span as PlainSpan};
 ghost use Rattle.roster_subtreepool.specs.Coverage.{IsInWidths, times_finished};
 
-use roster_spans::Span;
+use roster_subtreepool_spans::Span;
 use std::marker::Model;
 
 /// What a pool at rest leaves. Its type keeps that it comes from a state at rest, and so that each list of

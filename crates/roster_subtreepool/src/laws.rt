@@ -1,7 +1,7 @@
 //! What follows from only the definitions.
 
 ghost use Rattle.std.specs.Prelude.{◌≡◌, ◌<◌, ◌↔◌, ℕ, List, Some, length};
-ghost use Rattle.roster_spans.specs.Spans.{LiesIn, Span};
+ghost use Rattle.roster_subtreepool_spans.specs.Spans.{LiesIn, Span};
 ghost use Rattle.roster_subtreepool.specs.Coverage.{IsInWidths, times, times_in};
 ghost use Rattle.roster_subtreepool.specs.States.{State, after};
 ghost use Rattle.roster_subtreepool.specs.declared.event.Event.{Event};

@@ -11,7 +11,7 @@ use crate::fault::PoolFault;
 use crate::pool_state::PoolState;
 use crate::settled::Settled;
 use crate::share::Share;
-use roster_spans::{Done, Piece};
+use roster_subtreepool_spans::{Done, Piece};
 use std::sync::ledger::Ledger;
 use std::sync::{Condvar, Mutex, Wait};
 

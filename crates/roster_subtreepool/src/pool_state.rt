@@ -14,7 +14,7 @@ use crate::event::Event;
 use crate::fault::PoolFault;
 use crate::settled::Settled;
 use crate::share::{Share, deal, gathered};
-use roster_spans::{Done, Piece, Span};
+use roster_subtreepool_spans::{Done, Piece, Span};
 use std::alloc::{AllocError, Global};
 use std::marker::Model;
 use std::sync::ledger;

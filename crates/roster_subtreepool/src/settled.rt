@@ -1,6 +1,6 @@
 //! A part of what is searched, with the roster by which it is settled.
 
-use roster_spans::Span;
+use roster_subtreepool_spans::Span;
 use roster_values::Roster;
 use std::marker::Model;
 use std::sync::Arc;

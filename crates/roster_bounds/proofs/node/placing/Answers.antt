@@ -1,8 +1,8 @@
 use Rattle.std.proofs.Common.{◌≡◌, ◌+◌, ◌<◌, true, false, drop, get_or, length, ℕ, List, Bool, Some, refl, sym, ap, ◌∙◌, cond}
 use Rattle.std.specs.Prelude.{slice_get}
 use Rattle.roster_model.specs.Rules.{is_among}
-use Rattle.roster_linetable.specs.Entries.{Entry, sets_of}
-use Rattle.roster_linetable.specs.Person.{lines_at}
+use Rattle.roster_lines_table.specs.Entries.{Entry, sets_of}
+use Rattle.roster_lines_table.specs.Person.{lines_at}
 use Rattle.roster_bounds.specs.Chosen.{placing_person}
 use Rattle.roster_bounds.proofs.PricedLines.{line_set-at}
 use Rattle.roster_bounds.proofs.Placing.{placing_next}

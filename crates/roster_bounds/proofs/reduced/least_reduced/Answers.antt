@@ -3,7 +3,7 @@ use Rattle.std.proofs.lemmas.Bool.{cases_lt}
 use Rattle.std.proofs.lemmas.Int.{ints}
 use Rattle.std.proofs.lemmas.List.{get_or_default}
 use Rattle.roster_cost.specs.Priced.{reduced_cost}
-use Rattle.roster_linetable.specs.Person.{lines_at}
+use Rattle.roster_lines_table.specs.Person.{lines_at}
 use Rattle.roster_bounds.specs.Amounts.{AreReduced, most_prices}
 use Rattle.roster_cost.specs.Amounts.{IsWithin}
 use Rattle.roster_bounds.specs.Chosen.{line_set, price_at}

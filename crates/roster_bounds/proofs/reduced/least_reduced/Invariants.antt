@@ -1,8 +1,8 @@
 use Rattle.std.proofs.Common.{◌≡◌, ℕ, ◌<◌, List, Some}
 use Rattle.std.specs.Prelude.{slice_get, ◌≤ℤ◌}
 use Rattle.roster_cost.specs.Priced.{reduced_cost}
-use Rattle.roster_linetable.specs.Entries.{sets_of}
-use Rattle.roster_linetable.specs.Person.{lines_at}
+use Rattle.roster_lines_table.specs.Entries.{sets_of}
+use Rattle.roster_lines_table.specs.Person.{lines_at}
 use Rattle.roster_bounds.specs.Amounts.{AreReduced}
 use Rattle.roster_bounds.specs.Chosen.{price_at}
 use Rattle.roster_bounds.proofs.reduced.least_reduced.Given as goal

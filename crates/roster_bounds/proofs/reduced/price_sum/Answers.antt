@@ -4,8 +4,8 @@ use Rattle.std.proofs.lemmas.Int.{ints, to_z-of_z}
 use Rattle.roster_model.specs.Costs.{total}
 use Rattle.roster_model.proofs.CostLemmas.{total-nil, total-cons, total-append}
 use Rattle.roster_cost.specs.Amounts.{IsWithin}
-use Rattle.roster_linetable.specs.Entries.{longer, set_at}
-use Rattle.roster_linetable.specs.Person.{lines_at}
+use Rattle.roster_lines_table.specs.Entries.{longer, set_at}
+use Rattle.roster_lines_table.specs.Person.{lines_at}
 use Rattle.roster_bounds.specs.Amounts.{most_prices}
 use Rattle.roster_bounds.specs.Chosen.{line_set, price_at}
 use Rattle.roster_bounds.proofs.PricedLines.{last_within, line_is, line_set-at, prices_of_line}

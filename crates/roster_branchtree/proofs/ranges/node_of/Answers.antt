@@ -3,8 +3,8 @@ use Rattle.std.specs.Prelude.{MatchOption}
 use Rattle.std.proofs.lemmas.Bool.{cases_lt}
 use Rattle.std.proofs.lemmas.List.{take_all, take_more, length-take-le}
 use Rattle.std.proofs.lemmas.Option.{slice_get_within, slice_get-get_or, get_or_from_slice_get}
-use Rattle.roster_linetable.specs.Entries.{Entry}
-use Rattle.roster_linetable.specs.Person.{lines_at}
+use Rattle.roster_lines_table.specs.Entries.{Entry}
+use Rattle.roster_lines_table.specs.Person.{lines_at}
 use Rattle.roster_bounds.specs.Chosen.{line_set, one_line_more, Meets, ChosenLines, PricedTable}
 use Rattle.roster_branchtree.proofs.SpanLemmas.{meets_none, number_within}
 use Rattle.roster_branchtree.proofs.ranges.node_of.Goals as goal

@@ -1,6 +1,6 @@
 use Rattle.std.proofs.Common.{◌≡◌, ◌<◌, ℕ, take, length, Some}
 use Rattle.std.specs.Prelude.{slice_get}
-use Rattle.roster_linetable.specs.Person.{lines_at}
+use Rattle.roster_lines_table.specs.Person.{lines_at}
 use Rattle.roster_branchtree.proofs.ranges.node_of.Given as goal
 
 -- the node of the path so far

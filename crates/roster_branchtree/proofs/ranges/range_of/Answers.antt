@@ -1,7 +1,7 @@
 use Rattle.std.proofs.Common.{◌≡◌, ◌+◌, ◌<◌, ℕ, List, length, get_or, sym, ap, ◌∙◌, arith}
 use Rattle.std.proofs.lemmas.Option.{slice_get-get_or}
-use Rattle.roster_linetable.specs.Entries.{Entry}
-use Rattle.roster_spans.specs.Spans.{Span}
+use Rattle.roster_lines_table.specs.Entries.{Entry}
+use Rattle.roster_subtreepool_spans.specs.Spans.{Span}
 use Rattle.roster_branchtree.proofs.SpanLemmas.{range_of_later, range_of_next, range_of_path}
 use Rattle.roster_branchtree.proofs.ranges.range_of.Goals as goal
 

@@ -6,7 +6,7 @@ use Rattle.roster_model.specs.Settled.{Settles}
 use Rattle.roster_model.proofs.SettledLemmas.{Settles-wider}
 use Rattle.roster_branchtree.specs.Shown.{KeepsWatch, Watched}
 use Rattle.roster_incumbent.specs.Kept.{IsEarlierOf}
-use Rattle.roster_spans.specs.Spans.{IsInSpan}
+use Rattle.roster_subtreepool_spans.specs.Spans.{IsInSpan}
 use Rattle.roster_branchtree.proofs.Settling.{found_settles, watch_of}
 use Rattle.roster_branchtree.proofs.searching.best_of.Goals as goal
 

@@ -3,10 +3,10 @@ use Rattle.std.specs.Prelude.{MatchOption}
 use Rattle.std.proofs.lemmas.List.{length-map}
 use Rattle.roster_model.specs.Problem.{Problem}
 use Rattle.roster_model.specs.Rosters.{key_le, key_of, IsLegalRoster, Key}
-use Rattle.roster_linetable.specs.Entries.{sets_of}
+use Rattle.roster_lines_table.specs.Entries.{sets_of}
 use Rattle.roster_bounds.specs.Chosen.{ChosenLines, HasLines, IsOfNode}
 use Rattle.roster_branchtree.specs.Spans.{AreLineNumbers}
-use Rattle.roster_spans.specs.Spans.{Span}
+use Rattle.roster_subtreepool_spans.specs.Spans.{Span}
 use Rattle.roster_branchtree.proofs.SpanLemmas.{in_span_has_lines, in_span_short}
 use Rattle.roster_branchtree.proofs.searching.is_settled.Goals as goal
 

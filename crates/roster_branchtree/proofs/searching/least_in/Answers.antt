@@ -1,8 +1,8 @@
 use Rattle.std.proofs.Common.{ℕ, List, Some, subst}
 use Rattle.std.specs.Prelude.{unwrap_or}
 use Rattle.roster_model.specs.Settled.{Settles}
-use Rattle.roster_regions.specs.Regions.{IsInRanges}
-use Rattle.roster_spans.specs.Spans.{IsInSpan}
+use Rattle.roster_search_regions.specs.Regions.{IsInRanges}
+use Rattle.roster_subtreepool_spans.specs.Spans.{IsInSpan}
 use Rattle.roster_branchtree.proofs.SpanLemmas.{settles_in_span}
 use Rattle.roster_branchtree.proofs.searching.least_in.Goals as goal
 

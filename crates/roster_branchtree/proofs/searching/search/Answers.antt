@@ -1,8 +1,8 @@
 use Rattle.std.proofs.Common.{◌≡◌, Some, subst}
 use Rattle.std.specs.Arc.{arc_value}
 use Rattle.roster_model.specs.Settled.{Settles}
-use Rattle.roster_spans.specs.Spans.{IsInSpan}
-use Rattle.roster_spans.specs.Spans.{Span}
+use Rattle.roster_subtreepool_spans.specs.Spans.{IsInSpan}
+use Rattle.roster_subtreepool_spans.specs.Spans.{Span}
 use Rattle.roster_branchtree.proofs.searching.search.Goals as goal
 
 pub returns-in-Ok-clause-settled : goal.returns-in-Ok-clause-settled

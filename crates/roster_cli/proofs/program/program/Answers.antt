@@ -2,8 +2,8 @@ use Rattle.std.proofs.Common.{◌≡◌, ◌≢◌, ◌⊎◌, [], IfOk, Some, m
 use Rattle.std.specs.Process.{exit_status}
 use Rattle.clap.specs.Words.{fault_of, takes}
 use Rattle.roster_values.specs.declared.command.Command.{Command}
-use Rattle.roster_commandline.specs.Line.{roster_app, command_name, spelling}
-use Rattle.roster_commandline.specs.declared.line.LineFault.TheVariants.{Memory}
+use Rattle.roster_cli_arguments.specs.Line.{roster_app, command_name, spelling}
+use Rattle.roster_cli_arguments.specs.declared.line.LineFault.TheVariants.{Memory}
 use Rattle.roster_cli.specs.Program.{Asks, texts_of}
 use Rattle.roster_cli.proofs.Ends.{differ, is_answered, is_refused}
 use Rattle.roster_cli.proofs.program.program.Given as given

@@ -7,9 +7,9 @@ use Rattle.roster_model.specs.Costs.{line_cost}
 use Rattle.roster_model.specs.Lines.{IsLine}
 use Rattle.roster_model.specs.Places.{places_le}
 use Rattle.roster_model.proofs.SetLemmas.{length_within}
-use Rattle.roster_linetable.specs.Entries.{Entry, sets_of}
-use Rattle.roster_linetable.specs.Person.{AreCosted}
-use Rattle.roster_linetable.proofs.TreeLemmas.{length-sets_of}
+use Rattle.roster_lines_table.specs.Entries.{Entry, sets_of}
+use Rattle.roster_lines_table.specs.Person.{AreCosted}
+use Rattle.roster_lines_table.proofs.TreeLemmas.{length-sets_of}
 use Rattle.roster_lines.specs.Listing.{HoldOnly, IsUpTo, judged_as}
 use Rattle.roster_lines.proofs.Marks.{get_push_new, get_push_old, HasMoreLines-push, IsUpTo-push, IsUpTo-return}
 use Rattle.roster_lines.proofs.Stems.{costs_pushed, line_there, no_line_there, longer_set, past_candidate, sets_pushed, up_to_candidate}

@@ -1,8 +1,8 @@
 use Rattle.std.proofs.Common.{◌≡◌, ℕ, ◌-◌, ◌≤◌, ◌++◌, ◌∷◌, List, [], length, Some}
 use Rattle.std.specs.Prelude.{slice_get}
 use Rattle.roster_model.specs.declared.limits.TheConstants.{MOST_PAIRINGS}
-use Rattle.roster_linetable.specs.Entries.{sets_of}
-use Rattle.roster_linetable.specs.Person.{AreCosted}
+use Rattle.roster_lines_table.specs.Entries.{sets_of}
+use Rattle.roster_lines_table.specs.Person.{AreCosted}
 use Rattle.roster_lines.specs.Listing.{IsUpTo}
 use Rattle.roster_lines.proofs.extend.+extend.Given as goal
 

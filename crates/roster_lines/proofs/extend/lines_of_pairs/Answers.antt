@@ -4,8 +4,8 @@ use Rattle.std.proofs.lemmas.Int.{to_z-of_z}
 use Rattle.std.proofs.lemmas.List.Elements.{All-cons, All-nil}
 use Rattle.roster_model.specs.Costs.{line_cost}
 use Rattle.roster_model.specs.Rules.{is_among}
-use Rattle.roster_linetable.specs.Entries.{Entry, sets_of}
-use Rattle.roster_linetable.specs.Person.{AreCosted}
+use Rattle.roster_lines_table.specs.Entries.{Entry, sets_of}
+use Rattle.roster_lines_table.specs.Person.{AreCosted}
 use Rattle.roster_lines.specs.Listing.{IsUpTo}
 use Rattle.roster_lines.proofs.Listed.{alone_of_line}
 use Rattle.roster_lines.proofs.Marks.{AreWantedLines-up_to, IsUpTo-empty}

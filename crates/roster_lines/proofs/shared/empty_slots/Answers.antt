@@ -1,6 +1,6 @@
 use Rattle.std.proofs.Common.{List, Result, Err}
 use Rattle.roster_model.proofs.PushLemmas.{each-next}
-use Rattle.roster_linetable.specs.Entries.{Entry}
+use Rattle.roster_lines_table.specs.Entries.{Entry}
 use Rattle.roster_lines.specs.declared.extend.LinesFault.{LinesFault}
 use Rattle.roster_lines.specs.declared.extend.LinesFault.TheVariants.{Memory}
 use Rattle.roster_lines.specs.Made.{IsMadeOf}

@@ -1,6 +1,6 @@
 use Rattle.std.proofs.Common.{◌≡◌, ℕ, length, Result, Some}
 use Rattle.std.specs.Prelude.{List, slice_get}
-use Rattle.roster_linetable.specs.Entries.{Entry}
+use Rattle.roster_lines_table.specs.Entries.{Entry}
 use Rattle.roster_lines.specs.declared.extend.LinesFault.{LinesFault}
 use Rattle.roster_lines.specs.Made.{IsMadeOf}
 use Rattle.roster_lines.proofs.shared.empty_slots.Given as goal

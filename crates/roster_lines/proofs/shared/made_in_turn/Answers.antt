@@ -1,6 +1,6 @@
 use Rattle.std.proofs.Common.{ℕ, ◌<◌, List, length, Result, ap, arith}
 use Rattle.std.proofs.lemmas.List.Elements.{All-push, All-same}
-use Rattle.roster_linetable.specs.Entries.{Entry}
+use Rattle.roster_lines_table.specs.Entries.{Entry}
 use Rattle.roster_lines.specs.declared.extend.LinesFault.{LinesFault}
 use Rattle.roster_lines.specs.Made.{IsMadeOf}
 use Rattle.roster_lines.proofs.Made.{IsMadeOf-from_clauses}

@@ -2,8 +2,8 @@ use Rattle.std.proofs.Common.{ℕ, ◌+◌, ◌<◌, List, length, Some, sym, ap
 use Rattle.std.specs.Prelude.{slice_get}
 use Rattle.std.proofs.lemmas.List.{length_push}
 use Rattle.std.proofs.lemmas.Option.{slice_get-get_or}
-use Rattle.roster_linetable.specs.Entries.{Entry, sets_of}
-use Rattle.roster_linetable.specs.Person.{AreListedOf}
+use Rattle.roster_lines_table.specs.Entries.{Entry, sets_of}
+use Rattle.roster_lines_table.specs.Person.{AreListedOf}
 use Rattle.roster_lines.specs.SomeLines.{AreWantedLines}
 use Rattle.roster_lines.specs.WantedTables.{AreAllWanted, AreListedSoFar}
 use Rattle.roster_lines.proofs.WantedTables.{AreAllWanted-push, AreListedSoFar-push}

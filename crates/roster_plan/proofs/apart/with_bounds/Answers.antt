@@ -1,6 +1,6 @@
 use Rattle.std.proofs.Common.{ℤ, sym, subst, w64, FitsSigned, rules}
 use Rattle.std.proofs.lemmas.Int.{to_z-of_z}
-use Rattle.roster_pricing.specs.Homes.{IsHomeBound}
+use Rattle.roster_plan_bound.specs.Homes.{IsHomeBound}
 use Rattle.roster_plan.specs.Bases.{IsGap}
 use Rattle.roster_plan.proofs.MonthLemmas.{month_on}
 use Rattle.roster_plan.proofs.PartLemmas.{same_home_bound}

@@ -2,7 +2,7 @@ use Rattle.std.proofs.Common.{◌+◌, ◌-◌, ◌*◌, ◌^◌, ◌≤◌, len
 use Rattle.roster_model.specs.declared.limits.TheConstants.{MOST_UNITS}
 use Rattle.roster_model.specs.Costs.{missed_targets}
 use Rattle.roster_cost.specs.Amounts.{IsWithin}
-use Rattle.roster_pricing.specs.Homes.{EachHomeRoster}
+use Rattle.roster_plan_bound.specs.Homes.{EachHomeRoster}
 use Rattle.roster_plan.proofs.FloorLemmas.{cost_behind}
 use Rattle.roster_plan.proofs.bound.lower_bound.Given as goal
 

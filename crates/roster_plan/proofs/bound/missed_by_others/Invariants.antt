@@ -1,5 +1,5 @@
 use Rattle.std.proofs.Common.{ℕ, List, pos, ◌^◌, ◌≤ℤ◌}
-use Rattle.roster_pricing.specs.Homes.{IsHome}
+use Rattle.roster_plan_bound.specs.Homes.{IsHome}
 use Rattle.roster_plan.proofs.FloorLemmas.{missed_until}
 use Rattle.roster_plan.proofs.bound.missed_by_others.Given as goal
 

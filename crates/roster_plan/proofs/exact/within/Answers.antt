@@ -1,8 +1,8 @@
 use Rattle.std.proofs.Common.{◌≡◌, subst, arith, ℤ, pos, ◌+ℤ◌, ◌≤ℤ◌, w64, to_z, of_z, FitsSigned, rules}
 use Rattle.std.proofs.lemmas.Int.{ints, to_z-of_z}
 use Rattle.roster_model.specs.Problem.{Problem}
-use Rattle.roster_linetable.specs.Person.{IsOfTable}
-use Rattle.roster_least.specs.Least.{IsLeastBelow}
+use Rattle.roster_lines_table.specs.Person.{IsOfTable}
+use Rattle.roster_search_least.specs.Least.{IsLeastBelow}
 use Rattle.roster_search.specs.Limited.{IsSearched}
 use Rattle.roster_plan.proofs.ExactLemmas.{best_of_base, none_below, HasAllWithin}
 use Rattle.roster_plan.proofs.exact.within.Goals as goal

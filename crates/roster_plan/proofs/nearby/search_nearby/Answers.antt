@@ -4,10 +4,10 @@ use Rattle.std.proofs.lemmas.Int.{ints, to_z-of_z}
 use Rattle.roster_model.specs.Rosters.{Key, key_of}
 use Rattle.roster_model.specs.Settled.{IsHeld}
 use Rattle.roster_model.proofs.KeyLemmas.{key_le-trans}
-use Rattle.roster_linetable.specs.Person.{IsOfTable}
-use Rattle.roster_least.specs.Least.{IsLeastBelow}
+use Rattle.roster_lines_table.specs.Person.{IsOfTable}
+use Rattle.roster_search_least.specs.Least.{IsLeastBelow}
 use Rattle.roster_search.specs.Limited.{IsSearched}
-use Rattle.roster_least.proofs.Keys.{by_cost}
+use Rattle.roster_search_least.proofs.Keys.{by_cost}
 use Rattle.roster_plan.specs.Near.{HasAllNear}
 use Rattle.roster_plan.proofs.nearby.search_nearby.Goals as goal
 

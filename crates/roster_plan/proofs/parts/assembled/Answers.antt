@@ -5,8 +5,8 @@ use Rattle.std.proofs.lemmas.Int.{ints, to_z-of_z}
 use Rattle.std.proofs.lemmas.Option.{slice_get-get_or}
 use Rattle.roster_model.specs.Costs.{cost_of}
 use Rattle.roster_model.specs.Settled.{Anywhere, IsHeld, IsNotAfter}
-use Rattle.roster_least.specs.Parts.{merge}
-use Rattle.roster_least.proofs.BoxLemmas.{all_open}
+use Rattle.roster_search_least.specs.Parts.{merge}
+use Rattle.roster_search_least.proofs.BoxLemmas.{all_open}
 use Rattle.roster_plan.specs.declared.parts.Part.{Part}
 use Rattle.roster_plan.specs.Parts.{AreTogether, IsPart}
 use Rattle.roster_plan.proofs.PartLemmas.{all_best, all_bounded, next_together, nothing_together}

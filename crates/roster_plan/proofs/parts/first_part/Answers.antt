@@ -1,7 +1,7 @@
 use Rattle.std.proofs.Common.{◌≡◌, ℤ, subst, sym, w64, to_z, of_z, FitsSigned, rules}
 use Rattle.std.proofs.lemmas.Bool.{false≢true}
 use Rattle.std.proofs.lemmas.Int.{to_z-of_z}
-use Rattle.roster_pricing.specs.Homes.{IsHomeBound}
+use Rattle.roster_plan_bound.specs.Homes.{IsHomeBound}
 use Rattle.roster_plan.proofs.parts.first_part.Goals as goal
 
 pub returns : goal.returns

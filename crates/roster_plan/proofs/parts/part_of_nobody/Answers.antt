@@ -1,6 +1,6 @@
 use Rattle.std.proofs.Common.{◌≡◌, ℤ, ap, ◌∙◌, subst, sym, w64, to_z, of_z, FitsSigned, rules}
 use Rattle.std.proofs.lemmas.Int.{to_z-of_z}
-use Rattle.roster_pricing.specs.Homes.{IsHomeBound}
+use Rattle.roster_plan_bound.specs.Homes.{IsHomeBound}
 use Rattle.roster_plan.proofs.ExactLemmas.{best_is_home_bound}
 use Rattle.roster_plan.proofs.PartLemmas.{nobody_part}
 use Rattle.roster_plan.proofs.parts.part_of_nobody.Goals as goal

@@ -1,8 +1,8 @@
 use Rattle.std.proofs.Common.{◌≡◌, List, ℕ, eqb, length, sym, ap, ◌∙◌}
 use Rattle.std.proofs.lemmas.List.{length-replicate}
 use Rattle.roster_model.specs.Settled.{IsHeld}
-use Rattle.roster_least.proofs.Merges.{length-merge}
-use Rattle.roster_pricing.specs.Homes.{IsHome}
+use Rattle.roster_search_least.proofs.Merges.{length-merge}
+use Rattle.roster_plan_bound.specs.Homes.{IsHome}
 use Rattle.roster_plan.proofs.PartLemmas.{base_roster}
 use Rattle.roster_plan.proofs.parts.roster_of.Goals as goal
 

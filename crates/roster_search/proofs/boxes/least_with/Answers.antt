@@ -2,10 +2,10 @@ use Rattle.std.proofs.Common.{◌≡◌, length, subst, arith}
 use Rattle.std.specs.Prelude.{MatchOption}
 use Rattle.std.proofs.lemmas.Option.{MatchOption-at_some}
 use Rattle.roster_model.specs.Rosters.{key_of}
-use Rattle.roster_regions.specs.Regions.{IsInRanges}
-use Rattle.roster_least.specs.Least.{IsLeast}
-use Rattle.roster_least.specs.Parts.{IsWithoutPart}
-use Rattle.roster_least.proofs.BoxLemmas.{settled_by_earlier, settled_by_none}
+use Rattle.roster_search_regions.specs.Regions.{IsInRanges}
+use Rattle.roster_search_least.specs.Least.{IsLeast}
+use Rattle.roster_search_least.specs.Parts.{IsWithoutPart}
+use Rattle.roster_search_least.proofs.BoxLemmas.{settled_by_earlier, settled_by_none}
 use Rattle.roster_search.proofs.boxes.least_with.Goals as goal
 
 pub returns-in-None-clause-settled : goal.returns-in-None-clause-settled

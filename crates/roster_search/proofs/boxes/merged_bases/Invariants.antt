@@ -1,6 +1,6 @@
 use Rattle.roster_model.specs.Rosters.{key_of}
-use Rattle.roster_least.specs.Least.{IsLeast}
-use Rattle.roster_least.specs.Parts.{before, IsInPart}
+use Rattle.roster_search_least.specs.Least.{IsLeast}
+use Rattle.roster_search_least.specs.Parts.{before, IsInPart}
 use Rattle.roster_search.proofs.boxes.merged_bases.Given as goal
 
 -- the bases so far are merged

@@ -1,7 +1,7 @@
 use Rattle.std.proofs.Common.{◌≡◌, ◌-◌, ◌^◌, ℕ, List, length, eqb, pos, ap, subst, ◌∙◌, arith}
-use Rattle.roster_least.specs.Least.{IsLeastBelow}
-use Rattle.roster_least.specs.Parts.{merge, IsInPart}
-use Rattle.roster_least.proofs.BoxLemmas.{least_of_next}
+use Rattle.roster_search_least.specs.Least.{IsLeastBelow}
+use Rattle.roster_search_least.specs.Parts.{merge, IsInPart}
+use Rattle.roster_search_least.proofs.BoxLemmas.{least_of_next}
 use Rattle.roster_search.proofs.boxes.with_base.Goals as goal
 
 pub returns-clause-least : goal.returns-clause-least

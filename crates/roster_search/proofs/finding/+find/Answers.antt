@@ -2,9 +2,9 @@ use Rattle.std.proofs.Common.{w64, ℤ, Option, IfOk, to_z, of_z, subst}
 use Rattle.std.proofs.lemmas.Int.{to_z-of_z}
 use Rattle.roster_model.specs.Rosters.{Key}
 use Rattle.roster_model.specs.Settled.{IsFoundWithin, IsWithinCost}
-use Rattle.roster_regions.specs.Regions.{IsIn}
+use Rattle.roster_search_regions.specs.Regions.{IsIn}
 use Rattle.roster_search.specs.Open.{IsVisited}
-use Rattle.roster_least.proofs.FindLemmas.{if_ok}
+use Rattle.roster_search_least.proofs.FindLemmas.{if_ok}
 use Rattle.roster_search.proofs.OpenLemmas.{found_in_having, found_in_others}
 use Rattle.roster_search.proofs.finding.+find.Goals as goal
 

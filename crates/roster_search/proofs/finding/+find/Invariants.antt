@@ -1,4 +1,4 @@
-use Rattle.roster_regions.specs.Regions.{size_of}
+use Rattle.roster_search_regions.specs.Regions.{size_of}
 use Rattle.roster_search.proofs.finding.+find.Given as goal
 
 -- each part of a region has fewer lines

@@ -1,10 +1,10 @@
 use Rattle.std.proofs.Common.{w64, subst, sym}
 use Rattle.std.proofs.lemmas.Int.{to_z-of_z}
-use Rattle.roster_linetable.specs.Person.{IsOfTable}
-use Rattle.roster_regions.specs.Regions.{IsIn}
-use Rattle.roster_least.specs.Least.{IsLeastBelow}
-use Rattle.roster_least.specs.Parts.{AreWhole}
-use Rattle.roster_least.proofs.RangeParts.{in_whole_of, least_in_other, of_whole}
+use Rattle.roster_lines_table.specs.Person.{IsOfTable}
+use Rattle.roster_search_regions.specs.Regions.{IsIn}
+use Rattle.roster_search_least.specs.Least.{IsLeastBelow}
+use Rattle.roster_search_least.specs.Parts.{AreWhole}
+use Rattle.roster_search_least.proofs.RangeParts.{in_whole_of, least_in_other, of_whole}
 use Rattle.roster_search.proofs.limited.least_within.Goals as goal
 
 pub returns-in-Ok : goal.returns-in-Ok

@@ -1,8 +1,8 @@
 use Rattle.std.proofs.Common.{◌≡◌, ◌-◌, ◌^◌, ℕ, Option, eqb, pos, sym, subst}
 use Rattle.std.proofs.lemmas.Result.{IfOk-weaker}
 use Rattle.roster_model.specs.Rosters.{Key}
-use Rattle.roster_least.specs.Least.{IsLeastBelow}
-use Rattle.roster_least.specs.Parts.{IsBasePart, IsInPart}
+use Rattle.roster_search_least.specs.Least.{IsLeastBelow}
+use Rattle.roster_search_least.specs.Parts.{IsBasePart, IsInPart}
 use Rattle.roster_search.proofs.parts.least_at.Goals as goal
 
 pub returns-then-part-base-clause-least : goal.returns-then-part-base-clause-least

@@ -2,10 +2,10 @@ use Rattle.std.proofs.Common.{w64, ℤ, Option, IfSome, to_z, of_z, subst}
 use Rattle.std.proofs.lemmas.Int.{to_z-of_z}
 use Rattle.roster_model.specs.Rosters.{Key}
 use Rattle.roster_model.specs.Settled.{IsWithinCost}
-use Rattle.roster_regions.specs.Regions.{IsIn, IsNarrowed}
-use Rattle.roster_narrowing.specs.Bounds.{CostsAtMost, IsAllAbove}
-use Rattle.roster_narrowing.proofs.Narrowing.{narrowed_then}
-use Rattle.roster_least.proofs.FindLemmas.{above_part, says_no, says_yes, within_part}
+use Rattle.roster_search_regions.specs.Regions.{IsIn, IsNarrowed}
+use Rattle.roster_search_fixing.specs.Bounds.{CostsAtMost, IsAllAbove}
+use Rattle.roster_search_fixing.proofs.Narrowing.{narrowed_then}
+use Rattle.roster_search_least.proofs.FindLemmas.{above_part, says_no, says_yes, within_part}
 use Rattle.roster_search.proofs.refining.end_or_part.Goals as goal
 
 pub returns-then-not-branch : goal.returns-then-not-branch

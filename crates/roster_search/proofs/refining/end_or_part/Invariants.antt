@@ -1,5 +1,5 @@
-use Rattle.roster_regions.specs.Regions.{IsNarrowed}
-use Rattle.roster_narrowing.specs.Bounds.{CostsAtMost}
+use Rattle.roster_search_regions.specs.Regions.{IsNarrowed}
+use Rattle.roster_search_fixing.specs.Bounds.{CostsAtMost}
 use Rattle.roster_search.proofs.refining.end_or_part.Given as goal
 
 -- what is left has all that is cheap

@@ -2,7 +2,7 @@ use Rattle.std.proofs.Common.{◌≡◌, ◌++◌, List, [], ◌∷◌, MatchOpt
 use Rattle.std.proofs.lemmas.Int.{to_z-of_z}
 use Rattle.std.proofs.lemmas.List.Elements.{All-pop}
 use Rattle.roster_model.specs.Settled.{IsWithinCost}
-use Rattle.roster_regions.specs.Regions.{IsRegion, Region}
+use Rattle.roster_search_regions.specs.Regions.{IsRegion, Region}
 use Rattle.roster_search.specs.Open.{AreOpenOf, IsInSome, IsVisited}
 use Rattle.roster_search.proofs.OpenLemmas.{last_ended, parts_of_last}
 use Rattle.roster_search.proofs.stack.visit_last.Goals as goal

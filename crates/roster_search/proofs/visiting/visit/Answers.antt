@@ -2,10 +2,10 @@ use Rattle.std.proofs.Common.{◌<◌, w64, ℤ, to_z, of_z, sym, subst}
 use Rattle.std.proofs.lemmas.Int.{to_z-of_z}
 use Rattle.std.proofs.lemmas.Option.{MatchOption-at_some}
 use Rattle.roster_model.specs.Settled.{IsFoundWithin}
-use Rattle.roster_regions.specs.Regions.{size_of, IsIn}
+use Rattle.roster_search_regions.specs.Regions.{size_of, IsIn}
 use Rattle.roster_search.specs.Open.{IsParted}
 use Rattle.roster_search.specs.Refined.{IsRefined}
-use Rattle.roster_least.proofs.FindLemmas.{found_in_part}
+use Rattle.roster_search_least.proofs.FindLemmas.{found_in_part}
 use Rattle.roster_search.proofs.OpenLemmas.{parted_by}
 use Rattle.roster_search.proofs.visiting.visit.Goals as goal
 

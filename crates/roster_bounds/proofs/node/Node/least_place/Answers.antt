@@ -1,5 +1,5 @@
 use Rattle.std.proofs.Common.{◌≡◌, ℕ, List, length, sym, ap, ap₂, ◌∙◌, subst, arith}
-use Rattle.roster_linetable.specs.Entries.{Entry}
+use Rattle.roster_lines_table.specs.Entries.{Entry}
 use Rattle.roster_model.specs.Problem.{Problem}
 use Rattle.roster_bounds.specs.Chosen.{placing_person, ChosenLines, IsOfNode}
 use Rattle.roster_bounds.proofs.OfNode.{least_place_is}

@@ -1,7 +1,7 @@
 use Rattle.std.proofs.Common.{◌≡◌, ◌<◌, ℕ, length, ℤ, ◌≤ℤ◌, sym, ap, ◌∙◌, subst, inl, inr, arith}
 use Rattle.std.proofs.lemmas.Bool.{cases_lt}
 use Rattle.std.proofs.lemmas.Int.{ints}
-use Rattle.roster_linetable.specs.Person.{lines_at, IsTableOf}
+use Rattle.roster_lines_table.specs.Person.{lines_at, IsTableOf}
 use Rattle.roster_bounds.specs.Amounts.{AreReduced}
 use Rattle.roster_bounds.specs.Chosen.{line_set, reduced_at, ChosenLines, Meets}
 use Rattle.roster_bounds.proofs.PricedLines.{line_set-at, number_of_line, same_word128}

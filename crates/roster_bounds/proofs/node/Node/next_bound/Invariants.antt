@@ -1,7 +1,7 @@
 use Rattle.std.proofs.Common.{◌≡◌, ◌<◌, ℕ, List, Some}
 use Rattle.std.specs.Prelude.{◌≤ℤ◌, length, slice_get}
-use Rattle.roster_linetable.specs.Entries.{sets_of}
-use Rattle.roster_linetable.specs.Person.{lines_at}
+use Rattle.roster_lines_table.specs.Entries.{sets_of}
+use Rattle.roster_lines_table.specs.Person.{lines_at}
 use Rattle.roster_bounds.specs.Amounts.{AreReduced}
 use Rattle.roster_bounds.specs.Chosen.{reduced_at, Meets}
 use Rattle.roster_bounds.proofs.node.Node.next_bound.Given as goal

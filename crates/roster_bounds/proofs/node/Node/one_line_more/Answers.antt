@@ -1,6 +1,6 @@
 use Rattle.std.proofs.Common.{◌≡◌, ◌<◌, ◌∷◌, ◌++◌, ◌||◌, [], ℕ, List, length, ℤ, ◌+ℤ◌, ◌≤◌, to_z, of_z, sym, ap, ◌∙◌, subst, arith}
 use Rattle.roster_model.specs.Rules.{is_among}
-use Rattle.roster_linetable.specs.Person.{lines_at}
+use Rattle.roster_lines_table.specs.Person.{lines_at}
 use Rattle.roster_bounds.specs.Chosen.{line_set, reduced_at, ChosenLines, IsNode, Meets}
 use Rattle.std.specs.Int.{w128}
 use Rattle.roster_model.specs.Problem.{Problem}

@@ -1,6 +1,6 @@
 use Rattle.std.proofs.Common.{◌<◌, length, sym, subst}
 use Rattle.roster_model.specs.Lines.{IsLine}
-use Rattle.roster_linetable.specs.Person.{lines_at}
+use Rattle.roster_lines_table.specs.Person.{lines_at}
 use Rattle.roster_bounds.specs.Chosen.{PricedTable}
 use Rattle.roster_bounds.proofs.PricedLines.{line_is, line_set-at}
 use Rattle.roster_bounds.proofs.tables.Tables.set.Goals as goal

@@ -4,7 +4,7 @@ use Rattle.std.proofs.lemmas.Option.{slice_get-get_or}
 use Rattle.std.proofs.lemmas.Result.{IfOk-weaker}
 use Rattle.roster_model.specs.Rosters.{Key}
 use Rattle.roster_model.specs.Settled.{IsHeld, IsNotAfter}
-use Rattle.roster_pricing.specs.Homes.{IsHome, IsHomeBound}
+use Rattle.roster_plan_bound.specs.Homes.{IsHome, IsHomeBound}
 use Rattle.roster_plan.specs.declared.parts.Part.{Part}
 use Rattle.roster_plan.specs.Months.{HasBound}
 use Rattle.roster_plan.specs.Parts.{IsPart}

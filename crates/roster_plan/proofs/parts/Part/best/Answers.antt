@@ -1,6 +1,6 @@
 use Rattle.std.proofs.Common.{◌≡◌, ℤ, ap, ◌∙◌, subst, sym, w64, to_z, of_z, FitsSigned, rules}
 use Rattle.std.proofs.lemmas.Int.{to_z-of_z}
-use Rattle.roster_pricing.specs.Homes.{IsHomeBound}
+use Rattle.roster_plan_bound.specs.Homes.{IsHomeBound}
 use Rattle.roster_plan.proofs.PartLemmas.{best_of_found}
 use Rattle.roster_plan.proofs.ExactLemmas.{best_is_home_bound}
 use Rattle.roster_plan.proofs.parts.Part.best.Goals as goal

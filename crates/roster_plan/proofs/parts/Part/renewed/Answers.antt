@@ -3,7 +3,7 @@ use Rattle.std.proofs.lemmas.Int.{to_z-of_z}
 use Rattle.roster_model.specs.Rosters.{Key, key_le, key_of}
 use Rattle.roster_model.specs.Settled.{IsHeld}
 use Rattle.roster_model.proofs.KeyLemmas.{key_le-trans}
-use Rattle.roster_pricing.specs.Homes.{IsHome, IsHomeBound}
+use Rattle.roster_plan_bound.specs.Homes.{IsHome, IsHomeBound}
 use Rattle.roster_plan.proofs.PartLemmas.{either_part}
 use Rattle.roster_plan.proofs.parts.Part.renewed.Goals as goal
 

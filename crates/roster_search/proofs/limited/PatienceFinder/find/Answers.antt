@@ -3,7 +3,7 @@ use Rattle.std.proofs.lemmas.Int.{to_z-of_z}
 use Rattle.std.proofs.lemmas.List.{nil_from_length}
 use Rattle.std.proofs.lemmas.Option.{MatchOption-at_none, MatchOption-at_some}
 use Rattle.roster_model.specs.Settled.{CostsMore, IsWithinCost}
-use Rattle.roster_regions.specs.Regions.{IsIn}
+use Rattle.roster_search_regions.specs.Regions.{IsIn}
 use Rattle.roster_search.specs.Open.{AreOpenOf}
 use Rattle.roster_search.proofs.OpenLemmas.{found_then, none_left, open_then}
 use Rattle.roster_search.proofs.limited.PatienceFinder.find.Goals as goal

@@ -1,4 +1,4 @@
-use Rattle.roster_regions.specs.Regions.{IsIn}
+use Rattle.roster_search_regions.specs.Regions.{IsIn}
 use Rattle.roster_search.specs.Open.{AreOpenOf}
 use Rattle.roster_search.proofs.limited.PatienceFinder.find.Given as goal
 

@@ -1,4 +1,4 @@
-use Rattle.roster_regions.specs.Regions.{IsRegion}
+use Rattle.roster_search_regions.specs.Regions.{IsRegion}
 use Rattle.roster_search.proofs.root.Rise.end_by_threads.Given as goal
 
 -- the part is a region

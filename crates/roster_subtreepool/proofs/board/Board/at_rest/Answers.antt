@@ -1,6 +1,6 @@
 use Rattle.std.proofs.Common.{◌≡◌, List, [], Option, None, All, sym, ap, ◌∙◌, subst, arith}
 use Rattle.std.proofs.lemmas.List.{nil_from_length}
-use Rattle.roster_spans.specs.Spans.{Span}
+use Rattle.roster_subtreepool_spans.specs.Spans.{Span}
 use Rattle.roster_subtreepool.specs.States.{State}
 use Rattle.roster_subtreepool.proofs.board.Board.at_rest.Goals as goal
 

@@ -1,5 +1,5 @@
 use Rattle.std.proofs.Common.{ℕ, List, length, ap, arith}
-use Rattle.roster_spans.specs.Spans.{Span}
+use Rattle.roster_subtreepool_spans.specs.Spans.{Span}
 use Rattle.roster_subtreepool.proofs.StepLemmas.{after-finished}
 use Rattle.roster_subtreepool.proofs.pool_state.PoolState.closed.Goals as goal
 

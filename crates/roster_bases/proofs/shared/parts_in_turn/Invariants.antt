@@ -1,6 +1,0 @@
-use Rattle.roster_least.specs.Parts.{AreBaseParts}
-use Rattle.roster_bases.proofs.shared.parts_in_turn.Given as goal
-
--- what is found so far is true
-abbrev pub invariant-loop : goal.invariant-loop
-invariant-loop g l = AreBaseParts l.problem l.table l.ranges l.parts.items

@@ -1,0 +1,47 @@
+//! The words of a line.
+
+ghost use Rattle.std.specs.Prelude.{◌≡◌, IfOk, map};
+ghost use Rattle.roster_desk_reports.specs.Text as spec;
+
+use std::alloc::{AllocError, Global};
+
+/// The byte order mark, which some editors put before a text.
+const MARK: &[u8] = b"\xef\xbb\xbf";
+
+/// The text without the byte order mark before it, if it has one.
+pub(crate) fn without_mark(text: &[u8]) -> &[u8]
+    ensures { result.now ≡ spec.text_of text.now }
+{
+    text.strip_prefix(MARK).unwrap_or(text)
+}
+
+/// The lines of a text.
+pub(crate) fn lines_of<'a>(alloc: Global, text: &'a [u8]) -> Result<Vec<&'a [u8]>, AllocError>
+    ensures { IfOk result (λ lines. map (λ line. line.now) lines.items ≡ spec.lines_of text.now) }
+{
+    text.split(|byte| *byte == b'\n').collect(alloc)
+}
+
+/// The words of a line, which blanks part. A carriage return is one.
+pub(crate) fn words_of<'a>(alloc: Global, line: &'a [u8]) -> Result<Vec<&'a [u8]>, AllocError>
+    ensures { IfOk result (λ words. map (λ word. word.now) words.items ≡ spec.words_of line.now) }
+{
+    line.split(|byte| byte.is_ascii_whitespace())
+        .filter(|word| !word.is_empty())
+        .collect(alloc)
+}
+
+/// Whether the words are those of a `CREW` line.
+pub(crate) fn is_crew(words: &[&[u8]]) -> bool
+    ensures { result ≡ spec.is_crew (map (λ word. word.now) words.now) }
+{
+    match words.first() {
+        Some(word) => *word == b"CREW".as_slice(),
+        None => false,
+    }
+}
+
+/// Whether the word is a number, without a sign.
+pub(crate) fn is_number(word: &[u8]) -> bool {
+    word.iter().all(|byte| byte.is_ascii_digit())
+}

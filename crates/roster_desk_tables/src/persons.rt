@@ -1,0 +1,83 @@
+//! A row for each person.
+
+ghost use Rattle.std.specs.Prelude.{◌≡◌, ◌<◌, length};
+
+use crate::records::Records;
+use crate::sums::sums_of;
+use roster_desk_words::duties_with;
+use roster_problem::Problem;
+use std::alloc::{AllocError, Global};
+
+/// The names of the columns.
+pub(crate) const COLUMNS: [&[u8]; 12] = [
+    b"PERSON",
+    b"BASE",
+    b"PAIRINGS",
+    b"DUTIES",
+    b"LEAVES",
+    b"FLIGHT",
+    b"DUTY7",
+    b"DUTY14",
+    b"DUTY28",
+    b"FLIGHT28",
+    b"TARGET",
+    b"COST",
+];
+
+/// How many pairings the roster gives to person `k`.
+fn count_of(places: &[u16], k: usize) -> usize {
+    let mut count = 0usize;
+    for place in places {
+        if usize::from(*place) == k {
+            count = count.saturating_add(1);
+        }
+    }
+    count
+}
+
+/// How many leaves person `k` has.
+fn leaves_of(problem: &Problem, k: usize) -> usize
+    requires { k < length problem.now.persons }
+{
+    problem.leave(k).len()
+}
+
+/// Puts the row of person `k` behind the others.
+pub(crate) fn push_person(
+    alloc: Global,
+    records: &mut Records,
+    problem: &Problem,
+    places: &[u16],
+    k: usize,
+) -> Result<(), AllocError>
+    requires covers { length places.now ≡ length problem.now.pairings }
+    requires person { k < length problem.now.persons }
+{
+    let person = problem.person(k);
+    let list = duties_with(alloc, problem, places, k)?;
+    let pairings = count_of(places, k).to_string(alloc)?;
+    let duties = list.len().to_string(alloc)?;
+    let leaves = leaves_of(problem, k).to_string(alloc)?;
+    let sums = sums_of(alloc, problem, places, k)?;
+    let flight = sums.minutes[0].to_string(alloc)?;
+    let duty7 = sums.minutes[1].to_string(alloc)?;
+    let duty14 = sums.minutes[2].to_string(alloc)?;
+    let duty28 = sums.minutes[3].to_string(alloc)?;
+    let flight28 = sums.minutes[4].to_string(alloc)?;
+    let target = person.target.to_string(alloc)?;
+    let cost = sums.cost.to_string(alloc)?;
+    records.push(&[
+        person.id.as_bytes(),
+        problem.home(k).id.as_bytes(),
+        pairings.as_bytes(),
+        duties.as_bytes(),
+        leaves.as_bytes(),
+        flight.as_bytes(),
+        duty7.as_bytes(),
+        duty14.as_bytes(),
+        duty28.as_bytes(),
+        flight28.as_bytes(),
+        target.as_bytes(),
+        cost.as_bytes(),
+    ])
+}

@@ -1,0 +1,226 @@
+//! A row for each duty, leave and pairing of a person.
+
+ghost use Rattle.std.specs.Prelude.{◌≡◌, ◌<◌, length};
+
+use crate::records::Records;
+use roster_desk_words::{Zones, duties_with, pairing_name, utc};
+use roster_instants::Minute;
+use roster_problem::{Duty, Holder, Problem, Sector};
+use std::alloc::{AllocError, Global};
+
+/// The names of the columns.
+pub(crate) const COLUMNS: [&[u8]; 11] = [
+    b"PERSON",
+    b"KIND",
+    b"NAME",
+    b"PAIRING",
+    b"STATION",
+    b"FROM_UTC",
+    b"TO_UTC",
+    b"FROM_LOCAL",
+    b"TO_LOCAL",
+    b"MINUTES",
+    b"FLIGHT",
+];
+
+/// What a row tells of, behind the person.
+#[derive(Drop)]
+struct Row<'a> {
+    kind: &'a [u8],
+    name: &'a [u8],
+    pairing: &'a [u8],
+    station: &'a [u8],
+    from: Minute,
+    to: Minute,
+    // Minutes of operated sectors; a leave has none.
+    flight: Option<i64>,
+}
+
+/// The minutes of the sector if it is operated.
+fn flown_in(sector: Sector) -> i64 {
+    if sector.operates {
+        sector.on.get() - sector.off.get()
+    } else {
+        0
+    }
+}
+
+/// The minutes of the duty's operated sectors, in the month or not.
+fn flown(duty: &Duty) -> i64 {
+    let mut minutes = 0i64;
+    for sector in duty.sectors.iter() {
+        minutes = minutes.saturating_add(flown_in(*sector));
+    }
+    minutes
+}
+
+/// The row of a duty.
+fn duty_row<'a>(problem: &'a Problem, duty: &'a Duty) -> Row<'a> {
+    let pairing = match duty.holder {
+        Holder::Pairing(p) => pairing_name(problem, p),
+        Holder::Person(_) => b"".as_slice(),
+    };
+    Row {
+        kind: b"duty",
+        name: duty.id.as_bytes(),
+        pairing,
+        station: duty.station.as_bytes(),
+        from: duty.report,
+        to: duty.release,
+        flight: Some(flown(duty)),
+    }
+}
+
+/// The minutes of flight of the duties at these places.
+fn flown_at(problem: &Problem, positions: &[u16]) -> i64 {
+    let mut minutes = 0i64;
+    for position in positions {
+        if let Some(duty) = problem.duties().get(usize::from(*position)) {
+            minutes = minutes.saturating_add(flown(duty));
+        }
+    }
+    minutes
+}
+
+/// The row of the pairing at place `p`, from its first report to its last release. Each pairing of a book
+/// has a duty.
+fn pairing_row(problem: &Problem, p: usize) -> Option<Row<'_>>
+    requires { p < length problem.now.pairings }
+{
+    let positions = problem.duties_of(p);
+    let first = problem.duties().get(usize::from(*positions.first()?))?;
+    let last = problem.duties().get(usize::from(*positions.last()?))?;
+    let name = problem.pairing(p).id.as_bytes();
+    Some(Row {
+        kind: b"pairing",
+        name,
+        pairing: name,
+        station: first.station.as_bytes(),
+        from: first.report,
+        to: last.release,
+        flight: Some(flown_at(problem, positions)),
+    })
+}
+
+/// Puts the row of person `k` behind the others.
+fn push_row(
+    alloc: Global,
+    records: &mut Records,
+    problem: &Problem,
+    zones: &Zones,
+    k: usize,
+    row: &Row<'_>,
+) -> Result<(), AllocError>
+    requires { k < length problem.now.persons }
+{
+    let person = problem.person(k);
+    let flight = match row.flight {
+        Some(minutes) => minutes.to_string(alloc)?,
+        None => String::new(alloc),
+    };
+    let minutes = (row.to.get() - row.from.get()).to_string(alloc)?;
+    let from = utc(alloc, row.from)?;
+    let to = utc(alloc, row.to)?;
+    let local_from = zones.local(alloc, person.base, row.from)?;
+    let local_to = zones.local(alloc, person.base, row.to)?;
+    records.push(&[
+        person.id.as_bytes(),
+        row.kind,
+        row.name,
+        row.pairing,
+        row.station,
+        from.as_bytes(),
+        to.as_bytes(),
+        local_from.as_bytes(),
+        local_to.as_bytes(),
+        minutes.as_bytes(),
+        flight.as_bytes(),
+    ])
+}
+
+/// Puts the rows of the pairings of person `k` behind the others.
+fn push_pairings(
+    alloc: Global,
+    records: &mut Records,
+    problem: &Problem,
+    zones: &Zones,
+    places: &[u16],
+    k: usize,
+) -> Result<(), AllocError>
+    requires covers { length places.now ≡ length problem.now.pairings }
+    requires person { k < length problem.now.persons }
+{
+    for p in 0..places.len() {
+        if usize::from(places[p]) == k {
+            if let Some(row) = pairing_row(problem, p) {
+                push_row(alloc, records, problem, zones, k, &row)?;
+            }
+        }
+    }
+    Ok(())
+}
+
+/// Puts the rows of the duties of person `k` behind the others.
+fn push_duties(
+    alloc: Global,
+    records: &mut Records,
+    problem: &Problem,
+    zones: &Zones,
+    places: &[u16],
+    k: usize,
+) -> Result<(), AllocError>
+    requires covers { length places.now ≡ length problem.now.pairings }
+    requires person { k < length problem.now.persons }
+{
+    let list = duties_with(alloc, problem, places, k)?;
+    for i in 0..list.len() {
+        let row = duty_row(problem, list.duty(i));
+        push_row(alloc, records, problem, zones, k, &row)?;
+    }
+    Ok(())
+}
+
+/// Puts the rows of the leaves of person `k` behind the others.
+fn push_leaves(
+    alloc: Global,
+    records: &mut Records,
+    problem: &Problem,
+    zones: &Zones,
+    k: usize,
+) -> Result<(), AllocError>
+    requires { k < length problem.now.persons }
+{
+    for leave in problem.leaves().iter() {
+        if leave.person == k {
+            let row = Row {
+                kind: b"leave",
+                name: b"",
+                pairing: b"",
+                station: b"",
+                from: leave.from,
+                to: leave.to,
+                flight: None,
+            };
+            push_row(alloc, records, problem, zones, k, &row)?;
+        }
+    }
+    Ok(())
+}
+
+/// Puts the rows of person `k` behind the others: pairings in book order, then duties by report, then
+/// leaves in book order.
+pub(crate) fn push_rows(
+    alloc: Global,
+    records: &mut Records,
+    problem: &Problem,
+    zones: &Zones,
+    places: &[u16],
+    k: usize,
+) -> Result<(), AllocError>
+    requires covers { length places.now ≡ length problem.now.pairings }
+    requires person { k < length problem.now.persons }
+{
+    push_pairings(alloc, records, problem, zones, places, k)?;
+    push_duties(alloc, records, problem, zones, places, k)?;
+    push_leaves(alloc, records, problem, zones, k)
+}

@@ -1,0 +1,46 @@
+//! The tables of a roster.
+
+ghost use Rattle.std.specs.Prelude.{◌≡◌, ◌<◌, length};
+
+use crate::persons::push_person;
+use crate::records::Records;
+use crate::rows::push_rows;
+use crate::{persons, rows};
+use roster_desk_words::Zones;
+use roster_problem::Problem;
+use std::alloc::{AllocError, Global};
+
+/// A row for each pairing, duty and leave of each person with the roster, under a row of names. The places
+/// are the roster, which needn't be legal.
+pub fn roster_table(
+    alloc: Global,
+    problem: &Problem,
+    places: &[u16],
+    zones: &Zones,
+) -> Result<Vec<u8>, AllocError>
+    requires { length places.now ≡ length problem.now.pairings }
+{
+    let mut records = Records::new(alloc);
+    records.push(&rows::COLUMNS)?;
+    for k in 0..problem.persons().len() {
+        push_rows(alloc, &mut records, problem, zones, places, k)?;
+    }
+    records.finish()
+}
+
+/// A row for each person with the roster, under a row of names. The places are the roster, which needn't
+/// be legal.
+pub fn persons_table(
+    alloc: Global,
+    problem: &Problem,
+    places: &[u16],
+) -> Result<Vec<u8>, AllocError>
+    requires { length places.now ≡ length problem.now.pairings }
+{
+    let mut records = Records::new(alloc);
+    records.push(&persons::COLUMNS)?;
+    for k in 0..problem.persons().len() {
+        push_person(alloc, &mut records, problem, places, k)?;
+    }
+    records.finish()
+}

@@ -1,0 +1,54 @@
+//! How a run ends.
+
+ghost use Rattle.std.specs.Prelude.{◌≡◌};
+ghost use Rattle.std.specs.Process.{exit_status};
+ghost use Rattle.roster_desk_words.specs.Status.{exit_number};
+
+use roster_desk_reports::Wrong;
+use std::process::ExitCode;
+
+/// How a run ended.
+#[derive(Clone, Copy, PartialEq, Eq)]
+pub enum Status {
+    /// The plan was written, or the report of the best roster.
+    Answered,
+    /// The book has a fault, and its line was written.
+    Refused,
+    /// The report with which the plan was to begin gives no roster of the book, and nothing was written.
+    StartRefused {
+        /// The number of its line, from 1.
+        line: usize,
+        /// What is wrong with it.
+        wrong: Wrong,
+    },
+    /// Memory ran out, and nothing was written.
+    Memory,
+    /// The reader failed, and nothing was written.
+    ReadFailed,
+    /// The writer failed, and the first bytes of the text were written, none or perhaps all.
+    WriteFailed,
+}
+
+impl Status {
+    /// The program's exit status.
+    pub fn exit_code(self) -> ExitCode
+        ensures { exit_status result ≡ exit_number self }
+    {
+        match self {
+            Status::Answered => ExitCode::SUCCESS,
+            Status::Refused | Status::StartRefused { .. } => ExitCode::from(1),
+            Status::Memory => ExitCode::from(3),
+            Status::ReadFailed | Status::WriteFailed => ExitCode::from(4),
+        }
+    }
+
+    /// What standard error is told, if anything. That a report is refused is told by whoever has its path.
+    pub fn message(self) -> Option<&'static str> {
+        match self {
+            Status::Answered | Status::Refused | Status::StartRefused { .. } => None,
+            Status::Memory => Some("error: memory"),
+            Status::ReadFailed => Some("error: read"),
+            Status::WriteFailed => Some("error: write"),
+        }
+    }
+}

@@ -1,6 +1,0 @@
-use Rattle.std.proofs.Common.{◌-◌}
-use Rattle.roster_model.specs.declared.limits.TheConstants.{MOST_PAIRINGS}
-use Rattle.roster_moves.proofs.tables.Tables.between.Given as goal
-
-abbrev pub decreases-loop-p : goal.decreases-loop-p
-decreases-loop-p l = MOST_PAIRINGS - l.from

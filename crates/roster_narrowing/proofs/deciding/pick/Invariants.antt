@@ -1,8 +1,0 @@
-use Rattle.std.proofs.Common.{ℕ, ◌<◌}
-use Rattle.roster_regions.specs.Regions.{lines_of}
-use Rattle.roster_narrowing.specs.Splits.{AgreesOn}
-use Rattle.roster_narrowing.proofs.deciding.pick.Given as goal
-
--- the lines of each person so far are the same
-abbrev pub invariant-loop-k : goal.invariant-loop-k
-invariant-loop-k l = (j : ℕ) → j < l.k → AgreesOn (lines_of l.region j)

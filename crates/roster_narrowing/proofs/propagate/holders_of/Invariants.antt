@@ -1,6 +1,0 @@
-use Rattle.roster_narrowing.specs.Propagation.{IsSoleBefore}
-use Rattle.roster_narrowing.proofs.propagate.holders_of.Given as goal
-
--- of the persons so far none may have it, or only that one
-abbrev pub invariant-loop-k : goal.invariant-loop-k
-invariant-loop-k l = IsSoleBefore l.region l.p l.k l.sole

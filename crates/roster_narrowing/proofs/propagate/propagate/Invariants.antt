@@ -1,7 +1,0 @@
-use Rattle.roster_regions.specs.Regions.{IsNarrowed}
-use Rattle.roster_narrowing.specs.Propagation.{Anything}
-use Rattle.roster_narrowing.proofs.propagate.propagate.Given as goal
-
--- no roster is lost so far
-abbrev pub invariant-loop-p : goal.invariant-loop-p
-invariant-loop-p l = IsNarrowed l.problem Anything l.initial.region l.region

@@ -1,0 +1,71 @@
+use Rattle.std.proofs.Common.{◌≡◌, ℕ, ◌+◌, ◌<◌, [], ◌∷◌, ◌++◌, length, Some, refl, ap, subst, sym, ◌∙◌, arith, ℤ, ◌+ℤ◌, ◌*ℤ◌, ◌≤ℤ◌, pos, w64, to_z, of_z, FitsSigned, rules}
+use Rattle.std.proofs.lemmas.Int.{to_z-of_z}
+use Rattle.std.proofs.lemmas.List.{length_push}
+use Rattle.std.specs.Prelude.{◌≢◌, slice_get}
+use Rattle.roster_model.specs.Costs.{cost_of}
+use Rattle.roster_model.specs.Places.{set_of}
+use Rattle.roster_model.specs.records.Crew.{Person}
+use Rattle.roster_model.proofs.PushLemmas.{each-push}
+use Rattle.roster_cost.specs.Amounts.{IsWithin}
+use Rattle.roster_lines_table.specs.Entries.{sets_of}
+use Rattle.roster_lines_table.specs.Person.{AreListedOf}
+use Rattle.roster_lines.specs.WantedTables.{AreListedSoFar}
+use Rattle.roster_plan_bound.specs.declared.parts.TheConstants.{MOST_LEAST, PARTS}
+use Rattle.roster_plan_bound.specs.Chains.{value_at}
+use Rattle.roster_plan_bound.specs.Homes.{EachHomeRoster}
+use Rattle.roster_plan_bound.specs.Reduced.{reduced}
+use Rattle.roster_plan_bound.proofs.GapLemmas.{cheap_enough, cheap_given, cheap_more, none_flies, HasCheap, HasNone}
+use Rattle.roster_plan_bound.proofs.gap.lines_of_gap.Goals as goal
+
+pub loop-k-preserved : goal.loop-k-preserved
+loop-k-preserved c =
+    let problem = c.args.pricing.now in
+    let base = c.args.base in
+    let k = c.loop-k.k in
+    let inv = c.loop-k.invariant in
+    let lines = c.in-Ok.lines in
+    let person : k < length problem.persons = omega (arith, c.loop-k-test.true, ap length c.persons-k-end.ensures.value, ap (λ p. length p.persons) c.problem-problem.ensures) in
+    let pushed : c.push.new.self ≡ c.loop-k.table ++ lines ∷ [] = c.in_ok-push-in-Ok.ensures in
+    let are = c.in-Ok.ensures in
+    let listed =
+    each-push (AreListedOf problem) c.loop-k.table lines inv.listed
+    (subst (λ j. AreListedOf problem j lines) (sym inv.count) are.listed) in
+    let nobody = each-push (λ j ls. (who : Person) → slice_get problem.persons j ≡ Some who → who.base ≢ base → sets_of ls ≡ [] ∷ []) c.loop-k.table lines inv.none
+    (subst (λ j. (who : Person) → slice_get problem.persons j ≡ Some who → who.base ≢ base → sets_of lines ≡ [] ∷ []) (sym inv.count) are.none) in
+    let bound : ℤ = c.args.bound in
+    let bound_told : to_z w64 (of_z w64 bound) ≡ bound = to_z-of_z w64 bound c.ranges.bound in
+    let least : ℤ = value_at c.args.leasts.now k in
+    let within : IsWithin MOST_LEAST least =
+    c.requires.look.small k (pos 0) (omega (arith, person, c.requires.look.covers)) in
+    let least_fits : FitsSigned w64 least = search rules in
+    let least_told : to_z w64 (of_z w64 least) ≡ least = to_z-of_z w64 least least_fits in
+    let limit_fits : FitsSigned w64 c.limit_of-limit.result = search rules in
+    let limit_told : to_z w64 (of_z w64 c.limit_of-limit.result) ≡ c.limit_of-limit.result =
+    to_z-of_z w64 c.limit_of-limit.result limit_fits in
+    let here : EachHomeRoster problem base (λ places. cost_of problem places ≤ℤ (to_z w64 (of_z w64 bound) +ℤ pos c.args.gap)
+    → (i : ℕ) × (slice_get (sets_of lines) i ≡ Some (set_of k places))) = λ places roster home cost.
+    let limit : reduced problem c.args.prices.now k (set_of k places) ≤ℤ to_z w64 (of_z w64 c.limit_of-limit.result) =
+    cheap_enough problem c.args.prices.now c.args.leasts.now base bound least
+    (to_z w64 (of_z w64 c.limit_of-limit.result)) c.args.gap k places c.requires.look roster home person
+    (subst (λ z. cost_of problem places ≤ℤ (z +ℤ pos c.args.gap)) bound_told cost) refl
+    (limit_told ∙ c.limit_of-limit.ensures ∙ ap (λ z. z +ℤ (pos PARTS *ℤ (pos c.args.gap +ℤ pos 1))) least_told) in
+    cheap_given problem c.args.prices.now base k
+    (to_z w64 (of_z w64 c.limit_of-limit.result)) lines places are person roster home limit in
+    record {
+      count = ap length pushed ∙ length_push c.loop-k.table lines ∙ ap (λ n. n + 1) inv.count;
+      few = omega (arith, person);
+      listed = subst (AreListedSoFar problem) (sym pushed) listed;
+      held = subst (λ t. HasCheap problem base (to_z w64 (of_z w64 c.args.bound)) c.args.gap t (k + 1)) (sym pushed) (cheap_more problem base (to_z w64 (of_z w64 c.args.bound)) c.args.gap k c.loop-k.table lines inv.count inv.held here);
+      none = subst (HasNone problem base) (sym pushed) nobody;
+    }
+
+pub returns-clause-listed : goal.returns-clause-listed
+returns-clause-listed c =
+    let all : c.loop-k.k ≡ length c.args.pricing.now.persons = omega (arith, c.loop-k-test.false, c.loop-k.invariant.few, ap length c.persons-k-end.ensures.value, ap (λ p. length p.persons) c.problem-problem.ensures) in
+    record { covers = c.loop-k.invariant.count ∙ all; each = c.loop-k.invariant.listed }
+
+pub returns-clause-home : goal.returns-clause-home
+returns-clause-home c places is =
+    let all : c.loop-k.k ≡ length c.args.pricing.now.persons = omega (arith, c.loop-k-test.false, c.loop-k.invariant.few, ap length c.persons-k-end.ensures.value, ap (λ p. length p.persons) c.problem-problem.ensures) in
+    none_flies c.args.pricing.now c.args.base c.loop-k.table places
+    (c.loop-k.invariant.count ∙ all) c.loop-k.invariant.none is

@@ -1,0 +1,11 @@
+use Rattle.std.proofs.Common.{◌<◌, length, Some, sym, ap, ◌∙◌, arith}
+use Rattle.std.proofs.lemmas.Option.{slice_get-get_or}
+use Rattle.roster_plan_bound.proofs.pricing.Pricing.least.Goals as goal
+
+pub least_of-requires-clause-network : goal.least_of-requires-clause-network
+least_of-requires-clause-network c =
+    let covers = c.self.invariant.are.covers in
+    let person = c.requires.person in
+    let same = ap (λ p. length p.persons) c.self.view_is in
+    let inside : c.args.k < length c.self.inside.networks.items = omega (arith, covers, person, same) in
+    c.self.invariant.are.each c.args.k c.index.result.now (slice_get-get_or c.self.inside.networks.items c.args.k c.index.result.now inside ∙ ap Some (sym c.index.ensures))

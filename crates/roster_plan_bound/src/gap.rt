@@ -1,0 +1,276 @@
+//! Lines that a roster of a base may have which costs little more than a bound.
+//!
+//! What a roster costs above the bound is what its persons' reduced costs are above the least ones, and what
+//! its pairings bring beside: nothing of that is below 0. So a line whose reduced cost alone is further above
+//! its person's least is in no such roster.
+
+ghost use Rattle.std.specs.Prelude.{◌≡◌, ◌<◌, ◌≤◌, ◌*◌, ◌+ℤ◌, ◌*ℤ◌, ◌≤ℤ◌, ℕ, pos, All, IfOk, List, length};
+ghost use Rattle.roster_model.specs.Costs.{cost_of};
+ghost use Rattle.roster_cost.specs.Amounts.{IsWithin};
+ghost use Rattle.roster_lines_table.specs.Person.{AreListed, IsOfTable};
+ghost use Rattle.roster_plan_bound.specs.Gaps.{AreCheapOf, IsAlong, IsLeastBehind, IsTabled};
+ghost use Rattle.roster_plan_bound.specs.Homes.{EachHomeRoster, IsHome};
+ghost use Rattle.roster_plan_bound.specs.Looks.{IsLook};
+ghost use Rattle.roster_plan_bound.specs.Networks.{AreRows, IsNetwork};
+ghost use Rattle.roster_plan_bound.specs.Reduced.{ArePrices};
+
+use crate::network::Network;
+use crate::parts::{MOST_LEAST, MOST_VALUE, PARTS};
+use crate::pricing::{Pricing, values_of};
+use crate::rows::{Row, led, next_state, rows_of};
+use roster_cumulative::flight_of_set;
+use roster_legal::part_of_legal_is_legal;
+use roster_lines::{Between, LinesFault, TableFault, Wanted, lines_of_pairs};
+use roster_lines_table::{Lines, Table};
+use roster_model::limits::{MOST_LINES, MOST_PAIRINGS};
+use roster_problem::Problem;
+use roster_values::Set;
+use std::alloc::{AllocError, Global};
+use std::marker::Model;
+
+/// For the rosters in which only persons of the base fly: the lines that each of them may have in a legal one
+/// that costs at most so many units more than the bound that the prices say. Other persons have the empty
+/// line.
+pub(crate) fn lines_of_gap(
+    alloc: Global,
+    pricing: &Pricing<'_>,
+    base: usize,
+    prices: &[i64],
+    leasts: &[i64],
+    bound: i64,
+    gap: u32,
+    most: usize,
+) -> Result<Table, TableFault>
+    requires prices { ArePrices pricing.now prices.now }
+    requires look { IsLook pricing.now prices.now base bound leasts.now }
+    requires limit { (0 < most) × (most ≤ MOST_LINES) }
+    ensures listed { IfOk result (AreListed pricing.now) }
+    ensures all { IfOk result (λ table. EachHomeRoster pricing.now base (λ places.
+        cost_of pricing.now places ≤ℤ (bound +ℤ pos gap) → IsOfTable table places)) }
+    ensures home { IfOk result (λ table. (places : List ℕ)
+        → IsOfTable table places → IsHome pricing.now base places) }
+{
+    let problem = pricing.problem();
+    let mut table = Table::empty(alloc);
+    for k in 0..problem.persons().len() {
+        let limit = limit_of(leasts[k], gap);
+        match lines_of_person(alloc, pricing, base, k, prices, limit, most) {
+            Ok(lines) => table.push(alloc, lines)?,
+            Err(LinesFault::TooMany) => return Err(TableFault::TooMany(k)),
+            Err(LinesFault::Memory) => return Err(TableFault::Memory),
+        }
+    }
+    Ok(table)
+}
+
+/// The lines of person `k` whose reduced cost is at most so much at the prices; the empty one alone, if the
+/// person is of another base.
+fn lines_of_person(
+    alloc: Global,
+    pricing: &Pricing<'_>,
+    base: usize,
+    k: usize,
+    prices: &[i64],
+    limit: i64,
+    most: usize,
+) -> Result<Lines, LinesFault>
+    requires person { k < length pricing.now.persons }
+    requires prices { ArePrices pricing.now prices.now }
+    requires limit { (0 < most) × (most ≤ MOST_LINES) }
+    ensures { IfOk result (AreCheapOf pricing.now prices.now base k limit) }
+{
+    let problem = pricing.problem();
+    let pairs = pricing.pairs(k);
+    if problem.person(k).base != base {
+        let none = Between {
+            must: Set::empty(),
+            may: Set::empty(),
+        };
+        let lines = lines_of_pairs(alloc, problem, k, pairs, &none, 1)?;
+        return Ok(lines);
+    }
+    let cheap = Cheap::new(alloc, problem, k, pricing.network(k), prices, limit)?;
+    let lines = lines_of_pairs(alloc, problem, k, pairs, &cheap, most)?;
+    Ok(lines)
+}
+
+/// What a reduced cost may be at most that is no further above the least one than so many units, rounded up.
+fn limit_of(least: i64, gap: u32) -> i64
+    requires { IsWithin MOST_LEAST least }
+    ensures { result ≡ least +ℤ (pos PARTS *ℤ (pos gap +ℤ pos 1)) }
+{
+    least + PARTS as i64 * (i64::from(gap) + 1)
+}
+
+/// The lines of a person whose reduced cost is at most so much at the prices. Contracts see the problem, the
+/// person, the prices and how much that is.
+#[derive(Drop)]
+pub(crate) struct Cheap<'a> {
+    problem: &'a Problem,
+    person: usize,
+    network: &'a Network,
+    prices: &'a [i64],
+    values: Vec<i64>,
+    rows: Vec<Row>,
+    most: i64,
+}
+
+impl<'a> Model for Cheap<'a> {
+    ghost use Rattle.roster_plan_bound.specs.Gaps as gaps;
+
+    ghost Value = { gaps.Cheap };
+
+    ghost view = { λ c. record {
+      problem = c.problem.now;
+      person = c.person;
+      prices = c.prices.now;
+      most = c.most;
+    } };
+
+    ghost invariant = { λ c. gaps.IsTabled c.problem.now c.person c.prices.now c.network.now
+        c.values.items c.rows.items };
+}
+
+impl<'a> Cheap<'a> {
+    /// The lines of person `k`, whose network it is.
+    fn new(
+        alloc: Global,
+        problem: &'a Problem,
+        k: usize,
+        network: &'a Network,
+        prices: &'a [i64],
+        most: i64,
+    ) -> Result<Cheap<'a>, AllocError>
+        requires person { k < length problem.now.persons }
+        requires network { IsNetwork problem.now k network.now }
+        requires prices { ArePrices problem.now prices.now }
+        ensures { IfOk result (λ cheap. cheap ≡ record {
+          problem = problem.now;
+          person = k;
+          prices = prices.now;
+          most = most;
+        }) }
+    {
+        let values = values_of(alloc, problem, k, prices)?;
+        let rows = rows_of(alloc, problem, k, network, &values)?;
+        Ok(Cheap::of_rows(problem, k, network, prices, values, rows, most))
+    }
+
+    /// The same, if what each pairing brings and the rows of all pairings are known.
+    pub(crate) fn of_rows(
+        problem: &'a Problem,
+        k: usize,
+        network: &'a Network,
+        prices: &'a [i64],
+        values: Vec<i64>,
+        rows: Vec<Row>,
+        most: i64,
+    ) -> Cheap<'a>
+        requires { IsTabled problem.now k prices.now network.now values.items rows.items }
+        ensures { result ≡ record {
+          problem = problem.now;
+          person = k;
+          prices = prices.now;
+          most = most;
+        } }
+    {
+        Cheap {
+            problem,
+            person: k,
+            network,
+            prices,
+            values,
+            rows,
+            most,
+        }
+    }
+
+    /// From now on a reduced cost may be at most so much.
+    pub(crate) fn limit_to(&mut self, most: i64)
+        ensures { self.new ≡ record {
+          problem = self.old.problem;
+          person = self.old.person;
+          prices = self.old.prices;
+          most = most;
+        } }
+    {
+        self.most = most;
+    }
+}
+
+impl<'a> Wanted for Cheap<'a> {
+    ghost use Rattle.roster_plan_bound.specs.Gaps.{IsCheap};
+
+    ghost wants = { λ cheap problem k set. IsCheap cheap problem k set };
+
+    fn among(&self, alone: &Set) -> Set {
+        *alone
+    }
+
+    fn goes_on(&self, problem: &Problem, k: usize, set: &Set, p: usize, _: i64, _: u64) -> bool {
+        part_of_legal_is_legal();
+        flight_of_set();
+        self.problem.is_sound();
+        if k != self.person || problem.pairings().len() != self.rows.len() {
+            return true;
+        }
+        let least = least_behind(
+            self.problem,
+            k,
+            self.network,
+            &self.values,
+            &self.rows,
+            set,
+            p,
+        );
+        if least > self.most {
+            return false;
+        }
+        true
+    }
+}
+
+/// What a chain brings at least that begins with the set and pairing `p` behind it.
+fn least_behind(
+    problem: &Problem,
+    k: usize,
+    network: &Network,
+    values: &[i64],
+    rows: &[Row],
+    set: &Set,
+    p: usize,
+) -> i64
+    requires network { IsNetwork problem.now k network.now }
+    requires covers { length values.now ≡ length problem.now.pairings }
+    requires values { All (IsWithin MOST_VALUE) values.now }
+    requires rows { AreRows problem.now network.now values.now rows.now }
+    requires all { length rows.now ≡ length problem.now.pairings }
+    requires set { All (λ q. q < length problem.now.pairings) set.now }
+    requires place { p < length problem.now.pairings }
+    ensures { IsLeastBehind network.now values.now set.now p result }
+{
+    problem.is_sound();
+    let (value, state) = along(network, values, set);
+    let next = next_state(network.terms.len(), state, network.steps[p]);
+    value + led(rows[rows.len() - 1 - p].all(), values[p], next)
+}
+
+/// What a chain has brought that begins with the set, and the state of flight that it has come to.
+fn along(network: &Network, values: &[i64], set: &Set) -> (i64, usize)
+    requires some { 0 < length network.now.terms.items }
+    requires steps { All (λ p. p < length network.now.steps.items) set.now }
+    requires covers { All (λ p. p < length values.now) set.now }
+    requires values { All (IsWithin MOST_VALUE) values.now }
+    ensures along { IsAlong network.now values.now set.now result.0 result.1 }
+    ensures within { IsWithin (MOST_PAIRINGS * MOST_VALUE) result.0 }
+{
+    let mut value = 0;
+    let mut state = 0;
+    let mut from = 0;
+    while let Some(q) = set.first_from(from) {
+        value += values[q];
+        state = next_state(network.terms.len(), state, network.steps[q]);
+        from = q + 1;
+    }
+    (value, state)
+}

@@ -1,0 +1,81 @@
+//! The persons of a base, and looks at each of them, shared among threads.
+
+ghost use Rattle.std.specs.Prelude.{◌≡◌, ◌<◌, All, IfOk, length, slice_index, vec_len};
+ghost use Rattle.roster_plan_bound.specs.Looks.{ArePersonsOf, AreSeen, IsSeen};
+ghost use Rattle.roster_plan_bound.specs.Reduced.{ArePrices};
+
+use crate::columns::Columns;
+use crate::pricing::Pricing;
+use crate::tuning::FIRST_REACH;
+use roster_problem::Problem;
+use std::alloc::{AllocError, Global};
+use std::thread::{Threads, for_each_mut};
+
+/// What looks know of a person.
+#[derive(Drop)]
+pub(crate) struct Seen {
+    /// The chains that are known.
+    pub(crate) columns: Columns,
+    /// What the last look says that reduced costs are at least, in parts of a cost unit.
+    pub(crate) least: Result<i64, AllocError>,
+}
+
+/// The persons of the base, by their places.
+pub(crate) fn persons_of(
+    alloc: Global,
+    problem: &Problem,
+    base: usize,
+) -> Result<Vec<usize>, AllocError>
+    ensures { IfOk result (λ persons. ArePersonsOf problem.now base persons.items) }
+{
+    let mut persons = Vec::new(alloc);
+    for k in 0..problem.persons().len() {
+        if problem.person(k).base == base {
+            persons.push(k)?;
+        }
+    }
+    Ok(persons)
+}
+
+/// Of so many persons, before the first look.
+pub(crate) fn unseen(alloc: Global, count: usize) -> Result<Vec<Seen>, AllocError>
+    ensures { IfOk result (λ seen. vec_len seen ≡ count) }
+{
+    let mut seen = Vec::new(alloc);
+    seen.resize_with(
+        count,
+        || Seen {
+            columns: Columns::new(alloc, FIRST_REACH),
+            least: Err(AllocError),
+        },
+    )?;
+    Ok(seen)
+}
+
+/// Looks at each of these persons at the prices, by so many threads at most. It comes to the same for any
+/// number of them, since nobody's look asks what another one's said.
+pub(crate) fn look_at_all<R: Threads + Sync>(
+    rt: &R,
+    alloc: Global,
+    threads: usize,
+    pricing: &Pricing<'_>,
+    persons: &[usize],
+    prices: &[i64],
+    seen: &mut [Seen],
+)
+    requires threads { 0 < threads }
+    requires prices { ArePrices pricing.now prices.now }
+    requires persons { All (λ k. k < length pricing.now.persons) persons.now }
+    requires covers { length seen.old ≡ length persons.now }
+    ensures { AreSeen pricing.now prices.now persons.now seen.new }
+{
+    let look = |i: usize, one: &mut Seen|
+        requires inside { i < length persons.now }
+        requires persons { All (λ k. k < length pricing.now.persons) persons.now }
+        requires prices { ArePrices pricing.now prices.now }
+        ensures { IsSeen pricing.entry.now prices.entry.now (slice_index persons.entry.now i) one.new }
+    {
+        one.least = pricing.least(alloc, persons[i], prices, &mut one.columns);
+    };
+    for_each_mut(rt, seen, threads, &look);
+}

@@ -1,0 +1,350 @@
+//! Lower bounds by dual prices.
+
+ghost use Rattle.std.specs.Prelude.{◌≡◌, ◌⊎◌, ◌<◌, ◌*◌, ◌≤ℤ◌, ◌+ℤ◌, ◌-ℤ◌, ◌*ℤ◌, ℤ, pos, IfOk, Some, length};
+ghost use Rattle.std.specs.Prelude.{slice_get};
+ghost use Rattle.roster_lines.specs.Listing.{AreAllPairs, ArePairs};
+ghost use Rattle.roster_model.specs.Problem.{units_of};
+ghost use Rattle.roster_model.specs.records.Pairing.{Pairing};
+ghost use Rattle.roster_cost.specs.Amounts.{IsWithin};
+ghost use Rattle.roster_plan_bound.specs.Networks.{AreRows, AreValues, IsNetwork};
+ghost use Rattle.roster_plan_bound.specs.Homes.{EachHomeRoster};
+ghost use Rattle.roster_plan_bound.specs.Looks.{AreLeasts, ArePersonsOf, IsLook};
+ghost use Rattle.roster_plan_bound.specs.Reduced.{shares_behind, ArePrices, IsLeastOf, IsTermOf};
+
+use crate::columns::Columns;
+use crate::gap::Cheap;
+use crate::listing::renew_at;
+use crate::network::{Network, network_of};
+use crate::parts::{MOST_LEAST, MOST_PRICE, MOST_SUM, MOST_VALUE, PARTS};
+use crate::persons::{Seen, look_at_all};
+use crate::rows::{Row, end_of_all, row_behind, rows_of};
+use crate::sets::least_set;
+use roster_cost::{cost_without_pairings, priced_shares_add_up, shares_add_up};
+use roster_cumulative::flight_of_set;
+use roster_legal::part_of_legal_is_legal;
+use roster_lines::Pairs;
+use roster_model::limits::{MOST_PAIRINGS, MOST_PERSONS};
+use roster_problem::Problem;
+use std::alloc::{AllocError, Global};
+use std::marker::Model;
+use std::thread::Threads;
+
+/// What prices say of the rosters of a base: those in which nobody else flies.
+#[derive(Drop)]
+pub(crate) struct Look {
+    /// No legal roster of the base costs less, in cost units.
+    pub(crate) bound: i64,
+    /// The same in parts of a cost unit, above what it costs that nobody has a pairing.
+    pub(crate) parts: i64,
+    /// What the reduced cost of each person is at least in such a roster, in parts of a cost unit.
+    pub(crate) leasts: Vec<i64>,
+}
+
+/// What the reduced costs of persons are at least, and their sum, in parts of a cost unit.
+#[derive(Drop)]
+pub(crate) struct Leasts {
+    sum: i64,
+    each: Vec<i64>,
+}
+
+/// The pairs and the network of each person, made once for the bounds of all bases. Contracts see the
+/// problem.
+#[derive(Drop)]
+pub struct Pricing<'a> {
+    problem: &'a Problem,
+    pairs: &'a [Pairs],
+    networks: Vec<Network>,
+}
+
+impl<'a> Model for Pricing<'a> {
+    ghost use Rattle.roster_model.specs.Problem.{Problem};
+    ghost use Rattle.roster_plan_bound.specs.Networks.{IsPricing};
+
+    ghost Value = { Problem };
+
+    ghost view = { λ p. p.problem.now };
+
+    ghost invariant = { λ p. IsPricing p.problem.now p.pairs.now p.networks.items };
+}
+
+impl<'a> Pricing<'a> {
+    /// The networks of all persons. Their pairs are known, as `all_pairs` of `roster_lines` has them.
+    pub fn new(
+        alloc: Global,
+        problem: &'a Problem,
+        pairs: &'a [Pairs],
+    ) -> Result<Pricing<'a>, AllocError>
+        requires { AreAllPairs problem.now pairs.now }
+        ensures { IfOk result (λ pricing. pricing ≡ problem.now) }
+    {
+        let mut networks = Vec::new(alloc);
+        for k in 0..problem.persons().len() {
+            networks.push(network_of(alloc, problem, k, &pairs[k])?)?;
+        }
+        Ok(Pricing {
+            problem,
+            pairs,
+            networks,
+        })
+    }
+
+    /// The problem.
+    pub(crate) fn problem(&self) -> &'a Problem
+        ensures { result.now ≡ self.now }
+    {
+        self.problem
+    }
+
+    /// What the prices say of all rosters of the base, whose persons are given. The columns of these are
+    /// renewed. So many threads at most share them.
+    pub(crate) fn look<R: Threads + Sync>(
+        &self,
+        rt: &R,
+        alloc: Global,
+        threads: usize,
+        base: usize,
+        persons: &[usize],
+        prices: &[i64],
+        seen: &mut [Seen],
+    ) -> Result<Look, AllocError>
+        requires threads { 0 < threads }
+        requires persons { ArePersonsOf self.now base persons.now }
+        requires prices { ArePrices self.now prices.now }
+        requires covers { length seen.old ≡ length persons.now }
+        ensures look { IfOk result
+            (λ look. IsLook self.now prices.now base look.bound look.leasts.items) }
+        ensures covers { length seen.new ≡ length seen.old }
+    {
+        priced_shares_add_up();
+        shares_add_up();
+        let leasts = self.leasts(rt, alloc, threads, base, persons, prices, seen)?;
+        let terms = sum_of_terms(self.problem, base, prices);
+        let parts = leasts.sum + terms;
+        let bound = cost_without_pairings(self.problem) + in_units(parts);
+        Ok(Look {
+            bound,
+            parts,
+            leasts: leasts.each,
+        })
+    }
+
+    /// The network of person `k`.
+    pub(crate) fn network(&self, k: usize) -> &Network
+        requires { k < length self.now.persons }
+        ensures { IsNetwork self.now k result.now }
+    {
+        &self.networks[k]
+    }
+
+    /// No line of person `k` has a lower reduced cost at the prices. The person's columns are renewed.
+    pub(crate) fn least(
+        &self,
+        alloc: Global,
+        k: usize,
+        prices: &[i64],
+        columns: &mut Columns,
+    ) -> Result<i64, AllocError>
+        requires person { k < length self.now.persons }
+        requires prices { ArePrices self.now prices.now }
+        ensures { IfOk result (IsLeastOf self.now prices.now k) }
+    {
+        least_of(
+            alloc,
+            self.problem,
+            k,
+            self.pairs(k),
+            &self.networks[k],
+            prices,
+            columns,
+        )
+    }
+
+    /// The pairs of person `k`.
+    pub(crate) fn pairs(&self, k: usize) -> &Pairs
+        requires { k < length self.now.persons }
+        ensures { ArePairs self.now k result.now }
+    {
+        self.problem.is_sound();
+        &self.pairs[k]
+    }
+
+    /// What each person's reduced costs are at least in rosters of the base, and the sum. Those of another
+    /// base fly nothing.
+    fn leasts<R: Threads + Sync>(
+        &self,
+        rt: &R,
+        alloc: Global,
+        threads: usize,
+        base: usize,
+        persons: &[usize],
+        prices: &[i64],
+        seen: &mut [Seen],
+    ) -> Result<Leasts, AllocError>
+        requires threads { 0 < threads }
+        requires persons { ArePersonsOf self.now base persons.now }
+        requires prices { ArePrices self.now prices.now }
+        requires covers { length seen.old ≡ length persons.now }
+        ensures are { IfOk result (λ leasts. AreLeasts self.now prices.now base
+            (length self.now.persons) leasts.sum leasts.each.items) }
+        ensures within { IfOk result (λ leasts. IsWithin (MOST_PERSONS * MOST_LEAST) leasts.sum) }
+        ensures covers { length seen.new ≡ length seen.old }
+    {
+        self.problem.is_sound();
+        look_at_all(rt, alloc, threads, self, persons, prices, seen);
+        let mut sum = 0;
+        let mut each = Vec::new(alloc);
+        let mut i = 0;
+        for k in 0..self.problem.persons().len() {
+            if self.problem.person(k).base != base {
+                each.push(0)?;
+                continue;
+            }
+            let least = seen[i].least?;
+            each.push(least)?;
+            sum += least;
+            i += 1;
+        }
+        Ok(Leasts { sum, each })
+    }
+}
+
+/// No line of person `k`, whose pairs and network these are, has a lower reduced cost at the prices.
+fn least_of(
+    alloc: Global,
+    problem: &Problem,
+    k: usize,
+    pairs: &Pairs,
+    network: &Network,
+    prices: &[i64],
+    columns: &mut Columns,
+) -> Result<i64, AllocError>
+    requires person { k < length problem.now.persons }
+    requires pairs { ArePairs problem.now k pairs.now }
+    requires network { IsNetwork problem.now k network.now }
+    requires prices { ArePrices problem.now prices.now }
+    ensures { IfOk result (IsLeastOf problem.now prices.now k) }
+{
+    let values = values_of(alloc, problem, k, prices)?;
+    let rows = rows_of(alloc, problem, k, network, &values)?;
+    let chain = least_chain(alloc, problem, k, network, prices, &values, &rows)?;
+    if columns.sets {
+        let mut cheap = Cheap::of_rows(problem, k, network, prices, values, rows, chain);
+        let least = least_set(alloc, problem, k, pairs, prices, &mut cheap, chain, columns)?;
+        return Ok(least);
+    }
+    renew_at(alloc, network, prices, &values, &rows, chain, columns)?;
+    Ok(chain)
+}
+
+/// What a chain of person `k` brings at least. No line has a lower reduced cost.
+fn least_chain(
+    alloc: Global,
+    problem: &Problem,
+    k: usize,
+    network: &Network,
+    prices: &[i64],
+    values: &[i64],
+    rows: &[Row],
+) -> Result<i64, AllocError>
+    requires person { k < length problem.now.persons }
+    requires network { IsNetwork problem.now k network.now }
+    requires prices { ArePrices problem.now prices.now }
+    requires values { AreValues problem.now prices.now k values.now }
+    requires rows { AreRows problem.now network.now values.now rows.now }
+    requires all { length rows.now ≡ length problem.now.pairings }
+    ensures { IfOk result (IsLeastOf problem.now prices.now k) }
+{
+    part_of_legal_is_legal();
+    flight_of_set();
+    problem.is_sound();
+    let count = problem.pairings().len();
+    let end = end_of_all(alloc, problem, k, network, values)?;
+    let row = row_behind(
+        alloc,
+        problem,
+        k,
+        network,
+        values,
+        rows,
+        &network.first,
+        &end,
+        count,
+    )?;
+    Ok(row.first())
+}
+
+/// What each pairing brings to person `k`: its units, less its price.
+pub(crate) fn values_of(
+    alloc: Global,
+    problem: &Problem,
+    k: usize,
+    prices: &[i64],
+) -> Result<Vec<i64>, AllocError>
+    requires { ArePrices problem.now prices.now }
+    ensures { IfOk result (λ values. AreValues problem.now prices.now k values.items) }
+{
+    let mut values = Vec::new(alloc);
+    for (p, price) in prices.iter().enumerate() {
+        values.push(value_of(problem, k, p, *price))?;
+    }
+    Ok(values)
+}
+
+/// The units of a pairing with person `k`, less its price.
+fn value_of(problem: &Problem, k: usize, p: usize, price: i64) -> i64
+    requires { IsWithin MOST_PRICE price }
+    ensures value { result ≡ (pos PARTS *ℤ units_of problem.now k p) -ℤ price }
+    ensures within { IsWithin MOST_VALUE result }
+{
+    PARTS as i64 * problem.units(k, p) - price
+}
+
+/// What all pairings bring at least to a roster of the base.
+fn sum_of_terms(problem: &Problem, base: usize, prices: &[i64]) -> i64
+    requires { ArePrices problem.now prices.now }
+    ensures least { EachHomeRoster problem.now base (λ places.
+        result ≤ℤ shares_behind problem.now prices.now 0 places) }
+    ensures within { IsWithin (MOST_PAIRINGS * MOST_PRICE) result }
+{
+    problem.is_sound();
+    let count = problem.pairings().len();
+    let mut sum = 0;
+    for back in 0..count {
+        sum += term_of(problem, base, count - 1 - back, prices[count - 1 - back]);
+    }
+    sum
+}
+
+/// The lesser of a pairing's price and penalty. One of another base is open: its penalty.
+fn term_of(problem: &Problem, base: usize, p: usize, price: i64) -> i64
+    requires pairing { p < length problem.now.pairings }
+    requires price { IsWithin MOST_PRICE price }
+    ensures term { IsTermOf problem.now base p price result }
+    ensures one { (pairing : Pairing) → slice_get problem.now.pairings p ≡ Some pairing
+        → (result ≡ price) ⊎ (result ≡ pos (PARTS * pairing.penalty)) }
+    ensures within { IsWithin MOST_PRICE result }
+{
+    problem.is_sound();
+    let pairing = problem.pairing(p);
+    let penalty = (PARTS * u64::from(pairing.penalty)) as i64;
+    if pairing.base != base {
+        return penalty;
+    }
+    if price < penalty { price } else { penalty }
+}
+
+/// The least number of cost units that isn't below so many parts.
+fn in_units(parts: i64) -> i64
+    requires { IsWithin MOST_SUM parts }
+    ensures least { (units : ℤ) → parts ≤ℤ (pos PARTS *ℤ units) → result ≤ℤ units }
+    ensures whole { parts ≤ℤ (pos PARTS *ℤ result) }
+    ensures near { (pos PARTS *ℤ result) ≤ℤ (parts +ℤ pos PARTS) }
+    ensures within { IsWithin MOST_SUM result }
+{
+    let amount = parts.unsigned_abs();
+    if parts < 0 {
+        -((amount / PARTS) as i64)
+    } else {
+        ((amount + (PARTS - 1)) / PARTS) as i64
+    }
+}

@@ -1,0 +1,332 @@
+//! Prices on their rise: a bound that gets better round by round.
+
+ghost use Rattle.std.specs.Prelude.{◌≡◌, ◌<◌, ◌≤◌, ◌≤ℤ◌, ◌+ℤ◌, ℕ, pos, IfOk, List};
+ghost use Rattle.roster_model.specs.Costs.{cost_of};
+ghost use Rattle.roster_cost.specs.Amounts.{IsWithin};
+ghost use Rattle.roster_lines_table.specs.Person.{AreListed, IsOfTable};
+ghost use Rattle.roster_plan_bound.specs.Homes.{EachHomeRoster, IsHome, IsHomeBound};
+ghost use Rattle.roster_plan_bound.specs.Looks.{IsLook};
+ghost use Rattle.roster_plan_bound.specs.Reduced.{ArePrices};
+
+use crate::gap::lines_of_gap;
+use crate::lists::amount_at;
+use crate::master::{Covered, ascend};
+use crate::parts::{MOST_PRICE, PARTS};
+use crate::persons::{Seen, persons_of, unseen};
+use crate::pricing::{Look, Pricing};
+use crate::sets::turn_to_sets;
+use crate::tuning::{FIRST_STRIDE, LEAST_STRIDE, MOST_IDLE, MOST_STRIDE};
+use roster_lines::TableFault;
+use roster_lines_table::Table;
+use roster_model::limits::MOST_LINES;
+use roster_problem::Problem;
+use std::alloc::{AllocError, Global};
+use std::marker::Model;
+use std::thread::Threads;
+
+/// For the rosters in which only persons of one base fly: what no legal one costs less than, and the prices
+/// that say so, the best so far. Each roster falls apart into such ones, since nobody flies a pairing of
+/// another base. Contracts see the problem, the base and that number.
+#[derive(Drop)]
+pub struct PricedBound<'a> {
+    pricing: &'a Pricing<'a>,
+    base: usize,
+    // The persons of the base, and what looks know of each.
+    persons: Vec<usize>,
+    seen: Vec<Seen>,
+    prices: Vec<i64>,
+    leasts: Vec<i64>,
+    bound: i64,
+    parts: i64,
+    // How far the next prices may lie from the best ones.
+    stride: i64,
+    // How many looks in a row have said no more in whole cost units.
+    idle: u32,
+    // Whether looks list lines and no longer chains.
+    sets: bool,
+}
+
+impl<'a> Model for PricedBound<'a> {
+    ghost use Rattle.std.specs.Prelude.{vec_len};
+    ghost use Rattle.roster_plan_bound.specs.Looks.{Bounded, IsPricedBound};
+
+    ghost Value = { Bounded };
+
+    ghost view = { λ b. record { problem = b.pricing.now; base = b.base; bound = b.bound } };
+
+    ghost invariant = { λ b. IsPricedBound b.pricing.now b.base b.persons.items
+        (vec_len b.seen) b.prices.items b.leasts.items b.bound };
+}
+
+impl<'a> PricedBound<'a> {
+    /// What no prices at all say of the base at this place. So many threads at most share its persons.
+    pub fn new<R: Threads + Sync>(
+        rt: &R,
+        alloc: Global,
+        threads: usize,
+        pricing: &'a Pricing<'a>,
+        base: usize,
+    ) -> Result<PricedBound<'a>, AllocError>
+        requires { 0 < threads }
+        ensures problem { IfOk result (λ bound. bound.problem ≡ pricing.now) }
+        ensures base { IfOk result (λ bound. bound.base ≡ base) }
+    {
+        let problem = pricing.problem();
+        let persons = persons_of(alloc, problem, base)?;
+        let mut seen = unseen(alloc, persons.len())?;
+        let prices = no_prices(alloc, problem)?;
+        let look = pricing.look(rt, alloc, threads, base, &persons, &prices, &mut seen)?;
+        Ok(PricedBound {
+            pricing,
+            base,
+            persons,
+            seen,
+            prices,
+            leasts: look.leasts,
+            bound: look.bound,
+            parts: look.parts,
+            stride: FIRST_STRIDE,
+            idle: 0,
+            sets: false,
+        })
+    }
+
+    /// The prices that say so, one for each pairing, in `PARTS` parts of a cost unit.
+    pub fn prices(&self) -> &[i64] {
+        &self.prices
+    }
+
+    /// No legal roster in which only persons of the base fly costs less, in cost units.
+    pub fn bound(&self) -> i64
+        ensures value { result ≡ self.now.bound }
+        ensures bound { IsHomeBound self.now.problem self.now.base result }
+    {
+        self.bound
+    }
+
+    /// Raises the bound by so many looks at other prices. Each look lists the chains that cost least, and the
+    /// next prices are the best ones for all chains that are known: column generation, with prices kept near
+    /// those of the best look. If many looks in a row say no more, looks list lines from then on. It ends
+    /// before so many looks if many in a row say no more by lines too, or if the bound is what a known roster
+    /// costs. So many threads at most share the persons of a look, and each number of them gives the same
+    /// bound.
+    pub fn raise<R: Threads + Sync>(
+        &mut self,
+        rt: &R,
+        alloc: Global,
+        threads: usize,
+        known: i64,
+        looks: u32,
+    ) -> Result<(), AllocError>
+        requires { 0 < threads }
+        ensures problem { self.new.problem ≡ self.old.problem }
+        ensures base { self.new.base ≡ self.old.base }
+        ensures raised { self.old.bound ≤ℤ self.new.bound }
+    {
+        for _ in 0..looks {
+            if self.is_done(known) {
+                break;
+            }
+            self.look_on(rt, alloc, threads)?;
+        }
+        Ok(())
+    }
+
+    /// Whether `raise` looks no more: the bound is what a known roster costs, or looks say no more.
+    pub fn is_done(&self, known: i64) -> bool {
+        self.bound >= known || (self.sets && self.idle >= MOST_IDLE)
+    }
+
+    /// For the rosters in which only persons of the base fly: the lines that each of them may have in a legal
+    /// one that costs at most so many units more than the bound, if nobody has more than `most`. Other
+    /// persons have the empty line.
+    pub fn lines_within(&self, alloc: Global, gap: u32, most: usize) -> Result<Table, TableFault>
+        requires { (0 < most) × (most ≤ MOST_LINES) }
+        ensures listed { IfOk result (AreListed self.now.problem) }
+        ensures all { IfOk result (λ table. EachHomeRoster self.now.problem self.now.base (λ places.
+            cost_of self.now.problem places ≤ℤ (self.now.bound +ℤ pos gap)
+            → IsOfTable table places)) }
+        ensures home { IfOk result (λ table. (places : List ℕ)
+            → IsOfTable table places → IsHome self.now.problem self.now.base places) }
+    {
+        lines_of_gap(
+            alloc,
+            self.pricing,
+            self.base,
+            &self.prices,
+            &self.leasts,
+            self.bound,
+            gap,
+            most,
+        )
+    }
+
+    /// Looks once more: by lines from now on, if many looks in a row have said no more.
+    fn look_on<R: Threads + Sync>(
+        &mut self,
+        rt: &R,
+        alloc: Global,
+        threads: usize,
+    ) -> Result<(), AllocError>
+        requires { 0 < threads }
+        ensures problem { self.new.problem ≡ self.old.problem }
+        ensures base { self.new.base ≡ self.old.base }
+        ensures raised { self.old.bound ≤ℤ self.new.bound }
+    {
+        if self.idle >= MOST_IDLE {
+            self.turn(rt, alloc, threads)
+        } else {
+            self.step(rt, alloc, threads)
+        }
+    }
+
+    /// Looks at the next prices, and takes them if they say more.
+    fn step<R: Threads + Sync>(
+        &mut self,
+        rt: &R,
+        alloc: Global,
+        threads: usize,
+    ) -> Result<(), AllocError>
+        requires { 0 < threads }
+        ensures problem { self.new.problem ≡ self.old.problem }
+        ensures base { self.new.base ≡ self.old.base }
+        ensures raised { self.old.bound ≤ℤ self.new.bound }
+    {
+        let problem = self.pricing.problem();
+        let covered = covered_of(alloc, problem, self.base)?;
+        let wanted = ascend(
+            rt,
+            alloc,
+            threads,
+            &self.seen,
+            &self.prices,
+            &covered,
+            self.stride,
+        )?;
+        let prices = limited(alloc, problem, &wanted)?;
+        self.look(rt, alloc, threads, prices)
+    }
+
+    /// Looks at the best prices again, from now on by lines.
+    fn turn<R: Threads + Sync>(
+        &mut self,
+        rt: &R,
+        alloc: Global,
+        threads: usize,
+    ) -> Result<(), AllocError>
+        requires { 0 < threads }
+        ensures problem { self.new.problem ≡ self.old.problem }
+        ensures base { self.new.base ≡ self.old.base }
+        ensures raised { self.old.bound ≤ℤ self.new.bound }
+    {
+        turn_to_sets(alloc, &mut self.seen);
+        self.sets = true;
+        let mut prices = Vec::new(alloc);
+        prices.extend_from_slice(&self.prices)?;
+        self.look(rt, alloc, threads, prices)?;
+        self.idle = 0;
+        self.stride = FIRST_STRIDE;
+        Ok(())
+    }
+
+    /// Looks at the prices, and takes them if they say more.
+    fn look<R: Threads + Sync>(
+        &mut self,
+        rt: &R,
+        alloc: Global,
+        threads: usize,
+        prices: Vec<i64>,
+    ) -> Result<(), AllocError>
+        requires threads { 0 < threads }
+        requires prices { ArePrices self.old.problem prices.items }
+        ensures problem { self.new.problem ≡ self.old.problem }
+        ensures base { self.new.base ≡ self.old.base }
+        ensures raised { self.old.bound ≤ℤ self.new.bound }
+    {
+        let look = self.pricing.look(
+            rt,
+            alloc,
+            threads,
+            self.base,
+            &self.persons,
+            &prices,
+            &mut self.seen,
+        )?;
+        self.take(prices, look);
+        Ok(())
+    }
+
+    /// Takes the prices if the look at them says more.
+    fn take(&mut self, prices: Vec<i64>, look: Look)
+        requires prices { ArePrices self.old.problem prices.items }
+        requires look { IsLook self.old.problem prices.items self.old.base look.bound look.leasts.items }
+        ensures problem { self.new.problem ≡ self.old.problem }
+        ensures base { self.new.base ≡ self.old.base }
+        ensures raised { self.old.bound ≤ℤ self.new.bound }
+        ensures taken { look.bound ≤ℤ self.new.bound }
+    {
+        if look.bound < self.bound || (look.bound == self.bound && look.parts <= self.parts) {
+            self.idle = self.idle.wrapping_add(1);
+            self.stride = narrower(self.stride);
+            return;
+        }
+        self.idle = if look.bound > self.bound {
+            0
+        } else {
+            self.idle.wrapping_add(1)
+        };
+        self.stride = wider(self.stride);
+        self.parts = look.parts;
+        self.prices = prices;
+        self.leasts = look.leasts;
+        self.bound = look.bound;
+    }
+}
+
+/// The next stride after one that said more.
+fn wider(stride: i64) -> i64 {
+    (stride.wrapping_mul(3) / 2).min(MOST_STRIDE)
+}
+
+/// The next stride after one that said no more.
+fn narrower(stride: i64) -> i64 {
+    (stride.wrapping_mul(3) / 5).max(LEAST_STRIDE)
+}
+
+/// No prices.
+fn no_prices(alloc: Global, problem: &Problem) -> Result<Vec<i64>, AllocError>
+    ensures { IfOk result (λ prices. ArePrices problem.now prices.items) }
+{
+    let prices = vec![in alloc; 0; problem.pairings().len()]?;
+    Ok(prices)
+}
+
+/// The pairings of the base.
+fn covered_of(alloc: Global, problem: &Problem, base: usize) -> Result<Vec<Covered>, AllocError> {
+    let mut covered = Vec::new(alloc);
+    for (place, pairing) in problem.pairings().iter().enumerate() {
+        if pairing.base == base {
+            let penalty = i64::from(pairing.penalty).wrapping_mul(PARTS as i64);
+            covered.push(Covered { place, penalty })?;
+        }
+    }
+    Ok(covered)
+}
+
+/// For each pairing the price that is wanted, within the limits of prices.
+fn limited(alloc: Global, problem: &Problem, wanted: &[i64]) -> Result<Vec<i64>, AllocError>
+    ensures { IfOk result (λ prices. ArePrices problem.now prices.items) }
+{
+    let mut prices = Vec::new(alloc);
+    for p in 0..problem.pairings().len() {
+        prices.push(limited_price(amount_at(wanted, p)))?;
+    }
+    Ok(prices)
+}
+
+/// The price within its limits.
+fn limited_price(price: i64) -> i64
+    ensures { IsWithin MOST_PRICE result }
+{
+    price.clamp(-(MOST_PRICE as i64), MOST_PRICE as i64)
+}

@@ -1,8 +1,0 @@
-use Rattle.std.proofs.Common.{subst, sym}
-use Rattle.roster_pricing.specs.Networks.{AreSoFar}
-use Rattle.roster_pricing.proofs.rows.rows_of.Goals as goal
-
-pub loop-back-init : goal.loop-back-init
-loop-back-init c =
-    subst (λ rows. AreSoFar c.args.problem.now c.args.network.now c.args.values.now rows c.in_ok-tails.tails.items 0)
-    (sym c.new-rows.ensures.items) c.in_ok-tails.ensures

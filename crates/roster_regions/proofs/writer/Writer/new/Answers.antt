@@ -1,6 +1,0 @@
-use Rattle.std.proofs.Common.{refl}
-use Rattle.roster_regions.proofs.Write.{IsWriting-nil}
-use Rattle.roster_regions.proofs.writer.Writer.new.Goals as goal
-
-pub returns : goal.returns
-returns c = IsWriting-nil _ c.new.ensures.items c.empty.ensures refl refl

@@ -1,8 +1,0 @@
-use Rattle.std.proofs.Common.{◌≡◌, ◌++◌, map, take}
-use Rattle.roster_reports.specs.Text.{given_by_line, given_by_lines}
-use Rattle.roster_reports.proofs.report.Draft.take_all.Given as goal
-
--- what the lines so far give
-abbrev pub invariant-loop-line : goal.invariant-loop-line
-invariant-loop-line l =
-    map given_by_line l.self.crew.items ≡ map given_by_line l.fn.self.crew.items ++ given_by_lines (map (λ line. line.now) (take l.line-index l.lines))

@@ -1,0 +1,31 @@
+use Rattle.std.proofs.Common.{◌≡◌, true, w64, to_z, of_z, subst, rules}
+use Rattle.std.proofs.lemmas.Int.{to_z-of_z}
+use Rattle.roster_search_regions.specs.Regions.{IsNarrowed}
+use Rattle.roster_search_fixing.specs.Bounds.{CostsAtMost, IsAllAbove}
+use Rattle.roster_search_fixing.proofs.Fixing.{match_true}
+use Rattle.roster_search_fixing.proofs.Narrowing.{narrowed_then}
+use Rattle.roster_search_fixing.proofs.tightening.tighten.Goals as goal
+
+pub returns-then-weight-before : goal.returns-then-weight-before
+returns-then-weight-before c =
+    let problem = c.args.problem.now in
+    let most = to_z w64 (of_z w64 c.args.most) in
+    let yes : c.in_ok-tighten_once.field-0 ≡ true = search rules in
+    let step =
+    match_true c.in_ok-tighten_once.field-0
+    (IsNarrowed problem (CostsAtMost problem most) c.loop.region c.tighten_once.new.region)
+    (IsAllAbove problem c.loop.region most) yes c.in_ok-tighten_once.ensures in
+    subst (λ m. IsNarrowed problem (CostsAtMost problem m) c.args.region.now c.tighten_once.new.region)
+    (to_z-of_z w64 c.args.most c.ranges.most)
+    (narrowed_then problem (CostsAtMost problem most) c.args.region.now c.loop.region c.tighten_once.new.region c.loop.invariant step)
+
+pub loop-preserved : goal.loop-preserved
+loop-preserved c =
+    let problem = c.args.problem.now in
+    let most = to_z w64 (of_z w64 c.args.most) in
+    let yes : c.in_ok-tighten_once.field-0 ≡ true = search rules in
+    let step =
+    match_true c.in_ok-tighten_once.field-0
+    (IsNarrowed problem (CostsAtMost problem most) c.loop.region c.tighten_once.new.region)
+    (IsAllAbove problem c.loop.region most) yes c.in_ok-tighten_once.ensures in
+    narrowed_then problem (CostsAtMost problem most) c.args.region.now c.loop.region c.tighten_once.new.region c.loop.invariant step

@@ -1,0 +1,123 @@
+//! What the rosters of a region cost at least, by dual prices.
+
+ghost use Rattle.std.specs.Prelude.{◌≡◌, ◌<◌, ◌≤◌, ◌*◌, All, IfOk, length, pos};
+ghost use Rattle.roster_model.specs.Costs.{total};
+ghost use Rattle.roster_cost.specs.Amounts.{IsWithin};
+ghost use Rattle.roster_search_regions.specs.Prices.{ArePrices};
+ghost use Rattle.roster_search_regions.specs.Regions.{IsRegion};
+ghost use Rattle.roster_search_fixing.specs.Bounds.{bound_of, fine_penalty, term_of, AreLeastValues};
+ghost use Rattle.roster_search_fixing.specs.Bounds.{AreTerms};
+
+use roster_model::limits::{MOST_PAIRINGS, MOST_PENALTY, MOST_PERSONS};
+use roster_problem::Problem;
+use roster_search_regions::{MOST_SCALE, MOST_VALUE, Region, price_of};
+use std::alloc::{AllocError, Global};
+
+/// What a pairing adds to a bound, at most, and below 0, in parts of a cost unit.
+pub(crate) const MOST_TERM: u64 = 1 << 44;
+
+/// A bound, at most, and below 0, in parts of a cost unit: persons add values, and pairings add terms.
+pub(crate) const MOST_BOUND: u64 = 1 << 61;
+
+/// A penalty in parts of a cost unit.
+fn scaled(scale: u32, penalty: u32) -> i64
+    requires scale { scale ≤ MOST_SCALE }
+    requires penalty { penalty ≤ MOST_PENALTY }
+    ensures value { result ≡ pos (scale * penalty) }
+    ensures bound { IsWithin MOST_TERM result }
+{
+    (u64::from(scale) * u64::from(penalty)) as i64
+}
+
+/// The sum of a few values.
+fn sum_of(values: &[i64]) -> i64
+    requires few { length values.now ≤ MOST_PAIRINGS }
+    requires within { All (IsWithin MOST_VALUE) values.now }
+    ensures { result ≡ total (λ value. value) values.now }
+{
+    let mut sum = 0;
+    for value in values {
+        sum += *value;
+    }
+    sum
+}
+
+/// The bound that persons' values and pairings' terms make. There are at most `MOST_PERSONS` values, and a
+/// term is much smaller than a value, so two such sums and a limit fit a word.
+pub(crate) fn sum_of_both(values: &[i64], terms: &[i64]) -> i64
+    requires persons { length values.now ≤ MOST_PERSONS }
+    requires pairings { length terms.now ≤ MOST_PAIRINGS }
+    requires values { All (IsWithin MOST_VALUE) values.now }
+    requires terms { All (IsWithin MOST_TERM) terms.now }
+    ensures value { result ≡ bound_of values.now terms.now }
+    ensures bound { IsWithin MOST_BOUND result }
+{
+    sum_of(values) + sum_of(terms)
+}
+
+/// The least value of each person's lines at the prices.
+pub(crate) fn least_values(
+    alloc: Global,
+    problem: &Problem,
+    region: &Region,
+    prices: &[i64],
+) -> Result<Vec<i64>, AllocError>
+    requires region { IsRegion problem.now region.now }
+    requires prices { ArePrices prices.now }
+    ensures least { IfOk result
+        (λ values. AreLeastValues problem.now region.now prices.now values.items) }
+    ensures within { IfOk result (λ values. All (IsWithin MOST_VALUE) values.items) }
+{
+    let mut values = Vec::with_capacity(alloc, problem.persons().len())?;
+    for k in 0..problem.persons().len() {
+        values.push(region.least(k, prices))?;
+    }
+    Ok(values)
+}
+
+/// What it costs to leave the pairing at place `p` open.
+pub(crate) fn penalty(problem: &Problem, region: &Region, p: usize) -> i64
+    requires { p < length problem.now.pairings }
+    ensures value { result ≡ fine_penalty problem.now region.now p }
+    ensures bound { IsWithin MOST_TERM result }
+{
+    problem.is_sound();
+    scaled(region.scale(), problem.pairing(p).penalty)
+}
+
+/// What the pairing at place `p` adds at least.
+fn term(problem: &Problem, region: &Region, prices: &[i64], p: usize) -> i64
+    requires pairing { p < length problem.now.pairings }
+    requires prices { ArePrices prices.now }
+    ensures value { result ≡ term_of problem.now region.now prices.now p }
+    ensures bound { IsWithin MOST_TERM result }
+{
+    let penalty = penalty(problem, region, p);
+    let price = price_of(prices, p);
+    if region.is_left_open(p) {
+        return penalty;
+    }
+    if region.is_flown(p) || price <= penalty {
+        return price;
+    }
+    penalty
+}
+
+/// What each pairing adds at least.
+pub(crate) fn terms(
+    alloc: Global,
+    problem: &Problem,
+    region: &Region,
+    prices: &[i64],
+) -> Result<Vec<i64>, AllocError>
+    requires { ArePrices prices.now }
+    ensures terms { IfOk result
+        (λ terms. AreTerms problem.now region.now prices.now terms.items) }
+    ensures within { IfOk result (λ terms. All (IsWithin MOST_TERM) terms.items) }
+{
+    let mut terms = Vec::with_capacity(alloc, problem.pairings().len())?;
+    for p in 0..problem.pairings().len() {
+        terms.push(term(problem, region, prices, p))?;
+    }
+    Ok(terms)
+}

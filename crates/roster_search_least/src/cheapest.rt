@@ -1,0 +1,72 @@
+//! A cheapest roster of a region.
+
+ghost use Rattle.std.specs.Prelude.{◌≤ℤ◌, ◌<ℤ◌, IfOk};
+ghost use Rattle.roster_search_regions.specs.Regions.{IsIn, IsRegion};
+ghost use Rattle.roster_search_least.specs.Least.{CostsAtLeast, IsCheapestBelow};
+
+use crate::finder::Finder;
+use crate::tuning::STEP_GROWTH;
+use roster_problem::Problem;
+use roster_search_regions::{DualPrices, Region};
+use roster_values::Roster;
+use std::alloc::{AllocError, Global};
+
+/// A cheapest roster of the region if it costs less than the limit, or none, and then each of them costs
+/// at least that. No roster of the region may cost less than `least`.
+///
+/// It asks for one that costs less than is likely, as there will be none, and goes on from there in ever
+/// larger steps: a search ends soon if little more may be paid than must be.
+pub(crate) fn cheapest<F: Finder>(
+    alloc: Global,
+    problem: &Problem,
+    region: &Region,
+    prices: &DualPrices,
+    least: i64,
+    likely: i64,
+    limit: i64,
+    finder: &mut F,
+) -> Result<Option<Roster>, AllocError>
+    requires finder { F.may_find }
+    requires region { IsRegion problem.now region.now }
+    requires least { CostsAtLeast problem.now (IsIn problem.now region.now) least }
+    ensures cheapest { IfOk result
+        (IsCheapestBelow problem.now (IsIn problem.now region.now) limit) }
+    ensures goes_on { F.goes_on finder.old finder.new }
+{
+    let mut low = least;
+    let mut high = limit;
+    let mut best = None;
+    let mut wanted = likely.saturating_sub(1);
+    let mut step = 0;
+    while low < high {
+        let most = raised(low, high, wanted);
+        match finder.find(alloc, problem, region.copy(alloc)?, prices, most)? {
+            Some(roster) => {
+                high = roster.cost;
+                best = Some(roster);
+            }
+            None => low = most + 1,
+        }
+        wanted = low.saturating_add(step);
+        step = larger(step);
+    }
+    Ok(best)
+}
+
+/// The wanted number, or the nearest from the lower of two numbers to below the higher one.
+fn raised(low: i64, high: i64, wanted: i64) -> i64
+    requires { low <ℤ high }
+    ensures above { low ≤ℤ result }
+    ensures below { result <ℤ high }
+{
+    if wanted >= high {
+        return high - 1;
+    }
+    if wanted < low { low } else { wanted }
+}
+
+/// The next step after one.
+fn larger(step: i64) -> i64 {
+    step.saturating_mul(STEP_GROWTH)
+        .saturating_add(STEP_GROWTH - 1)
+}

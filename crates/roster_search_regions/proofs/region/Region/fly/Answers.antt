@@ -1,0 +1,10 @@
+use Rattle.roster_search_regions.proofs.RegionLemmas.{among_last, narrowed_flown}
+use Rattle.roster_search_regions.proofs.region.Region.fly.Goals as goal
+
+pub returns-clause-narrowed : goal.returns-clause-narrowed
+returns-clause-narrowed c =
+    let members = rw c.unwrap-self-inside.ensures at c.with.ensures.members in
+    rw c.self.view_is at (narrowed_flown c.args.problem.now _ c.args.p c.unwrap-self-inside.result (rw (← c.self.view_is) at c.requires.region) members)
+
+pub returns-clause-all : goal.returns-clause-all
+returns-clause-all c places there = there.flown c.args.p (among_last c.self.inside.flown c.unwrap-self-inside.result c.args.p (rw c.unwrap-self-inside.ensures at c.with.ensures.members))

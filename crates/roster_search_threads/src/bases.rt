@@ -1,0 +1,39 @@
+//! The least roster of all lines, each base by itself.
+
+ghost use Rattle.std.specs.Prelude.{◌<◌, IfOk, Some, unwrap_or};
+ghost use Rattle.roster_search_least.specs.Least.{IsBefore};
+ghost use Rattle.roster_lines_table.specs.Person.{IsTableOf};
+ghost use Rattle.roster_model.specs.Settled.{Anywhere, IsHeld, Settles};
+
+use crate::shared::parts_by_threads;
+use roster_lines_table::{Table, all_lines_are_some};
+use roster_problem::Problem;
+use roster_search::{Unseen, least_with};
+use roster_search_least::whole;
+use roster_values::Roster;
+use std::alloc::{AllocError, Global};
+use std::thread::Threads;
+
+/// The least roster of all, with its cost, if its key is before that of the known roster; so many threads
+/// search the bases, each of them the next one until none is left, and then help the others.
+pub fn search_bases<R: Threads + Sync>(
+    rt: &R,
+    alloc: Global,
+    problem: &Problem,
+    table: &Table,
+    known: &Roster,
+    threads: usize,
+) -> Result<Option<Roster>, AllocError>
+    requires table { IsTableOf problem.now table.now }
+    requires known { IsHeld problem.now known.now }
+    requires threads { 0 < threads }
+    ensures settled { IfOk result (λ found. Settles problem.now Anywhere Anywhere
+        (Some known.now) (unwrap_or found known.now)) }
+    ensures before { IfOk result (IsBefore known.now) }
+{
+    all_lines_are_some();
+    let ranges = whole(alloc, problem, table)?;
+    let ranges = ranges.as_slice();
+    let parts = parts_by_threads(rt, alloc, problem, table, ranges, threads)?;
+    least_with(alloc, problem, table, ranges, &parts, known, &mut Unseen)
+}

@@ -1,0 +1,180 @@
+//! The least rosters of single bases, which several threads find.
+
+ghost use Rattle.std.specs.Prelude.{◌≡◌, ◌<◌, ◌^◌, ◌-◌, ◌==◌, All, IfOk, length, pos};
+ghost use Rattle.std.specs.Thread.{IsSync};
+ghost use Rattle.roster_search_least.specs.Least.{IsLeastBelow};
+ghost use Rattle.roster_search_least.specs.Parts.{AreBaseParts, IsInPart};
+ghost use Rattle.roster_lines_table.specs.Person.{AreListed};
+
+use crate::crew::Crew;
+use roster_lines_table::Table;
+use roster_model::limits::MOST_BASES;
+use roster_problem::Problem;
+use roster_search::root_prices_by_threads;
+use roster_search_least::{Part, least_in, region_of_base};
+use roster_search_regions::DualPrices;
+use roster_values::Roster;
+use std::alloc::{AllocError, Global};
+use std::sync::atomic::{AtomicUsize, Ordering};
+use std::thread::{Threads, map_indices};
+
+/// The least rosters of bases, found by so many threads. What is missing is searched by the caller.
+pub(crate) fn parts_by_threads<R: Threads + Sync>(
+    rt: &R,
+    alloc: Global,
+    problem: &Problem,
+    table: &Table,
+    ranges: &[(usize, usize)],
+    threads: usize,
+) -> Result<Vec<Part>, AllocError>
+    requires table { AreListed problem.now table.now }
+    requires ranges { length ranges.now ≡ length table.now }
+    requires threads { 0 < threads }
+    ensures { IfOk result (λ parts. AreBaseParts problem.now table.now ranges.now parts.items) }
+{
+    let bases = by_size(alloc, problem, table)?;
+    let bases = bases.as_slice();
+    let next = AtomicUsize::new(0);
+    let idle = AtomicUsize::new(0);
+    let each = threads_a_base(problem, threads);
+    let turns = |_: usize| -> Result<Vec<Part>, AllocError>
+        requires { IsSync R.row × AreListed problem.now table.now
+            × (length ranges.now ≡ length table.now) × (0 < each) }
+        ensures { IfOk result (λ parts.
+            AreBaseParts problem.entry.now table.entry.now ranges.entry.now parts.items) }
+    { parts_in_turn(rt, alloc, each, problem, table, ranges, bases, &next, &idle) };
+    let lists = map_indices(rt, alloc, threads, &turns)?;
+    gathered(alloc, problem, table, ranges, lists)
+}
+
+/// All bases, those whose persons have the most lines first. No answer rests on the order.
+fn by_size(alloc: Global, problem: &Problem, table: &Table) -> Result<Vec<usize>, AllocError>
+    requires { AreListed problem.now table.now }
+{
+    let mut sizes: Vec<(usize, usize)> = Vec::new(alloc);
+    for base in 0..MOST_BASES {
+        sizes.push((lines_of_base(problem, table, base), base))?;
+    }
+    sizes.sort()?;
+    let mut bases = Vec::new(alloc);
+    for back in 0..sizes.len() {
+        bases.push(sizes[sizes.len() - 1 - back].1)?;
+    }
+    Ok(bases)
+}
+
+/// How many lines the persons of the base have.
+fn lines_of_base(problem: &Problem, table: &Table, base: usize) -> usize
+    requires { AreListed problem.now table.now }
+{
+    let mut lines: usize = 0;
+    for k in 0..problem.persons().len() {
+        if problem.person(k).base == base {
+            lines = lines.wrapping_add(table.width(k));
+        }
+    }
+    lines
+}
+
+/// How many threads look at the lines of one base, if so many share all bases.
+fn threads_a_base(problem: &Problem, threads: usize) -> usize
+    ensures { 0 < result }
+{
+    let mut bases: usize = 0;
+    for base in 0..MOST_BASES {
+        if problem.persons().iter().any(|person| person.base == base) {
+            bases = bases.wrapping_add(1);
+        }
+    }
+    if bases == 0 || threads <= bases {
+        return 1;
+    }
+    (threads / bases).max(1)
+}
+
+/// The least rosters of the bases that nobody else has taken, one after another. Then the thread is idle.
+fn parts_in_turn<R: Threads + Sync>(
+    rt: &R,
+    alloc: Global,
+    threads: usize,
+    problem: &Problem,
+    table: &Table,
+    ranges: &[(usize, usize)],
+    bases: &[usize],
+    next: &AtomicUsize,
+    idle: &AtomicUsize,
+) -> Result<Vec<Part>, AllocError>
+    requires table { AreListed problem.now table.now }
+    requires ranges { length ranges.now ≡ length table.now }
+    requires threads { 0 < threads }
+    ensures { IfOk result (λ parts. AreBaseParts problem.now table.now ranges.now parts.items) }
+{
+    let mut parts = Vec::new(alloc);
+    for _ in 0..bases.len() {
+        let turn = next.fetch_add(1, Ordering::SeqCst);
+        if turn >= bases.len() {
+            break;
+        }
+        let base = bases[turn];
+        let least = least_of_base_by_threads(
+            rt, alloc, threads, idle, problem, table, ranges, base,
+        )?;
+        parts.push((base, least))?;
+    }
+    idle.fetch_add(1, Ordering::SeqCst);
+    Ok(parts)
+}
+
+/// The least roster in which the persons of one base have lines in their ranges and all others no pairing,
+/// if there is one. So many threads look at the lines; those that have nothing to do help to search.
+fn least_of_base_by_threads<R: Threads + Sync>(
+    rt: &R,
+    alloc: Global,
+    threads: usize,
+    idle: &AtomicUsize,
+    problem: &Problem,
+    table: &Table,
+    ranges: &[(usize, usize)],
+    base: usize,
+) -> Result<Option<Roster>, AllocError>
+    requires table { AreListed problem.now table.now }
+    requires ranges { length ranges.now ≡ length table.now }
+    requires threads { 0 < threads }
+    ensures { IfOk result (IsLeastBelow problem.now
+        (IsInPart problem.now table.now ranges.now (λ b. b == base)) (pos (2 ^ 63 - 1))) }
+{
+    let region = region_of_base(alloc, problem, table, ranges, base)?;
+    let first = DualPrices::of_penalties(alloc, problem, &region)?;
+    let root = root_prices_by_threads(rt, alloc, threads, problem, &region, &first, i64::MAX)?;
+    least_in(
+        alloc,
+        problem,
+        table,
+        ranges,
+        base,
+        region,
+        root,
+        &mut Crew::new(rt, idle),
+    )
+}
+
+/// All that the threads found; or that memory ran out for one of them.
+fn gathered(
+    alloc: Global,
+    problem: &Problem,
+    table: &Table,
+    ranges: &[(usize, usize)],
+    lists: Vec<Result<Vec<Part>, AllocError>>,
+) -> Result<Vec<Part>, AllocError>
+    requires { All (λ parts. IfOk parts
+        (λ parts. AreBaseParts problem.now table.now ranges.now parts.items)) lists.items }
+    ensures { IfOk result (λ parts. AreBaseParts problem.now table.now ranges.now parts.items) }
+{
+    let mut lists = lists;
+    let mut all = Vec::new(alloc);
+    while let Some(parts) = lists.pop() {
+        let mut parts = parts?;
+        all.append(&mut parts)?;
+    }
+    Ok(all)
+}

@@ -1,6 +1,0 @@
-use Rattle.std.proofs.Common.{◌≡◌}
-use Rattle.roster_solve_tests.proofs.judged.legal_sets.Given as goal
-
--- the judge is the problem's
-abbrev pub invariant-loop-bits : goal.invariant-loop-bits
-invariant-loop-bits l = l.judge ≡ l.problem
