@@ -17,7 +17,7 @@ use Rattle.roster_lines_table.proofs.Numbers.{AreNumbersOf-exist}
 use Rattle.roster_subtreepool_spans.specs.Spans.{LiesIn, Span}
 use Rattle.roster_lines_table.proofs.TableLemmas.{sets_at}
 use Rattle.roster_subtreepool.specs.Coverage.{IsInWidths}
-use Rattle.roster_subtreepool.specs.States.{Ended, Part}
+use Rattle.roster_subtreepool.specs.States.{Ended, SettledSpan}
 use Rattle.roster_combine_workers.specs.Parts.{Agree, AreSettled, IsBestKey, IsLeastOf, IsLeastOfAll, IsSettled, span_of, spans_by, spans_if}
 
 -- ---- the spans of one worker
@@ -53,8 +53,8 @@ spans_by-more (entry ∷ rest) worker by span =
     ap (spans_if (entry.0 == worker) entry.1) (spans_by-more rest worker by span)
     ∙ spans_if-append (entry.0 == worker) entry.1 (spans_by worker rest) (spans_if (by == worker) span [])
 
-part_at : (parts : List Part) (k : ℕ) (span : Span) → slice_get (map span_of parts) k ≡ Some span
-    → (part : Part) × (slice_get parts k ≡ Some part) × (part.span ≡ span)
+part_at : (parts : List SettledSpan) (k : ℕ) (span : Span) → slice_get (map span_of parts) k ≡ Some span
+    → (part : SettledSpan) × (slice_get parts k ≡ Some part) × (part.span ≡ span)
 part_at [] k span at = absurd (none-some span at)
 part_at (part ∷ rest) zero span at = (part, refl, same_Some part.span span at)
 part_at (part ∷ rest) (suc k) span at = part_at rest k span at
@@ -62,7 +62,7 @@ part_at (part ∷ rest) (suc k) span at = part_at rest k span at
 -- ---- the least of all
 
 -- one part more
-pub least-more : (parts : List Part) (count : ℕ) (part : Part) (old mid new : Key)
+pub least-more : (parts : List SettledSpan) (count : ℕ) (part : SettledSpan) (old mid new : Key)
     → IsLeastOf parts count old mid → slice_get parts count ≡ Some part
     → key_le new mid ≡ true → key_le new part.best ≡ true
     → ((problem : Problem) → IsHeld problem mid → IsHeld problem part.best → IsHeld problem new)
@@ -72,23 +72,23 @@ least-more parts count part old mid new before at earlier first held = record {
   least = least;
   held = λ problem known all. held problem (before.held problem known all) (one problem all);
 } where
-  least : (k : ℕ) (other : Part) → k < count + 1 → slice_get parts k ≡ Some other
+  least : (k : ℕ) (other : SettledSpan) → k < count + 1 → slice_get parts k ≡ Some other
       → key_le new other.best ≡ true
   least k other below there = elim (cases_lt k count) [
     | inl inside ↦ key_le-trans new mid other.best earlier (before.least k other inside there)
     | inr past ↦
         let here : k ≡ count = omega (arith, below, past) in
         let same : part ≡ other = same_Some part other (sym at ∙ ap (slice_get parts) (sym here) ∙ there) in
-        subst (λ (p : Part). key_le new p.best ≡ true) same first
+        subst (λ (p : SettledSpan). key_le new p.best ≡ true) same first
   ]
 
-  one : (problem : Problem) → All (λ (p : Part). IsHeld problem p.best) parts → IsHeld problem part.best
+  one : (problem : Problem) → All (λ (p : SettledSpan). IsHeld problem p.best) parts → IsHeld problem part.best
   one problem all =
-      subst (λ (p : Part). IsHeld problem p.best) (get_or_from_slice_get parts count part part at)
-      (All-get_or (λ (p : Part). IsHeld problem p.best) parts count part (slice_get_within parts count part at) all)
+      subst (λ (p : SettledSpan). IsHeld problem p.best) (get_or_from_slice_get parts count part part at)
+      (All-get_or (λ (p : SettledSpan). IsHeld problem p.best) parts count part (slice_get_within parts count part at) all)
 
 -- the parts of one worker more
-pub least_of_all-more : (lists : List (List Part)) (count : ℕ) (old mid new : Key) → count < length lists
+pub least_of_all-more : (lists : List (List SettledSpan)) (count : ℕ) (old mid new : Key) → count < length lists
     → IsLeastOfAll lists count old mid
     → IsLeastOf (slice_index_or lists count []) (length (slice_index_or lists count [])) mid new
     → IsLeastOfAll lists (count + 1) old new
@@ -96,9 +96,9 @@ least_of_all-more lists count old mid new within before one = record {
   kept = key_le-trans new mid old one.kept before.kept;
   least = least;
   held = λ problem known all. one.held problem (before.held problem known all)
-      (All-get_or (λ (parts : List Part). All (λ (p : Part). IsHeld problem p.best) parts) lists count [] within all);
+      (All-get_or (λ (parts : List SettledSpan). All (λ (p : SettledSpan). IsHeld problem p.best) parts) lists count [] within all);
 } where
-  least : (worker k : ℕ) (part : Part) → worker < count + 1
+  least : (worker k : ℕ) (part : SettledSpan) → worker < count + 1
       → slice_get (slice_index_or lists worker []) k ≡ Some part → key_le new part.best ≡ true
   least worker k part below at = elim (cases_lt worker count) [
     | inl inside ↦ key_le-trans new mid part.best one.kept (before.least worker k part inside at)
@@ -128,7 +128,7 @@ in_widths table places numbers are = record {
 
 -- The least of parts that are settled and agree with the pool is the least of all: the list of each legal roster
 -- lies in a finished span, whose part comes no later.
-pub least_is_best : (problem : Problem) (table : List (List Entry)) (lists : List (List Part)) (ended : Ended)
+pub least_is_best : (problem : Problem) (table : List (List Entry)) (lists : List (List SettledSpan)) (ended : Ended)
     (known new : Key)
     → IsTableOf problem table → All (AreSettled problem table) lists → Agree (map length table) lists ended
     → ((numbers : List ℕ) → IsInWidths ended.widths numbers → (place worker : ℕ) × (span : Span) × (slice_get ended.finished place ≡ Some (worker, span)) × LiesIn span numbers)
@@ -144,8 +144,8 @@ least_is_best problem table lists ended known new is settled agree found held_kn
   held : IsHeld problem new
   held =
       least.held problem held_known
-      (All-weaker (AreSettled problem table) (λ parts. All (λ (part : Part). IsHeld problem part.best) parts)
-      (λ parts all. All-weaker (IsSettled problem table) (λ (part : Part). IsHeld problem part.best) (λ part one. one.held) parts all) lists settled)
+      (All-weaker (AreSettled problem table) (λ parts. All (λ (part : SettledSpan). IsHeld problem part.best) parts)
+      (λ parts all. All-weaker (IsSettled problem table) (λ (part : SettledSpan). IsHeld problem part.best) (λ part one. one.held) parts all) lists settled)
 
   first : (others : List ℕ) → IsLegalRoster problem others → key_le new (key_of problem others) ≡ true
   first others legal =

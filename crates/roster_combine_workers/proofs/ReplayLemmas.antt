@@ -8,7 +8,7 @@ use Rattle.roster_model.specs.Problem.{Problem}
 use Rattle.roster_model.specs.Rosters.{Key, key_le}
 use Rattle.roster_model.specs.Settled.{IsHeld}
 use Rattle.roster_subtreepool_spans.specs.Spans.{Span}
-use Rattle.roster_subtreepool.specs.States.{IsAtRest, Part, State, held, opening, step}
+use Rattle.roster_subtreepool.specs.States.{IsAtRest, SettledSpan, State, held, opening, step}
 use Rattle.roster_subtreepool.specs.declared.event.Event.TheVariants.{Finish}
 use Rattle.roster_subtreepool.proofs.StepLemmas.{finish-is, step-keeps}
 use Rattle.roster_subtreepool.proofs.TimesLemmas.{held_within}
@@ -20,7 +20,7 @@ use Rattle.roster_combine_workers.proofs.PartLemmas.{spans_by-more}
 -- ---- what was handed in
 
 -- at first nothing
-pub replays-opening : (task : Task) (widths : List ℕ) (workers : ℕ) (lists : List (List Part)) (best : Key)
+pub replays-opening : (task : Task) (widths : List ℕ) (workers : ℕ) (lists : List (List SettledSpan)) (best : Key)
     → IsHeld task.problem best → widths ≡ map length task.table → lists ≡ replicate workers []
     → IsReplaying task (opening widths workers) lists best
 replays-opening task widths workers lists best held same none = record {
@@ -29,11 +29,11 @@ replays-opening task widths workers lists best held same none = record {
   agree = record {
     covers = same;
     workers = All-nil (λ (entry : ℕ × Span). entry.0 < length lists);
-    spans = λ worker within. ap (map span_of) (ap (λ (ls : List (List Part)). slice_index_or ls worker []) none ∙ get_or-replicate workers worker [] [] (omega (arith, within, ap length none, length-replicate workers (nothing))));
+    spans = λ worker within. ap (map span_of) (ap (λ (ls : List (List SettledSpan)). slice_index_or ls worker []) none ∙ get_or-replicate workers worker [] [] (omega (arith, within, ap length none, length-replicate workers (nothing))));
   };
   hands = length-replicate workers no_span ∙ sym (ap length none ∙ length-replicate workers nothing);
 } where
-  nothing : List Part
+  nothing : List SettledSpan
   nothing = []
 
   no_span : Option Span
@@ -47,7 +47,7 @@ held_less problem old new false is first second =
     subst (λ (key : Key). IsHeld problem key) (sym (ap (λ b. if b then old else new) is)) second
 
 -- the worker's own list and those of the others, where the worker hands in a part
-own_spans : (finished : List (ℕ × Span)) (worker : ℕ) (parts : List Part) (part : Part)
+own_spans : (finished : List (ℕ × Span)) (worker : ℕ) (parts : List SettledSpan) (part : SettledSpan)
     → map span_of parts ≡ spans_by worker finished
     → map span_of (parts ++ part ∷ []) ≡ spans_by worker (finished ++ (worker, part.span) ∷ [])
 own_spans finished worker parts part same =
@@ -64,7 +64,7 @@ other_spans finished worker by span other =
     ∙ sym (spans_by-more finished worker by span)
 
 -- a worker hands in a part
-pub replays-finish : (task : Task) (s next : State) (worker : ℕ) (part : Part) (lists : List (List Part)) (best : Key) → IsReplaying task s lists best
+pub replays-finish : (task : Task) (s next : State) (worker : ℕ) (part : SettledSpan) (lists : List (List SettledSpan)) (best : Key) → IsReplaying task s lists best
     → held s worker ≡ Some part.span → step s (Finish worker) ≡ Some next
     → IsSettled task.problem task.table part
     → IsReplaying task next (slice_set lists worker (slice_index_or lists worker [] ++ part ∷ [])) (less_of best part.best)
@@ -85,10 +85,10 @@ replays-finish task s next worker part lists best old has is settled = record {
   };
   hands = (step-keeps s next (Finish worker) is).hands ∙ old.hands ∙ sym long;
 } where
-  own : List Part
+  own : List SettledSpan
   own = slice_index_or lists worker []
 
-  more : List Part
+  more : List SettledSpan
   more = own ++ part ∷ []
 
   entry : ℕ × Span

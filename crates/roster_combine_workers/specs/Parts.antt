@@ -6,7 +6,7 @@ use Rattle.roster_model.specs.Rosters.{Key, key_le}
 use Rattle.roster_model.specs.Settled.{IsBest, IsHeld, IsNotAfter}
 use Rattle.roster_lines_table.specs.Entries.{Entry}
 use Rattle.roster_subtreepool_spans.specs.Spans.{IsInSpan, Span}
-use Rattle.roster_subtreepool.specs.States.{Ended, Part}
+use Rattle.roster_subtreepool.specs.States.{Ended, SettledSpan}
 
 -- what all workers search
 pub record Task : Type 0 where
@@ -19,14 +19,14 @@ pub record IsBestKey (problem : Problem) (key : Key) : Type 0 where
   pub cost : key.cost ≡ cost_of problem key.places
 
 -- the roster is legal, and no legal roster of the span comes before it
-pub record IsSettled (problem : Problem) (table : List (List Entry)) (part : Part) : Type 0 where
+pub record IsSettled (problem : Problem) (table : List (List Entry)) (part : SettledSpan) : Type 0 where
   pub held : IsHeld problem part.best
   pub least : IsNotAfter problem (IsInSpan table part.span) part.best
 
-abbrev pub AreSettled : Problem → List (List Entry) → List Part → Type 0
+abbrev pub AreSettled : Problem → List (List Entry) → List SettledSpan → Type 0
 AreSettled problem table parts = All (IsSettled problem table) parts
 
-abbrev pub span_of : Part → Span
+abbrev pub span_of : SettledSpan → Span
 span_of part = part.span
 
 -- the spans that a worker finished, in order
@@ -39,7 +39,7 @@ spans_by worker [] = []
 spans_by worker (entry ∷ rest) = spans_if (entry.0 == worker) entry.1 (spans_by worker rest)
 
 -- what the workers handed in, a list for each, is just what a closed pool with these widths lists for each
-pub record Agree (widths : List ℕ) (lists : List (List Part)) (ended : Ended) : Type 0 where
+pub record Agree (widths : List ℕ) (lists : List (List SettledSpan)) (ended : Ended) : Type 0 where
   pub covers : ended.widths ≡ widths
   pub workers : All (λ (entry : ℕ × Span). entry.0 < length lists) ended.finished
   pub spans : (worker : ℕ) → worker < length lists
@@ -47,17 +47,17 @@ pub record Agree (widths : List ℕ) (lists : List (List Part)) (ended : Ended) 
 
 -- The new key is after neither the old one nor that of any of the first parts, so many of them. It is that of a
 -- legal roster if all those are.
-pub record IsLeastOf (parts : List Part) (count : ℕ) (old new : Key) : Type 0 where
+pub record IsLeastOf (parts : List SettledSpan) (count : ℕ) (old new : Key) : Type 0 where
   pub kept : key_le new old ≡ true
-  pub least : (k : ℕ) (part : Part) → k < count → slice_get parts k ≡ Some part → key_le new part.best ≡ true
-  pub held : (problem : Problem) → IsHeld problem old → All (λ (part : Part). IsHeld problem part.best) parts
+  pub least : (k : ℕ) (part : SettledSpan) → k < count → slice_get parts k ≡ Some part → key_le new part.best ≡ true
+  pub held : (problem : Problem) → IsHeld problem old → All (λ (part : SettledSpan). IsHeld problem part.best) parts
       → IsHeld problem new
 
 -- the same of the parts of the first workers
-pub record IsLeastOfAll (lists : List (List Part)) (count : ℕ) (old new : Key) : Type 0 where
+pub record IsLeastOfAll (lists : List (List SettledSpan)) (count : ℕ) (old new : Key) : Type 0 where
   pub kept : key_le new old ≡ true
-  pub least : (worker k : ℕ) (part : Part) → worker < count
+  pub least : (worker k : ℕ) (part : SettledSpan) → worker < count
       → slice_get (slice_index_or lists worker []) k ≡ Some part → key_le new part.best ≡ true
   pub held : (problem : Problem) → IsHeld problem old
-      → All (λ (parts : List Part). All (λ (part : Part). IsHeld problem part.best) parts) lists
+      → All (λ (parts : List SettledSpan). All (λ (part : SettledSpan). IsHeld problem part.best) parts) lists
       → IsHeld problem new

@@ -2,7 +2,7 @@
 use Rattle.std.specs.Prelude.{◌≡◌, ℕ, List, None, All, length, map}
 use Rattle.roster_model.specs.Rosters.{Key}
 use Rattle.roster_model.specs.Settled.{IsHeld}
-use Rattle.roster_subtreepool.specs.States.{Ended, Part, State, held}
+use Rattle.roster_subtreepool.specs.States.{Ended, SettledSpan, State, held}
 use Rattle.roster_combine_workers.specs.Parts.{Agree, AreSettled, Task}
 
 pub record Replay : Type 0 where
@@ -13,7 +13,7 @@ abbrev pub ended_of : State → Ended
 ended_of state = record { widths = state.widths; finished = state.finished }
 
 -- what was handed in is settled, and just what the pool lists; the best roster so far is legal
-pub record IsReplaying (task : Task) (state : State) (lists : List (List Part)) (best : Key) : Type 0 where
+pub record IsReplaying (task : Task) (state : State) (lists : List (List SettledSpan)) (best : Key) : Type 0 where
   pub held : IsHeld task.problem best
   pub settled : All (AreSettled task.problem task.table) lists
   pub agree : Agree (map length task.table) lists (ended_of state)

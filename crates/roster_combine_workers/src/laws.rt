@@ -6,7 +6,7 @@ ghost use Rattle.roster_model.specs.Rosters.{Key};
 ghost use Rattle.roster_model.specs.Settled.{IsHeld};
 ghost use Rattle.roster_lines_table.specs.Entries.{Entry};
 ghost use Rattle.roster_lines_table.specs.Person.{IsTableOf};
-ghost use Rattle.roster_subtreepool.specs.States.{Part};
+ghost use Rattle.roster_subtreepool.specs.States.{SettledSpan};
 ghost use Rattle.roster_combine_workers.specs.Parts.{Agree, AreSettled, IsBestKey, IsLeastOfAll};
 
 use roster_subtreepool::Closed;
@@ -15,7 +15,7 @@ use roster_subtreepool::Closed;
 /// end by any events of any workers, and each finished span may be settled by any roster: nothing is asked
 /// of how it was found, or of what was seen meanwhile.
 pub fn least_handed_in_is_best(closed: &Closed)
-    ensures { (problem : Problem) (table : List (List Entry)) (lists : List (List Part)) (known best : Key)
+    ensures { (problem : Problem) (table : List (List Entry)) (lists : List (List SettledSpan)) (known best : Key)
         → IsTableOf problem table → Agree (map length table) lists closed.now
         → All (AreSettled problem table) lists → IsHeld problem known
         → IsLeastOfAll lists (length lists) known best → IsBestKey problem best }

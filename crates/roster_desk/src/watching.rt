@@ -3,7 +3,7 @@
 ghost use Rattle.roster_model.specs.Settled.{IsHeld};
 
 use roster_desk_run::write_planned;
-use roster_plan::{Planned, Step, Watcher};
+use roster_plan::{Phase, Planned, Watcher};
 use roster_problem::Problem;
 use roster_watched::Watched;
 use std::fs::File;
@@ -39,7 +39,7 @@ impl<'a> Companion<'a> {
     }
 
     // A line, if its numbers are new. A step of one base names it.
-    fn line(&mut self, step: Step, base: Option<&str>, cost: i64, bound: i64) {
+    fn line(&mut self, step: Phase, base: Option<&str>, cost: i64, bound: i64) {
         if self.last == Some((cost, bound)) {
             return;
         }
@@ -56,7 +56,7 @@ impl<'a> Companion<'a> {
 }
 
 impl<'a> Watcher for Companion<'a> {
-    fn tell(&mut self, problem: &Problem, base: Option<usize>, step: Step, planned: &Planned) {
+    fn tell(&mut self, problem: &Problem, base: Option<usize>, step: Phase, planned: &Planned) {
         if self.is_told {
             let base = match base {
                 Some(base) => name_of(problem, base),

@@ -10,7 +10,7 @@ use roster_problem::{Problem, open_number};
 use std::alloc::{AllocError, Global};
 
 /// How many lines of reasons a page has, at most, unless each open pairing has [`FEWEST_LINES`].
-const MOST_LINES: usize = 3000;
+const MOST_OPEN_LINES: usize = 3000;
 
 /// How many lines of reasons an open pairing has, if the base has so many persons.
 const FEWEST_LINES: usize = 3;
@@ -152,7 +152,7 @@ pub(crate) fn push_reasons(
     requires pairing { p < length problem.now.pairings }
 {
     let open = open_count(problem, places).max(1);
-    let most = (MOST_LINES / open).max(FEWEST_LINES);
+    let most = (MOST_OPEN_LINES / open).max(FEWEST_LINES);
     let pairing = problem.pairing(p);
     let items = items_of(alloc, problem, zones, places, p, pairing.base, most)?;
     let (able, asked, persons) = (items.able, items.asked, items.persons);

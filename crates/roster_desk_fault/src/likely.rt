@@ -1,7 +1,7 @@
 //! Duties that are likely wrong, and persons of whom nothing is given.
 
 use crate::kinds::Kind;
-use crate::rows::Row;
+use crate::rows::Record;
 use crate::seen::Seen;
 use crate::times::span_of;
 use crate::warning::{Warning, warn};
@@ -19,12 +19,12 @@ const MANY_REPORTS: usize = 8;
 const MANY_PERSONS: usize = 4;
 
 /// The minutes of a duty or leave.
-fn minutes_of(row: &Row) -> i64 {
+fn minutes_of(row: &Record) -> i64 {
     span_of(row).map_or(0, |span| span.to.get() - span.from.get())
 }
 
 /// Warnings of duties that are longer than a likely one.
-pub(crate) fn long_duties(alloc: Global, rows: &[Row]) -> Result<Vec<Warning>, AllocError> {
+pub(crate) fn long_duties(alloc: Global, rows: &[Record]) -> Result<Vec<Warning>, AllocError> {
     let mut warnings = Vec::new(alloc);
     for (at, row) in rows.iter().enumerate() {
         if row.is(Kind::Duty) && minutes_of(row) > LONGEST_DUTY {
@@ -59,7 +59,7 @@ fn is_at_night(days: &BaseDays, minute: Minute) -> bool {
 /// The names of the base's pairings.
 fn pairings_of<'a>(
     alloc: Global,
-    rows: &'a [Row],
+    rows: &'a [Record],
     base: &[u8],
 ) -> Result<Vec<&'a [u8]>, AllocError> {
     let mut names = Vec::new(alloc);
@@ -72,7 +72,7 @@ fn pairings_of<'a>(
 }
 
 /// How many duties the pairings have, and how many of them report at night.
-fn reports_of(rows: &[Row], pairings: &[&[u8]], days: &BaseDays) -> (usize, usize) {
+fn reports_of(rows: &[Record], pairings: &[&[u8]], days: &BaseDays) -> (usize, usize) {
     let (mut all, mut night) = (0usize, 0usize);
     for row in rows {
         if !row.has(Kind::Duty, 2, b"P") {
@@ -90,7 +90,7 @@ fn reports_of(rows: &[Row], pairings: &[&[u8]], days: &BaseDays) -> (usize, usiz
 
 /// How many duties the base's pairings have, and how many of them report at night; none if its clocks aren't
 /// known, or show UTC.
-fn reports_at(alloc: Global, rows: &[Row], row: &Row) -> Result<(usize, usize), AllocError> {
+fn reports_at(alloc: Global, rows: &[Record], row: &Record) -> Result<(usize, usize), AllocError> {
     let seen = Seen {
         rows,
         at: rows.len(),
@@ -106,7 +106,7 @@ fn reports_at(alloc: Global, rows: &[Row], row: &Row) -> Result<(usize, usize), 
 }
 
 /// Warnings of bases whose duties mostly report at night, as if their times were local.
-pub(crate) fn nights(alloc: Global, rows: &[Row]) -> Result<Vec<Warning>, AllocError> {
+pub(crate) fn nights(alloc: Global, rows: &[Record]) -> Result<Vec<Warning>, AllocError> {
     let mut warnings = Vec::new(alloc);
     for (at, row) in rows.iter().enumerate() {
         if row.is(Kind::Base) {
@@ -124,7 +124,7 @@ pub(crate) fn nights(alloc: Global, rows: &[Row]) -> Result<Vec<Warning>, AllocE
 }
 
 /// Whether the book gives the person a fixed duty, leave or a pairing.
-fn has_something(rows: &[Row], person: &[u8]) -> bool {
+fn has_something(rows: &[Record], person: &[u8]) -> bool {
     rows.iter().any(|row| {
         row.has(Kind::Leave, 1, person)
             || row.has(Kind::Assign, 2, person)
@@ -133,7 +133,7 @@ fn has_something(rows: &[Row], person: &[u8]) -> bool {
 }
 
 /// How many persons the base has, and to how many of them the book gives something.
-fn persons_at(rows: &[Row], base: &[u8]) -> (usize, usize) {
+fn persons_at(rows: &[Record], base: &[u8]) -> (usize, usize) {
     let (mut all, mut busy) = (0usize, 0usize);
     for row in rows {
         if row.has(Kind::Crew, 2, base) {
@@ -149,7 +149,7 @@ fn persons_at(rows: &[Row], base: &[u8]) -> (usize, usize) {
 /// Warnings of persons of whom the book gives nothing, though it does so of most others of their base.
 fn free_at(
     alloc: Global,
-    rows: &[Row],
+    rows: &[Record],
     base: &[u8],
     warnings: &mut Vec<Warning>,
 ) -> Result<(), AllocError> {
@@ -169,7 +169,7 @@ fn free_at(
 }
 
 /// Warnings of persons with a whole month free.
-pub(crate) fn free_months(alloc: Global, rows: &[Row]) -> Result<Vec<Warning>, AllocError> {
+pub(crate) fn free_months(alloc: Global, rows: &[Record]) -> Result<Vec<Warning>, AllocError> {
     let mut warnings = Vec::new(alloc);
     for row in rows {
         if row.is(Kind::Base) {

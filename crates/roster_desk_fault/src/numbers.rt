@@ -2,7 +2,7 @@
 
 use crate::forms::number;
 use crate::kinds::Kind;
-use crate::rows::Row;
+use crate::rows::Record;
 use crate::times::span_of;
 use crate::warning::{Warning, warn};
 use std::alloc::{AllocError, Global};
@@ -14,18 +14,18 @@ const LEAST_TARGET: i64 = 300;
 const MANY: usize = 5;
 
 /// The number in the field; 0 if there is none.
-fn number_in(row: &Row, i: usize) -> i64 {
+fn number_in(row: &Record, i: usize) -> i64 {
     number(row.field(i)).unwrap_or(0)
 }
 
 /// Whether the book's month is a January.
-fn is_january(rows: &[Row]) -> bool {
+fn is_january(rows: &[Record]) -> bool {
     rows.first()
         .is_some_and(|row| row.field(1).ends_with(b"-01"))
 }
 
 /// Warnings of minutes flown before the month.
-pub(crate) fn years(alloc: Global, rows: &[Row]) -> Result<Vec<Warning>, AllocError> {
+pub(crate) fn years(alloc: Global, rows: &[Record]) -> Result<Vec<Warning>, AllocError> {
     let mut warnings = Vec::new(alloc);
     for (at, row) in rows.iter().enumerate() {
         if row.is(Kind::Crew) {
@@ -44,7 +44,7 @@ pub(crate) fn years(alloc: Global, rows: &[Row]) -> Result<Vec<Warning>, AllocEr
 }
 
 /// Warnings of targets.
-pub(crate) fn targets(alloc: Global, rows: &[Row]) -> Result<Vec<Warning>, AllocError> {
+pub(crate) fn targets(alloc: Global, rows: &[Record]) -> Result<Vec<Warning>, AllocError> {
     let mut warnings = Vec::new(alloc);
     for (at, row) in rows.iter().enumerate() {
         if row.is(Kind::Crew) {
@@ -61,27 +61,27 @@ pub(crate) fn targets(alloc: Global, rows: &[Row]) -> Result<Vec<Warning>, Alloc
 }
 
 /// Whether the person has minutes before the month, all of them in whole hours.
-fn is_in_hours(row: &Row) -> bool {
+fn is_in_hours(row: &Record) -> bool {
     number_in(row, 4) % 60 == 0 && number_in(row, 5) % 60 == 0
 }
 
 /// Whether the sector takes whole hours.
-fn takes_hours(row: &Row) -> bool {
+fn takes_hours(row: &Record) -> bool {
     span_of(row).is_some_and(|span| (span.to.get() - span.from.get()) % 60 == 0)
 }
 
 /// Whether the person has minutes before the month.
-fn has_flown(row: &Row) -> bool {
+fn has_flown(row: &Record) -> bool {
     row.is(Kind::Crew) && number_in(row, 5) > 0
 }
 
 /// Whether the sector is operated.
-fn is_operated(row: &Row) -> bool {
+fn is_operated(row: &Record) -> bool {
     row.has(Kind::Sector, 2, b"O")
 }
 
 /// Warnings of minutes that are whole hours in all records.
-pub(crate) fn hours(alloc: Global, rows: &[Row]) -> Result<Vec<Warning>, AllocError> {
+pub(crate) fn hours(alloc: Global, rows: &[Record]) -> Result<Vec<Warning>, AllocError> {
     let mut warnings = Vec::new(alloc);
     let flown = rows.iter().filter(|row| has_flown(row)).count();
     let flown_hours = rows
@@ -114,7 +114,7 @@ pub(crate) fn hours(alloc: Global, rows: &[Row]) -> Result<Vec<Warning>, AllocEr
 }
 
 /// The warning that no sector is operated.
-pub(crate) fn positioning(alloc: Global, rows: &[Row]) -> Result<Vec<Warning>, AllocError> {
+pub(crate) fn positioning(alloc: Global, rows: &[Record]) -> Result<Vec<Warning>, AllocError> {
     let mut warnings = Vec::new(alloc);
     if rows.iter().any(|row| is_operated(row)) {
         return Ok(warnings);

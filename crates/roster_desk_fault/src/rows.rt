@@ -6,7 +6,7 @@ use std::alloc::{AllocError, Global};
 
 /// A record.
 #[derive(Drop)]
-pub(crate) struct Row {
+pub(crate) struct Record {
     fields: ByteRecord,
     /// The line of the file on which it begins, from 1.
     pub(crate) line: usize,
@@ -14,7 +14,7 @@ pub(crate) struct Row {
     pub(crate) left_out: bool,
 }
 
-impl Row {
+impl Record {
     /// The field at a place from 0, or no bytes if there is none.
     pub(crate) fn field(&self, i: usize) -> &[u8] {
         self.fields.get(i).unwrap_or(&[])
@@ -119,7 +119,7 @@ fn next_of(alloc: Global, reader: &mut Reader<&[u8]>) -> Result<Option<ByteRecor
 /// Puts all records that the reader has behind the others.
 fn push_rows(
     alloc: Global,
-    rows: &mut Vec<Row>,
+    rows: &mut Vec<Record>,
     reader: &mut Reader<&[u8]>,
     bytes: &[u8],
 ) -> Result<(), AllocError> {
@@ -134,7 +134,7 @@ fn push_rows(
             reached,
             past_line_ends(bytes, begin_of(&fields, bytes)),
         );
-        rows.push(Row {
+        rows.push(Record {
             fields,
             line: reached.line,
             left_out: false,
@@ -144,7 +144,7 @@ fn push_rows(
 }
 
 /// The records of the book in the bytes, as a check reads them. The n-th is that of row n + 1.
-pub(crate) fn read_rows(alloc: Global, bytes: &[u8]) -> Result<Vec<Row>, AllocError> {
+pub(crate) fn read_rows(alloc: Global, bytes: &[u8]) -> Result<Vec<Record>, AllocError> {
     let mut reader = ReaderBuilder::new()
         .has_headers(false)
         .flexible(true)
@@ -155,7 +155,7 @@ pub(crate) fn read_rows(alloc: Global, bytes: &[u8]) -> Result<Vec<Row>, AllocEr
 }
 
 /// A book of the records that aren't left out.
-pub(crate) fn kept_text(alloc: Global, rows: &[Row]) -> Result<Vec<u8>, AllocError> {
+pub(crate) fn kept_text(alloc: Global, rows: &[Record]) -> Result<Vec<u8>, AllocError> {
     let mut out = Vec::new(alloc);
     for row in rows {
         if !row.left_out {
@@ -166,7 +166,7 @@ pub(crate) fn kept_text(alloc: Global, rows: &[Row]) -> Result<Vec<u8>, AllocErr
 }
 
 /// The place of the record that has so many records before it that aren't left out, if there is one.
-pub(crate) fn kept_at(rows: &[Row], before: usize) -> Option<usize> {
+pub(crate) fn kept_at(rows: &[Record], before: usize) -> Option<usize> {
     let mut left = before;
     for (i, row) in rows.iter().enumerate() {
         if !row.left_out {

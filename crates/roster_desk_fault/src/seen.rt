@@ -1,7 +1,7 @@
 //! A record that is judged, among the others of its book.
 
 use crate::kinds::Kind;
-use crate::rows::Row;
+use crate::rows::Record;
 use roster_instants::{BaseDays, Minute, Period, ZoneFault, read_minute};
 use std::alloc::{AllocError, Global};
 use std::str;
@@ -10,11 +10,11 @@ use std::str;
 #[derive(Clone, Copy)]
 pub(crate) struct Seen<'a> {
     /// All records.
-    pub(crate) rows: &'a [Row],
+    pub(crate) rows: &'a [Record],
     /// Its place among them.
     pub(crate) at: usize,
     /// The record.
-    pub(crate) row: &'a Row,
+    pub(crate) row: &'a Record,
 }
 
 /// Another record that a fault is about.
@@ -35,7 +35,7 @@ pub(crate) struct Span {
 
 impl Span {
     /// The time from one field to another, if both are instants.
-    pub(crate) fn read(row: &Row, from: usize, to: usize) -> Option<Span> {
+    pub(crate) fn read(row: &Record, from: usize, to: usize) -> Option<Span> {
         Some(Span {
             from: read_minute(row.field(from))?,
             to: read_minute(row.field(to))?,
@@ -63,7 +63,7 @@ impl<'a> Seen<'a> {
     }
 
     /// The first record before this one that is of the kind and has the text at the place.
-    pub(crate) fn given_row(&self, kind: Kind, i: usize, text: &[u8]) -> Option<&'a Row> {
+    pub(crate) fn given_row(&self, kind: Kind, i: usize, text: &[u8]) -> Option<&'a Record> {
         self.rows.get(self.given(kind, i, text)?)
     }
 

@@ -1,6 +1,6 @@
 //! What a book holds, as text that can be shown: valid UTF-8 without control characters, cut short.
 
-use crate::rows::Row;
+use crate::rows::Record;
 use std::alloc::{AllocError, Global};
 use std::str;
 
@@ -102,7 +102,11 @@ pub(crate) fn push_field(alloc: Global, out: &mut Vec<u8>, field: &[u8]) -> Resu
 }
 
 /// Appends a record so that it can be shown, as it stands in a book.
-pub(crate) fn push_record(alloc: Global, out: &mut Vec<u8>, row: &Row) -> Result<(), AllocError> {
+pub(crate) fn push_record(
+    alloc: Global,
+    out: &mut Vec<u8>,
+    row: &Record,
+) -> Result<(), AllocError> {
     for i in 0..row.len().min(MOST_FIELDS) {
         if i > 0 {
             out.push(b',')?;

@@ -9,7 +9,7 @@ use crate::codes::sentence;
 use crate::crowded::first_crowded;
 use crate::finding::{Finding, find};
 use crate::kinds::Kind;
-use crate::rows::{Row, kept_at, kept_text, read_rows};
+use crate::rows::{Record, kept_at, kept_text, read_rows};
 use crate::seen::{Other, Seen};
 use crate::shown::{push_field, push_record};
 use roster_book::{Book, BookFault, Command, read_book};
@@ -62,13 +62,13 @@ fn first_fault(alloc: Global, bytes: &[u8]) -> Result<Option<First>, AllocError>
 }
 
 /// The first fault of the records that aren't left out.
-fn first_kept(alloc: Global, rows: &[Row]) -> Result<Option<First>, AllocError> {
+fn first_kept(alloc: Global, rows: &[Record]) -> Result<Option<First>, AllocError> {
     let text = kept_text(alloc, rows)?;
     first_fault(alloc, text.as_slice())
 }
 
 /// The name of the field at the place of the record, as the description of the format has it.
-fn field_name(row: &Row, i: usize) -> &'static str {
+fn field_name(row: &Record, i: usize) -> &'static str {
     let Some(kind) = row.kind() else {
         return "the kind";
     };
@@ -90,7 +90,7 @@ fn push_line(out: &mut Vec<u8>, label: &[u8], text: &[u8]) -> Result<(), AllocEr
 fn push_other(
     alloc: Global,
     out: &mut Vec<u8>,
-    rows: &[Row],
+    rows: &[Record],
     other: Other,
 ) -> Result<(), AllocError> {
     let Some(row) = rows.get(other.place) else {
@@ -107,7 +107,7 @@ fn push_other(
 fn push_found(
     alloc: Global,
     out: &mut Vec<u8>,
-    row: &Row,
+    row: &Record,
     found: &Finding,
 ) -> Result<(), AllocError> {
     push_line(out, b"  field   ", field_name(row, found.field).as_bytes())?;
@@ -126,7 +126,7 @@ fn push_head(
     alloc: Global,
     out: &mut Vec<u8>,
     at: usize,
-    row: &Row,
+    row: &Record,
     code: u8,
 ) -> Result<(), AllocError> {
     let (number, line) = (at.saturating_add(1), row.line);
@@ -143,7 +143,7 @@ fn push_head(
 fn push_fault(
     alloc: Global,
     out: &mut Vec<u8>,
-    rows: &[Row],
+    rows: &[Record],
     at: usize,
     code: u8,
 ) -> Result<(), AllocError> {
@@ -160,19 +160,19 @@ fn push_fault(
 }
 
 /// Leaves the record at the place out.
-fn leave_out(rows: &mut Vec<Row>, at: usize) {
+fn leave_out(rows: &mut Vec<Record>, at: usize) {
     if let Some(row) = rows.as_mut_slice().get_mut(at) {
         row.left_out = true;
     }
 }
 
 /// How many records of the kind there are.
-fn count(rows: &[Row], kind: Kind) -> usize {
+fn count(rows: &[Record], kind: Kind) -> usize {
     rows.iter().filter(|row| row.is(kind)).count()
 }
 
 /// The place of the record of the kind that has so many of its kind before it, if there is one.
-fn place_of(rows: &[Row], kind: Kind, before: usize) -> Option<usize> {
+fn place_of(rows: &[Record], kind: Kind, before: usize) -> Option<usize> {
     let mut left = before;
     for (at, row) in rows.iter().enumerate() {
         if row.is(kind) {
@@ -190,7 +190,7 @@ fn place_of(rows: &[Row], kind: Kind, before: usize) -> Option<usize> {
 fn push_crowded(
     alloc: Global,
     out: &mut Vec<u8>,
-    rows: &[Row],
+    rows: &[Record],
     problem: &Problem,
 ) -> Result<(), AllocError> {
     let Some(k) = first_crowded(alloc, problem)? else {
@@ -205,7 +205,7 @@ fn push_crowded(
 
 /// The text of a book without a fault: how many records of each kind there are, and the fault that only
 /// `solve` tells, if there is one.
-fn good_text(alloc: Global, rows: &[Row], problem: &Problem) -> Result<Vec<u8>, AllocError> {
+fn good_text(alloc: Global, rows: &[Record], problem: &Problem) -> Result<Vec<u8>, AllocError> {
     let mut out = Vec::new(alloc);
     out.extend_from_slice(b"NO FAULT\n")?;
     for &kind in &Kind::ALL {
@@ -242,7 +242,7 @@ fn push_end(
 fn push_faults(
     alloc: Global,
     out: &mut Vec<u8>,
-    rows: &mut Vec<Row>,
+    rows: &mut Vec<Record>,
     first: First,
 ) -> Result<(), AllocError> {
     if rows.is_empty() {

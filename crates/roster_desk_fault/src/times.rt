@@ -2,7 +2,7 @@
 
 use crate::finding::Finding;
 use crate::kinds::Kind;
-use crate::rows::Row;
+use crate::rows::Record;
 use crate::seen::{Other, Seen, Span};
 use roster_desk_words::instant;
 use roster_instants::read_minute;
@@ -18,7 +18,7 @@ pub(crate) fn ends_of(kind: Kind) -> (usize, usize) {
 }
 
 /// When a record begins and ends, if it is of a kind that does.
-pub(crate) fn span_of(row: &Row) -> Option<Span> {
+pub(crate) fn span_of(row: &Record) -> Option<Span> {
     let kind = row.kind()?;
     let (from, to) = ends_of(kind);
     Span::read(row, from, to)
@@ -127,7 +127,7 @@ pub(crate) fn find_wrong_start(alloc: Global, seen: Seen<'_>) -> Result<Finding,
 }
 
 /// Whether the record is a fixed duty or a leave of the person.
-fn is_of_person(row: &Row, person: &[u8]) -> bool {
+fn is_of_person(row: &Record, person: &[u8]) -> bool {
     row.has(Kind::Leave, 1, person)
         || row.has(Kind::Duty, 3, person) && row.field(2) == b"C".as_slice()
 }

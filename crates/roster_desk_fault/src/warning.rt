@@ -1,6 +1,6 @@
 //! What is likely a mistake in a book that has no fault.
 
-use crate::rows::Row;
+use crate::rows::Record;
 use crate::shown::push_record;
 use std::alloc::{AllocError, Global};
 
@@ -32,7 +32,7 @@ pub(crate) fn warn(
 fn push_warning(
     alloc: Global,
     out: &mut Vec<u8>,
-    rows: &[Row],
+    rows: &[Record],
     word: &str,
     warning: &Warning,
 ) -> Result<(), AllocError> {
@@ -52,7 +52,7 @@ fn push_warning(
 pub(crate) fn push_warnings(
     alloc: Global,
     out: &mut Vec<u8>,
-    rows: &[Row],
+    rows: &[Record],
     word: &str,
     warnings: &[Warning],
 ) -> Result<usize, AllocError> {

@@ -2,7 +2,7 @@
 
 use crate::likely::{free_months, long_duties, nights};
 use crate::numbers::{hours, positioning, targets, years};
-use crate::rows::{Row, read_rows};
+use crate::rows::{Record, read_rows};
 use crate::warning::{Warning, push_warnings};
 use crate::zones::zones;
 use std::alloc::{AllocError, Global};
@@ -48,7 +48,7 @@ impl Sign {
     }
 
     /// The warnings of it.
-    fn warnings(self, alloc: Global, rows: &[Row]) -> Result<Vec<Warning>, AllocError> {
+    fn warnings(self, alloc: Global, rows: &[Record]) -> Result<Vec<Warning>, AllocError> {
         match self {
             Sign::Zone => zones(alloc, rows),
             Sign::Night => nights(alloc, rows),

@@ -1,7 +1,7 @@
 //! Zone texts whose sign disagrees with their name.
 
 use crate::kinds::Kind;
-use crate::rows::Row;
+use crate::rows::Record;
 use crate::warning::{Warning, warn};
 use std::alloc::{AllocError, Global};
 
@@ -136,7 +136,7 @@ fn zone_reason(text: &[u8]) -> Option<&'static str> {
 }
 
 /// Warnings of zone texts.
-pub(crate) fn zones(alloc: Global, rows: &[Row]) -> Result<Vec<Warning>, AllocError> {
+pub(crate) fn zones(alloc: Global, rows: &[Record]) -> Result<Vec<Warning>, AllocError> {
     let mut warnings = Vec::new(alloc);
     for (at, row) in rows.iter().enumerate() {
         if row.is(Kind::Base) {

@@ -45,7 +45,7 @@ pub struct Report {
 
 /// What the lines read so far say.
 #[derive(Drop)]
-struct Draft {
+struct ReportDraft {
     // The month and the number of its line, when there was a line.
     heading: Option<(Period, usize)>,
     crew: Vec<CrewLine>,
@@ -130,7 +130,7 @@ fn crew_line(alloc: Global, line: usize, words: &[&[u8]]) -> Result<CrewLine, Re
     })
 }
 
-impl Draft {
+impl ReportDraft {
     /// Takes the words of the first line that isn't blank, which is no `CREW` line.
     fn begin(&mut self, line: usize, words: &[&[u8]]) -> Result<(), ReportFault>
         ensures { OnOk result (self.new.crew ≡ self.old.crew) }
@@ -228,7 +228,7 @@ pub fn read_report(alloc: Global, text: &[u8]) -> Result<Report, ReportFault>
     ensures { IfOk result
         (λ report. map given_by_line report.crew.items ≡ given_by_text text.now) }
 {
-    let mut draft = Draft {
+    let mut draft = ReportDraft {
         heading: None,
         crew: Vec::new(alloc),
         pairings: 0,

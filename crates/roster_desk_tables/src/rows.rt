@@ -25,7 +25,7 @@ pub(crate) const COLUMNS: [&[u8]; 11] = [
 
 /// What a row tells of, behind the person.
 #[derive(Drop)]
-struct Row<'a> {
+struct TableRow<'a> {
     kind: &'a [u8],
     name: &'a [u8],
     pairing: &'a [u8],
@@ -55,12 +55,12 @@ fn flown(duty: &Duty) -> i64 {
 }
 
 /// The row of a duty.
-fn duty_row<'a>(problem: &'a Problem, duty: &'a Duty) -> Row<'a> {
+fn duty_row<'a>(problem: &'a Problem, duty: &'a Duty) -> TableRow<'a> {
     let pairing = match duty.holder {
         Holder::Pairing(p) => pairing_name(problem, p),
         Holder::Person(_) => b"".as_slice(),
     };
-    Row {
+    TableRow {
         kind: b"duty",
         name: duty.id.as_bytes(),
         pairing,
@@ -84,14 +84,14 @@ fn flown_at(problem: &Problem, positions: &[u16]) -> i64 {
 
 /// The row of the pairing at place `p`, from its first report to its last release. Each pairing of a book
 /// has a duty.
-fn pairing_row(problem: &Problem, p: usize) -> Option<Row<'_>>
+fn pairing_row(problem: &Problem, p: usize) -> Option<TableRow<'_>>
     requires { p < length problem.now.pairings }
 {
     let positions = problem.duties_of(p);
     let first = problem.duties().get(usize::from(*positions.first()?))?;
     let last = problem.duties().get(usize::from(*positions.last()?))?;
     let name = problem.pairing(p).id.as_bytes();
-    Some(Row {
+    Some(TableRow {
         kind: b"pairing",
         name,
         pairing: name,
@@ -109,7 +109,7 @@ fn push_row(
     problem: &Problem,
     zones: &Zones,
     k: usize,
-    row: &Row<'_>,
+    row: &TableRow<'_>,
 ) -> Result<(), AllocError>
     requires { k < length problem.now.persons }
 {
@@ -192,7 +192,7 @@ fn push_leaves(
 {
     for leave in problem.leaves().iter() {
         if leave.person == k {
-            let row = Row {
+            let row = TableRow {
                 kind: b"leave",
                 name: b"",
                 pairing: b"",

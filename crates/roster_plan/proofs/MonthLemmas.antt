@@ -5,7 +5,7 @@ use Rattle.std.proofs.lemmas.Option.{get_or_from_slice_get}
 use Rattle.roster_model.specs.Problem.{Problem}
 use Rattle.roster_model.specs.Rosters.{Key}
 use Rattle.roster_plan.specs.declared.months.Month.{Month}
-use Rattle.roster_plan.specs.declared.parts.Part.{Part}
+use Rattle.roster_plan.specs.declared.parts.BasePlan.{BasePlan}
 use Rattle.roster_plan.specs.Months.{HasBound, IsMonth, IsMonthFrom}
 use Rattle.roster_plan.proofs.PlannedLemmas.{on_from, same_on}
 
@@ -31,11 +31,11 @@ pub month_of : (problem : Problem) (before : Key) (month : Month) → IsMonthFro
 month_of problem before month from = record { parts = from.parts; known = from.planned.known }
 
 -- the part that stands at a base says what bound is known of it
-pub has_bound : (base : ℕ) (bound : ℤ) (month : Month) (made : Part)
+pub has_bound : (base : ℕ) (bound : ℤ) (month : Month) (made : BasePlan)
     → slice_get month.parts.items base ≡ Some made
     → bound ≤ℤ made.bound → HasBound base bound month
 has_bound base bound month made stands least part at =
     let same : made ≡ part =
     sym (get_or_from_slice_get month.parts.items base made part stands)
     ∙ get_or_from_slice_get month.parts.items base part part at in
-    subst (λ (p : Part). bound ≤ℤ p.bound) same least
+    subst (λ (p : BasePlan). bound ≤ℤ p.bound) same least

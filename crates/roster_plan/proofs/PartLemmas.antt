@@ -23,7 +23,7 @@ use Rattle.roster_search_least.proofs.BoxLemmas.{all_open, every_base, least_of_
 use Rattle.roster_search_least.proofs.Keys.{no_dearer}
 use Rattle.roster_search_least.proofs.LeastParts.{merged_not_after}
 use Rattle.roster_search_least.proofs.Merges.{SharesAddUp, cost_of-merge, legal-merge, set_of-merge, set_of-merge_other}
-use Rattle.roster_plan.specs.declared.parts.Part.{Part}
+use Rattle.roster_plan.specs.declared.parts.BasePlan.{BasePlan}
 use Rattle.roster_plan.specs.Parts.{ArePartsOf, AreTogether, HasNoCrew, IsOf, IsPart}
 
 -- ---- rosters of one base
@@ -113,13 +113,13 @@ nobody_part problem base places key nobody all is =
 
 -- ---- lists of parts
 
-pub parts_push : (problem : Problem) (n : ℕ) (old new : List Part) (part : Part) → new ≡ old ++ part ∷ []
+pub parts_push : (problem : Problem) (n : ℕ) (old new : List BasePlan) (part : BasePlan) → new ≡ old ++ part ∷ []
     → ArePartsOf problem n old → IsPart problem n part → ArePartsOf problem (n + 1) new
 parts_push problem n old new part pushed are is =
     let next = each-next (IsPart problem) n old new part pushed are.covers are.each is in
     record { covers = next.0; each = next.1 }
 
-pub parts_set : (problem : Problem) (n base : ℕ) (old : List Part) (part : Part) → base < n
+pub parts_set : (problem : Problem) (n base : ℕ) (old : List BasePlan) (part : BasePlan) → base < n
     → ArePartsOf problem n old → IsPart problem base part → ArePartsOf problem n (slice_set old base part)
 parts_set problem n base old part below are is = record {
   covers = length-set old base part ∙ are.covers;
@@ -133,24 +133,24 @@ parts_set problem n base old part below are is = record {
             let put : part ≡ other =
             sym (get_or-set_at old base b part other same (omega (arith, below, are.covers))) ∙ found in
             subst (IsPart problem b) put (subst (λ i. IsPart problem i part) (sym same) is)
-        | inr away ↦ are.each b other (slice_get-get_or old b other inside ∙ ap (λ (p : Part). Some p) (sym (get_or-set_other old base b part other away) ∙ found))
+        | inr away ↦ are.each b other (slice_get-get_or old b other inside ∙ ap (λ (p : BasePlan). Some p) (sym (get_or-set_other old base b part other away) ∙ found))
       ];
 }
 
 -- the part that is put at a base stands there
-pub part_put : (n base : ℕ) (old : List Part) (part : Part) → base < n → length old ≡ n
+pub part_put : (n base : ℕ) (old : List BasePlan) (part : BasePlan) → base < n → length old ≡ n
     → slice_get (slice_set old base part) base ≡ Some part
 part_put n base old part below covers =
     slice_get-get_or (slice_set old base part) base part
     (omega (arith, below, covers, length-set old base part))
-    ∙ ap (λ (p : Part). Some p) (get_or-set_at old base base part part refl (omega (arith, below, covers)))
+    ∙ ap (λ (p : BasePlan). Some p) (get_or-set_at old base base part part refl (omega (arith, below, covers)))
 
 -- the part that stands at a base
-pub part_at : (problem : Problem) (n base : ℕ) (parts : List Part) (part : Part) → ArePartsOf problem n parts
+pub part_at : (problem : Problem) (n base : ℕ) (parts : List BasePlan) (part : BasePlan) → ArePartsOf problem n parts
     → base < n → part ≡ get_or parts base part → IsPart problem base part
 part_at problem n base parts part are below is =
     are.each base part
-    (slice_get-get_or parts base part (omega (arith, below, are.covers)) ∙ ap (λ (p : Part). Some p) (sym is))
+    (slice_get-get_or parts base part (omega (arith, below, are.covers)) ∙ ap (λ (p : BasePlan). Some p) (sym is))
 
 -- ---- one of two
 
@@ -213,7 +213,7 @@ both_true true b is = (refl, is)
 both_true false b is = absurd (both_ways _ refl is)
 
 pub next_together : SharesAddUp
-    → (problem : Problem) (base : ℕ) (part : Part) (old : List ℕ) (bound idle : ℤ) (is_best : Bool)
+    → (problem : Problem) (base : ℕ) (part : BasePlan) (old : List ℕ) (bound idle : ℤ) (is_best : Bool)
     → IsPart problem base part → AreTogether problem base old bound is_best
     → idle ≡ cost_of problem (all_open problem)
     → AreTogether problem (base + 1) (merge problem (λ b. eqb b base) part.roster.places old) (bound +ℤ (part.bound -ℤ idle)) (is_best && part.is_best)

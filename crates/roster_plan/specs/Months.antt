@@ -3,7 +3,7 @@ use Rattle.std.specs.Prelude.{◌≡◌, ℕ, Some, slice_get, ℤ, ◌≤ℤ◌
 use Rattle.roster_model.specs.Problem.{Problem}
 use Rattle.roster_model.specs.Rosters.{Key}
 use Rattle.roster_plan.specs.declared.months.Month.{Month}
-use Rattle.roster_plan.specs.declared.parts.Part.{Part}
+use Rattle.roster_plan.specs.declared.parts.BasePlan.{BasePlan}
 use Rattle.roster_plan.specs.Parts.{AreParts}
 use Rattle.roster_plan.specs.Planned.{IsKnown, IsPlannedFrom}
 
@@ -19,4 +19,4 @@ pub record IsMonthFrom (problem : Problem) (before : Key) (month : Month) : Type
 
 -- what is known of the base has that bound, or a greater one
 abbrev pub HasBound : ℕ → ℤ → Month → Type 0
-HasBound base bound month = (part : Part) → slice_get month.parts.items base ≡ Some part → bound ≤ℤ part.bound
+HasBound base bound month = (part : BasePlan) → slice_get month.parts.items base ≡ Some part → bound ≤ℤ part.bound

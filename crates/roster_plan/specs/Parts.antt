@@ -9,7 +9,7 @@ use Rattle.roster_model.specs.Settled.{IsHeld, IsNotAfter}
 use Rattle.roster_model.specs.records.Crew.{Person}
 use Rattle.roster_plan_bound.specs.Homes.{IsHome, IsHomeBound}
 use Rattle.roster_search_least.specs.Parts.{base_of_person, before}
-use Rattle.roster_plan.specs.declared.parts.Part.{Part}
+use Rattle.roster_plan.specs.declared.parts.BasePlan.{BasePlan}
 
 -- nobody is of the base
 abbrev pub HasNoCrew : Problem → ℕ → Type 0
@@ -18,19 +18,19 @@ HasNoCrew problem base =
 
 -- The roster is legal, and only persons of the base fly. None of those rosters costs less than the bound. If
 -- the roster is said to be the best one of the base, it isn't after any of them.
-pub record IsPart (problem : Problem) (base : ℕ) (part : Part) : Type 0 where
+pub record IsPart (problem : Problem) (base : ℕ) (part : BasePlan) : Type 0 where
   pub held : IsHeld problem part.roster
   pub home : IsHome problem base part.roster.places
   pub bounded : IsHomeBound problem base part.bound
   pub best : part.is_best ≡ true → IsNotAfter problem (IsHome problem base) part.roster
 
 -- so it is with each of the first bases
-pub record ArePartsOf (problem : Problem) (n : ℕ) (parts : List Part) : Type 0 where
+pub record ArePartsOf (problem : Problem) (n : ℕ) (parts : List BasePlan) : Type 0 where
   pub covers : length parts ≡ n
-  pub each : (base : ℕ) (part : Part) → slice_get parts base ≡ Some part → IsPart problem base part
+  pub each : (base : ℕ) (part : BasePlan) → slice_get parts base ≡ Some part → IsPart problem base part
 
 -- and with each base there may be
-abbrev pub AreParts : Problem → List Part → Type 0
+abbrev pub AreParts : Problem → List BasePlan → Type 0
 AreParts problem parts = ArePartsOf problem MOST_BASES parts
 
 -- only persons of those bases fly

@@ -11,8 +11,8 @@ ghost use Rattle.roster_plan.specs.Parts.{AreParts};
 use crate::exact::{Found, close};
 use crate::means::{MOST_EFFORT, Means};
 use crate::months::Month;
-use crate::parts::{Part, is_open};
-use crate::watching::{Step, Watcher};
+use crate::parts::{BasePlan, is_open};
+use crate::watching::{Phase, Watcher};
 use roster_cost::keys_are_in_order;
 use roster_lines::Pairs;
 use roster_model::limits::MOST_BASES;
@@ -81,7 +81,7 @@ fn gaps_of<'a, R: Threads + Sync>(
     alloc: Global,
     problem: &Problem,
     pricing: &'a Pricing<'a>,
-    parts: &[Part],
+    parts: &[BasePlan],
     workers: usize,
 ) -> Result<Vec<Gap<'a>>, AllocError>
     requires parts { AreParts problem.now parts.now }
@@ -218,7 +218,7 @@ fn with_bounds<W: Watcher>(
             return Err(AllocError);
         }
         let bound = gap.priced.bound();
-        month = month.raised(alloc, problem, gap.base, bound, Step::Prices, watcher)?;
+        month = month.raised(alloc, problem, gap.base, bound, Phase::Prices, watcher)?;
     }
     Ok(month)
 }
@@ -263,14 +263,14 @@ fn closed<W: Watcher>(
     for gap in gaps {
         let Gap { base, found, .. } = gap;
         let found = found?;
-        month = month.with_found(alloc, problem, base, &found, Step::Gap, watcher)?;
+        month = month.with_found(alloc, problem, base, &found, Phase::Gap, watcher)?;
     }
     Ok(month)
 }
 
 /// How often an effort looks at the prices of each base that isn't settled: more often the greater it is, if
 /// there is time for so many steps.
-fn looks_of(problem: &Problem, parts: &[Part], effort: u32) -> u32 {
+fn looks_of(problem: &Problem, parts: &[BasePlan], effort: u32) -> u32 {
     let effort = if effort < MOST_EFFORT {
         effort
     } else {
@@ -283,7 +283,7 @@ fn looks_of(problem: &Problem, parts: &[Part], effort: u32) -> u32 {
 
 /// How many steps a look takes, about: for each person of those bases and each pairing of the same base so
 /// many that may follow it before all do, and each state of flight.
-fn steps_of(problem: &Problem, parts: &[Part]) -> u64 {
+fn steps_of(problem: &Problem, parts: &[BasePlan]) -> u64 {
     let mut steps: u64 = 0;
     for person in problem.persons() {
         if is_open(parts, person.base) {

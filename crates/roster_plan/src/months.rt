@@ -12,8 +12,8 @@ ghost use Rattle.roster_plan.specs.Planned.{IsKnown, IsPlannedFrom};
 
 use crate::exact::Found;
 use crate::known::{Planned, first_plan};
-use crate::parts::{Part, joined, parts_of};
-use crate::watching::{Step, Watcher};
+use crate::parts::{BasePlan, joined, parts_of};
+use crate::watching::{Phase, Watcher};
 use roster_cost::{comes_before, keys_are_in_order};
 use roster_lines::Pairs;
 use roster_model::limits::MOST_BASES;
@@ -24,7 +24,7 @@ use std::alloc::{AllocError, Global};
 /// What is known of a month: of each base apart, and of all of it.
 #[derive(Drop)]
 pub(crate) struct Month {
-    pub(crate) parts: Vec<Part>,
+    pub(crate) parts: Vec<BasePlan>,
     pub(crate) planned: Planned,
 }
 
@@ -51,8 +51,8 @@ impl Month {
         alloc: Global,
         problem: &Problem,
         base: usize,
-        part: Part,
-        step: Step,
+        part: BasePlan,
+        step: Phase,
         watcher: &mut W,
     ) -> Result<Month, AllocError>
         requires month { IsMonth problem.now self }
@@ -75,7 +75,7 @@ impl Month {
         problem: &Problem,
         base: usize,
         bound: i64,
-        step: Step,
+        step: Phase,
         watcher: &mut W,
     ) -> Result<Month, AllocError>
         requires month { IsMonth problem.now self }
@@ -88,7 +88,7 @@ impl Month {
         if bound <= part.bound {
             return Ok(self);
         }
-        let part = Part {
+        let part = BasePlan {
             roster: part.roster.copy(alloc)?,
             bound,
             is_best: part.is_best,
@@ -103,7 +103,7 @@ impl Month {
         problem: &Problem,
         base: usize,
         found: &Roster,
-        step: Step,
+        step: Phase,
         watcher: &mut W,
     ) -> Result<Month, AllocError>
         requires month { IsMonth problem.now self }
@@ -113,7 +113,7 @@ impl Month {
         ensures { IfOk result (IsMonthFrom problem.now self.planned.roster) }
     {
         keys_are_in_order();
-        match Part::best(alloc, problem, base, found)? {
+        match BasePlan::best(alloc, problem, base, found)? {
             Some(part) => self.with(alloc, problem, base, part, step, watcher),
             None => Ok(self),
         }
@@ -126,7 +126,7 @@ impl Month {
         problem: &Problem,
         base: usize,
         found: &Found,
-        step: Step,
+        step: Phase,
         watcher: &mut W,
     ) -> Result<Month, AllocError>
         requires month { IsMonth problem.now self }
@@ -146,7 +146,7 @@ impl Month {
         alloc: Global,
         problem: &Problem,
         found: &Roster,
-        step: Step,
+        step: Phase,
         watcher: &mut W,
     ) -> Result<Month, AllocError>
         requires month { IsMonth problem.now self }
@@ -171,10 +171,10 @@ impl Month {
 fn told<W: Watcher>(
     alloc: Global,
     problem: &Problem,
-    parts: &[Part],
+    parts: &[BasePlan],
     known: Planned,
     base: Option<usize>,
-    step: Step,
+    step: Phase,
     watcher: &mut W,
 ) -> Result<Planned, AllocError>
     requires parts { AreParts problem.now parts.now }

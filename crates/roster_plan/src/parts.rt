@@ -28,7 +28,7 @@ use std::alloc::{AllocError, Global};
 
 /// What is known of a base: of the rosters in which only its persons fly.
 #[derive(Drop)]
-pub(crate) struct Part {
+pub(crate) struct BasePlan {
     /// Such a roster, which is legal, with its cost.
     pub(crate) roster: Roster,
     /// No legal one costs less, in cost units.
@@ -43,7 +43,7 @@ pub(crate) fn parts_of(
     problem: &Problem,
     pairs: &[Pairs],
     known: &Roster,
-) -> Result<Vec<Part>, AllocError>
+) -> Result<Vec<BasePlan>, AllocError>
     requires pairs { AreAllPairs problem.now pairs.now }
     requires known { IsHeld problem.now known.now }
     ensures { IfOk result (λ parts. AreParts problem.now parts.items) }
@@ -56,7 +56,7 @@ pub(crate) fn parts_of(
 }
 
 /// Whether the best roster of the base isn't known.
-pub(crate) fn is_open(parts: &[Part], base: usize) -> bool
+pub(crate) fn is_open(parts: &[BasePlan], base: usize) -> bool
     ensures { MatchOption (slice_get parts.now base) (result ≡ true) (λ part. result ≡ not part.is_best) }
 {
     match parts.get(base) {
@@ -66,7 +66,7 @@ pub(crate) fn is_open(parts: &[Part], base: usize) -> bool
 }
 
 /// Of each base, by its number, whether its best roster isn't known.
-pub(crate) fn open_bases(alloc: Global, parts: &[Part]) -> Result<Vec<bool>, AllocError> {
+pub(crate) fn open_bases(alloc: Global, parts: &[BasePlan]) -> Result<Vec<bool>, AllocError> {
     let mut open = Vec::new(alloc);
     for base in 0..parts.len() {
         open.push(is_open(parts, base))?;
@@ -81,7 +81,7 @@ fn first_part(
     pairs: &[Pairs],
     base: usize,
     known: &Roster,
-) -> Result<Part, AllocError>
+) -> Result<BasePlan, AllocError>
     requires pairs { AreAllPairs problem.now pairs.now }
     requires known { IsHeld problem.now known.now }
     ensures { IfOk result (IsPart problem.now base) }
@@ -89,7 +89,7 @@ fn first_part(
     if !has_crew(problem, base) {
         return part_of_nobody(alloc, problem, base);
     }
-    Ok(Part {
+    Ok(BasePlan {
         roster: roster_of(alloc, problem, base, known)?,
         bound: lower_bound(problem, pairs, base),
         is_best: false,
@@ -104,13 +104,13 @@ fn has_crew(problem: &Problem, base: usize) -> bool
 }
 
 /// The part of a base of which nobody is: its only roster leaves all open.
-fn part_of_nobody(alloc: Global, problem: &Problem, base: usize) -> Result<Part, AllocError>
+fn part_of_nobody(alloc: Global, problem: &Problem, base: usize) -> Result<BasePlan, AllocError>
     requires { HasNoCrew problem.now base }
     ensures { IfOk result (IsPart problem.now base) }
 {
     let roster = costed(problem, all_open(alloc, problem)?);
     let bound = roster.cost;
-    Ok(Part {
+    Ok(BasePlan {
         roster,
         bound,
         is_best: true,
@@ -136,7 +136,7 @@ fn roster_of(
     Ok(costed(problem, places))
 }
 
-impl Part {
+impl BasePlan {
     /// The part with what its base has of a known roster, if that comes before its own.
     pub(crate) fn renewed(
         &self,
@@ -144,7 +144,7 @@ impl Part {
         problem: &Problem,
         base: usize,
         known: &Roster,
-    ) -> Result<Part, AllocError>
+    ) -> Result<BasePlan, AllocError>
         requires part { IsPart problem.now base self.now }
         requires held { IsHeld problem.now known.now }
         ensures part { IfOk result (IsPart problem.now base) }
@@ -154,7 +154,7 @@ impl Part {
     {
         let own = roster_of(alloc, problem, base, known)?;
         let roster = earlier(own, self.roster.copy(alloc)?);
-        Ok(Part {
+        Ok(BasePlan {
             roster,
             bound: self.bound,
             is_best: self.is_best,
@@ -168,7 +168,7 @@ impl Part {
         problem: &Problem,
         base: usize,
         found: &Roster,
-    ) -> Result<Option<Part>, AllocError>
+    ) -> Result<Option<BasePlan>, AllocError>
         requires held { IsHeld problem.now found.now }
         requires best { IsNotAfter problem.now (IsHome problem.now base) found.now }
         ensures part { IfOk result (λ part. IfSome part (IsPart problem.now base)) }
@@ -179,7 +179,7 @@ impl Part {
             return Ok(None);
         }
         let bound = own.cost;
-        Ok(Some(Part {
+        Ok(Some(BasePlan {
             roster: own,
             bound,
             is_best: true,
@@ -191,7 +191,7 @@ impl Part {
 pub(crate) fn joined(
     alloc: Global,
     problem: &Problem,
-    parts: &[Part],
+    parts: &[BasePlan],
     known: Planned,
 ) -> Result<Planned, AllocError>
     requires parts { AreParts problem.now parts.now }
@@ -222,7 +222,7 @@ fn greater(problem: &Problem, first: i64, second: i64) -> i64
 }
 
 /// The plan that the parts make: a month costs as much more than no pairings at all as its bases do together.
-fn assembled(alloc: Global, problem: &Problem, parts: &[Part]) -> Result<Planned, AllocError>
+fn assembled(alloc: Global, problem: &Problem, parts: &[BasePlan]) -> Result<Planned, AllocError>
     requires { AreParts problem.now parts.now }
     ensures known { IfOk result (IsKnown problem.now) }
     ensures best { IfOk result

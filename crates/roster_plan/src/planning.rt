@@ -14,7 +14,7 @@ use crate::means::Means;
 use crate::months::Month;
 use crate::runs::improved_by_runs;
 use crate::together::improved_nearby;
-use crate::watching::{Step, Watcher};
+use crate::watching::{Phase, Watcher};
 use crate::whole::searched;
 use roster_cost::keys_are_in_order;
 use roster_lines::{Pairs, all_pairs};
@@ -83,7 +83,7 @@ fn planned_from<R: Threads + Sync, W: Watcher>(
     keys_are_in_order();
     let pairs = all_pairs(rt, alloc, problem, means.workers)?;
     let start = Month::of(alloc, problem, &pairs, known)?;
-    watcher.tell(problem, None, Step::Start, &start.planned);
+    watcher.tell(problem, None, Phase::Start, &start.planned);
     let sought = searched(rt, alloc, problem, &pairs, start, means, watcher)?;
     if sought.planned.is_best {
         return Ok(sought.planned);
@@ -121,5 +121,5 @@ fn tried<R: Threads + Sync, W: Watcher>(
         means,
         watcher,
     )?;
-    month.renewed(alloc, problem, &near.roster, Step::Neighbourhoods, watcher)
+    month.renewed(alloc, problem, &near.roster, Phase::Neighbourhoods, watcher)
 }

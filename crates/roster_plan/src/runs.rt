@@ -10,7 +10,7 @@ use crate::known::{costed, places_of};
 use crate::means::{MOST_EFFORT, Means};
 use crate::months::Month;
 use crate::parts::open_bases;
-use crate::watching::{Step, Watcher};
+use crate::watching::{Phase, Watcher};
 use roster_plan_moves::improved_by_changes;
 use roster_problem::Problem;
 use roster_values::Roster;
@@ -86,7 +86,7 @@ fn with_runs<W: Watcher>(
     let mut month = start;
     for run in runs {
         let found = roster_of(problem, run)?;
-        month = month.renewed(alloc, problem, &found, Step::Changes, watcher)?;
+        month = month.renewed(alloc, problem, &found, Phase::Changes, watcher)?;
     }
     Ok(month)
 }

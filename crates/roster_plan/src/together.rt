@@ -11,8 +11,8 @@ use crate::kept::kept;
 use crate::known::{Planned, costed, earlier, places_of, so_far};
 use crate::means::{MOST_EFFORT, Means};
 use crate::nearby::{Nearby, search_nearby};
-use crate::parts::{Part, open_bases};
-use crate::watching::{Step, Watcher};
+use crate::parts::{BasePlan, open_bases};
+use crate::watching::{Phase, Watcher};
 use roster_cost::{comes_before, keys_are_in_order};
 use roster_lines::Pairs;
 use roster_plan_moves::{Neighbourhood, Neighbourhoods};
@@ -46,7 +46,7 @@ pub(crate) fn improved_nearby<R: Threads + Sync, W: Watcher>(
     alloc: Global,
     problem: &Problem,
     pairs: &[Pairs],
-    parts: &[Part],
+    parts: &[BasePlan],
     start: Planned,
     means: &Means,
     watcher: &mut W,
@@ -85,7 +85,7 @@ fn rounds_of(effort: u32) -> u32 {
 fn neighbourhoods_of(
     alloc: Global,
     problem: &Problem,
-    parts: &[Part],
+    parts: &[BasePlan],
 ) -> Result<Neighbourhoods, AllocError> {
     let sought = open_bases(alloc, parts)?;
     Neighbourhoods::new(alloc, problem, &sought)
@@ -206,7 +206,7 @@ fn with_new<W: Watcher>(
     let is_new = comes_before(&roster, &known);
     let planned = so_far(problem, roster, bound);
     if is_new {
-        watcher.tell(problem, None, Step::Neighbourhoods, &planned);
+        watcher.tell(problem, None, Phase::Neighbourhoods, &planned);
     }
     Ok(planned)
 }

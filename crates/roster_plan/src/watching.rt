@@ -10,7 +10,7 @@ use std::fmt::{Display, Formatter};
 
 /// A step of a plan.
 #[derive(Clone, Copy, PartialEq, Eq)]
-pub enum Step {
+pub enum Phase {
     /// What is legal of the given roster was kept.
     Start,
     /// All legal sets of a base were searched.
@@ -25,15 +25,15 @@ pub enum Step {
     Gap,
 }
 
-impl Display for Step {
+impl Display for Phase {
     fn fmt<W: fmt::Write>(&self, f: &mut Formatter<W>) -> fmt::Result {
         f.write_str(match self {
-            Step::Start => "start",
-            Step::Sets => "sets",
-            Step::Changes => "changes",
-            Step::Neighbourhoods => "neighbourhoods",
-            Step::Prices => "prices",
-            Step::Gap => "gap",
+            Phase::Start => "start",
+            Phase::Sets => "sets",
+            Phase::Changes => "changes",
+            Phase::Neighbourhoods => "neighbourhoods",
+            Phase::Prices => "prices",
+            Phase::Gap => "gap",
         })
     }
 }
@@ -42,7 +42,7 @@ impl Display for Step {
 pub trait Watcher {
     /// Tells what is known, by which step: the plan would be this one if it ended here. It is told each
     /// time that it is another one, and so the last one too. A step of a single base tells its place.
-    fn tell(&mut self, problem: &Problem, base: Option<usize>, step: Step, planned: &Planned)
+    fn tell(&mut self, problem: &Problem, base: Option<usize>, step: Phase, planned: &Planned)
         requires { IsKnown problem.now planned.now };
 
     /// Tells a pairing that the given roster gives to somebody and that isn't kept: the one at place `p`,
@@ -57,7 +57,13 @@ pub trait Watcher {
 pub struct Unwatched;
 
 impl Watcher for Unwatched {
-    fn tell(&mut self, _problem: &Problem, _base: Option<usize>, _step: Step, _planned: &Planned) {}
+    fn tell(
+        &mut self,
+        _problem: &Problem,
+        _base: Option<usize>,
+        _step: Phase,
+        _planned: &Planned,
+    ) {}
 
     fn leave_out(&mut self, _problem: &Problem, _p: usize, _k: usize) {}
 }

@@ -15,8 +15,8 @@ use crate::exact::Found;
 use crate::means::Means;
 use crate::months::Month;
 use crate::nearby::{Nearby, search_base};
-use crate::parts::{Part, is_open};
-use crate::watching::{Step, Watcher};
+use crate::parts::{BasePlan, is_open};
+use crate::watching::{Phase, Watcher};
 use roster_cost::keys_are_in_order;
 use roster_lines::Pairs;
 use roster_model::limits::MOST_BASES;
@@ -55,7 +55,7 @@ pub(crate) fn searched<R: Threads + Sync, W: Watcher>(
 }
 
 /// The bases whose best roster isn't known, not yet searched.
-fn wholes_of(alloc: Global, parts: &[Part]) -> Result<Vec<Whole>, AllocError>
+fn wholes_of(alloc: Global, parts: &[BasePlan]) -> Result<Vec<Whole>, AllocError>
     ensures { IfOk result (λ wholes. (problem : Problem) → AreWholes problem wholes.items) }
 {
     let mut wholes = Vec::new(alloc);
@@ -76,7 +76,7 @@ fn search_all<R: Threads + Sync>(
     alloc: Global,
     problem: &Problem,
     pairs: &[Pairs],
-    parts: &[Part],
+    parts: &[BasePlan],
     means: &Means,
     wholes: &mut [Whole],
 )
@@ -101,7 +101,7 @@ fn best_of(
     alloc: Global,
     problem: &Problem,
     pairs: &[Pairs],
-    parts: &[Part],
+    parts: &[BasePlan],
     base: usize,
     means: &Means,
 ) -> Result<Option<Found>, AllocError>
@@ -164,7 +164,7 @@ fn with_whole<W: Watcher>(
     keys_are_in_order();
     let Whole { base, found } = whole;
     match found? {
-        Some(best) => start.with_found(alloc, problem, base, &best, Step::Sets, watcher),
+        Some(best) => start.with_found(alloc, problem, base, &best, Phase::Sets, watcher),
         None => Ok(start),
     }
 }

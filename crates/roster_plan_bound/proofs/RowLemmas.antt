@@ -13,7 +13,7 @@ use Rattle.roster_model.proofs.SetLemmas.{is_among-here}
 use Rattle.roster_model.proofs.PushLemmas.{each-push}
 use Rattle.roster_cost.specs.Amounts.{IsWithin}
 use Rattle.roster_plan_bound.specs.declared.network.Network.{Network}
-use Rattle.roster_plan_bound.specs.declared.parts.TheConstants.{MOST_LEAST, MOST_TERM, MOST_VALUE}
+use Rattle.roster_plan_bound.specs.declared.parts.TheConstants.{MOST_LEAST, MOST_TARGET_TERM, MOST_CHAIN_VALUE}
 use Rattle.roster_plan_bound.specs.Chains.{chain_value, followers_of, next_state, value_at, IsBehind, IsChain, IsRow, IsTail}
 use Rattle.roster_plan_bound.specs.Networks.{AreRows, AreTails, IsNetwork}
 use Rattle.roster_plan_bound.proofs.ChainLemmas.{chain-cons, chain-nil, is_among-more, next_inside, single_among, IsChain-cons, IsChain-nil}
@@ -50,30 +50,30 @@ unfolding IsChain
 chain_first followers first p rest chain = chain
 
 -- a value as a word has it
-value_told : (values : List ℤ) (p : ℕ) → All (IsWithin MOST_VALUE) values → p < length values
+value_told : (values : List ℤ) (p : ℕ) → All (IsWithin MOST_CHAIN_VALUE) values → p < length values
     → to_z w64 (of_z w64 (value_at values p)) ≡ value_at values p
 value_told values p within inside =
-    let here : IsWithin MOST_VALUE (value_at values p) = within p (pos 0) inside in
+    let here : IsWithin MOST_CHAIN_VALUE (value_at values p) = within p (pos 0) inside in
     let fits : FitsSigned w64 (value_at values p) = search rules in
     to_z-of_z w64 (value_at values p) fits
 
-pub value_within : (values : List ℤ) (p : ℕ) → All (IsWithin MOST_VALUE) values → p < length values
-    → IsWithin MOST_VALUE (to_z w64 (of_z w64 (value_at values p)))
+pub value_within : (values : List ℤ) (p : ℕ) → All (IsWithin MOST_CHAIN_VALUE) values → p < length values
+    → IsWithin MOST_CHAIN_VALUE (to_z w64 (of_z w64 (value_at values p)))
 value_within values p within inside =
-    subst (IsWithin MOST_VALUE) (sym (value_told values p within inside)) (within p (pos 0) inside)
+    subst (IsWithin MOST_CHAIN_VALUE) (sym (value_told values p within inside)) (within p (pos 0) inside)
 
 -- amounts of a row are small
 pub row_small : (problem : Problem) (network : Network) (values : List ℤ) (rows : List (List ℤ)) (i : ℕ)
     (row : List ℤ) → AreRows problem network values rows → length problem.pairings ≤ MOST_PAIRINGS
     → i < length rows → row ≡ get_or rows i row → All (IsWithin MOST_LEAST) row
 row_small problem network values rows i row are few inside is =
-    let most : ℕ = MOST_TERM + length rows * MOST_VALUE in
+    let most : ℕ = MOST_TARGET_TERM + length rows * MOST_CHAIN_VALUE in
     subst (All (IsWithin MOST_LEAST)) (sym is)
     (All-within-more most MOST_LEAST (get_or rows i row) (omega (arith, few, are.few)) (are.within i row inside))
 
 -- what a row is lowered to by a pairing, in the words of the network
 pub lowered : (values after row : List ℤ) (steps : List ℕ) (long states f p step : ℕ)
-    → All (IsWithin MOST_VALUE) values → p < length values → p < length steps
+    → All (IsWithin MOST_CHAIN_VALUE) values → p < length values → p < length steps
     → step ≡ get_or steps p step → long ≡ states
     → value_at row f ≤ℤ (to_z w64 (of_z w64 (value_at values p)) +ℤ value_at after (next_state long f step))
     → value_at row f ≤ℤ (value_at values p +ℤ value_at after (next_state states f (get_or steps p 0)))
@@ -181,18 +181,18 @@ IsTailOf problem network values i tail =
 pub tails_more : (problem : Problem) (network : Network) (values : List ℤ) (old new : List (List ℤ))
     (tail : List ℤ)
     → AreTails problem network values old → new ≡ old ++ tail ∷ [] → (length old ≤ length problem.pairings → IsTail network values (length problem.pairings - length old) tail)
-    → All (IsWithin (MOST_TERM + (length old + 1) * MOST_VALUE)) tail → AreTails problem network values new
+    → All (IsWithin (MOST_TARGET_TERM + (length old + 1) * MOST_CHAIN_VALUE)) tail → AreTails problem network values new
 unfolding IsTailOf
 tails_more problem network values old new tail are pushed is within =
     let count : length (old ++ tail ∷ []) ≡ length old + 1 = length_push old tail in
     let each = each-push (IsTailOf problem network values) old tail (λ i t at l. are.each i t l at) is in
-    let most : ℕ = MOST_TERM + length (old ++ tail ∷ []) * MOST_VALUE in
-    let here : MOST_TERM + (length old + 1) * MOST_VALUE ≤ most = omega (arith, count) in
-    let before : MOST_TERM + length old * MOST_VALUE ≤ most = omega (arith, count) in
+    let most : ℕ = MOST_TARGET_TERM + length (old ++ tail ∷ []) * MOST_CHAIN_VALUE in
+    let here : MOST_TARGET_TERM + (length old + 1) * MOST_CHAIN_VALUE ≤ most = omega (arith, count) in
+    let before : MOST_TARGET_TERM + length old * MOST_CHAIN_VALUE ≤ most = omega (arith, count) in
     subst (AreTails problem network values) (sym pushed) (record {
       each = λ i t l at. each i t at l;
       within = All-push (λ t. All (IsWithin most) t) old tail
-          (All-weaker (λ t. All (IsWithin (MOST_TERM + length old * MOST_VALUE)) t) (λ t. All (IsWithin most) t) (λ t w. All-within-more _ most t before w) old are.within)
+          (All-weaker (λ t. All (IsWithin (MOST_TARGET_TERM + length old * MOST_CHAIN_VALUE)) t) (λ t. All (IsWithin most) t) (λ t w. All-within-more _ most t before w) old are.within)
           (All-within-more _ most tail here within);
     })
 
@@ -201,7 +201,7 @@ pub tails_none : (problem : Problem) (network : Network) (values : List ℤ)
     → AreTails problem network values []
 tails_none problem network values = record {
   each = λ i tail l at. absurd (let inside = slice_get_within [] i tail at in omega arith);
-  within = All-nil (λ t. All (IsWithin (MOST_TERM + 0 * MOST_VALUE)) t);
+  within = All-nil (λ t. All (IsWithin (MOST_TARGET_TERM + 0 * MOST_CHAIN_VALUE)) t);
 }
 
 -- ---- rows
@@ -260,7 +260,7 @@ pub rows_more : (problem : Problem) (network : Network) (values : List ℤ) (old
     → AreRows problem network values old → new ≡ old ++ row ∷ [] → p < length problem.pairings
     → length old ≡ length problem.pairings - 1 - p
     → IsRow network values (followers_of network.followers.items p) row
-    → All (IsWithin (MOST_TERM + (length old + 1) * MOST_VALUE)) row
+    → All (IsWithin (MOST_TARGET_TERM + (length old + 1) * MOST_CHAIN_VALUE)) row
     → AreRows problem network values new
 unfolding IsRowOf
 rows_more problem network values old new row p are pushed inside long is within =
@@ -268,14 +268,14 @@ rows_more problem network values old new row p are pushed inside long is within 
     let each = each-push (IsRowOf problem network values) old row
     (λ i r at q below place. are.each q r below (subst (λ j. slice_get old j ≡ Some r) (sym place) at))
     (λ q below place. subst (λ j. IsRow network values (followers_of network.followers.items j) row) (same_place p q (length problem.pairings) (length old) inside below long place) is) in
-    let most : ℕ = MOST_TERM + length (old ++ row ∷ []) * MOST_VALUE in
-    let here : MOST_TERM + (length old + 1) * MOST_VALUE ≤ most = omega (arith, count) in
-    let before : MOST_TERM + length old * MOST_VALUE ≤ most = omega (arith, count) in
+    let most : ℕ = MOST_TARGET_TERM + length (old ++ row ∷ []) * MOST_CHAIN_VALUE in
+    let here : MOST_TARGET_TERM + (length old + 1) * MOST_CHAIN_VALUE ≤ most = omega (arith, count) in
+    let before : MOST_TARGET_TERM + length old * MOST_CHAIN_VALUE ≤ most = omega (arith, count) in
     subst (AreRows problem network values) (sym pushed) (record {
       few = omega (arith, are.few, count, inside, long);
       each = λ q r below at. each (length problem.pairings - 1 - q) r at q below refl;
       within = All-push (λ r. All (IsWithin most) r) old row
-          (All-weaker (λ r. All (IsWithin (MOST_TERM + length old * MOST_VALUE)) r) (λ r. All (IsWithin most) r) (λ r w. All-within-more _ most r before w) old are.within)
+          (All-weaker (λ r. All (IsWithin (MOST_TARGET_TERM + length old * MOST_CHAIN_VALUE)) r) (λ r. All (IsWithin most) r) (λ r w. All-within-more _ most r before w) old are.within)
           (All-within-more _ most row here within);
     })
   where
@@ -287,7 +287,7 @@ pub rows_none : (problem : Problem) (network : Network) (values : List ℤ) → 
 rows_none problem network values = record {
   few = omega arith;
   each = λ q row below at. absurd (none_at (length problem.pairings - 1 - q) row at);
-  within = All-nil (λ r. All (IsWithin (MOST_TERM + 0 * MOST_VALUE)) r);
+  within = All-nil (λ r. All (IsWithin (MOST_TARGET_TERM + 0 * MOST_CHAIN_VALUE)) r);
 }
   where
     none_at : (i : ℕ) (row : List ℤ) → slice_get [] i ≡ Some row → ⊥

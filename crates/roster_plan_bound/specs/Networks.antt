@@ -6,7 +6,7 @@ use Rattle.roster_cost.specs.Amounts.{IsWithin, minutes_of_pairing}
 use Rattle.roster_lines.specs.declared.pairs.Pairs.{Pairs}
 use Rattle.roster_lines.specs.Listing.{AreAllPairs, AreAlone, IsRow as AreFollowers}
 use Rattle.roster_plan_bound.specs.declared.network.Network.{Network}
-use Rattle.roster_plan_bound.specs.declared.parts.TheConstants.{MOST_TERM, MOST_VALUE, PARTS}
+use Rattle.roster_plan_bound.specs.declared.parts.TheConstants.{MOST_TARGET_TERM, MOST_CHAIN_VALUE, PARTS}
 use Rattle.roster_plan_bound.specs.Chains.{followers_of, next_state, value_at, IsRow, IsTail}
 use Rattle.roster_plan_bound.specs.Reduced.{price_at}
 
@@ -37,14 +37,14 @@ pub record IsNetwork (problem : Problem) (k : ℕ) (network : Network) : Type 0 
   pub steps : AreSteps problem k step network.steps.items
   pub terms : AreTerms problem k step network.terms.items
   pub some : 0 < length network.terms.items
-  pub within : All (IsWithin MOST_TERM) network.terms.items
+  pub within : All (IsWithin MOST_TARGET_TERM) network.terms.items
 
 -- what each pairing brings
 pub record AreValues (problem : Problem) (prices : List ℤ) (k : ℕ) (values : List ℤ) : Type 0 where
   pub covers : length values ≡ length problem.pairings
   pub each : (p : ℕ) → p < length problem.pairings
       → value_at values p ≡ (pos PARTS *ℤ units_of problem k p) -ℤ price_at prices p
-  pub within : All (IsWithin MOST_VALUE) values
+  pub within : All (IsWithin MOST_CHAIN_VALUE) values
 
 -- the rows of the problem's last pairings, that of the last one first: for each the chains of those that may
 -- follow it
@@ -54,14 +54,14 @@ pub record AreRows (problem : Problem) (network : Network) (values : List ℤ)
   pub each : (p : ℕ) (row : List ℤ) → p < length problem.pairings
       → slice_get rows (length problem.pairings - 1 - p) ≡ Some row
       → IsRow network values (followers_of network.followers.items p) row
-  pub within : All (λ row. All (IsWithin (MOST_TERM + length rows * MOST_VALUE)) row) rows
+  pub within : All (λ row. All (IsWithin (MOST_TARGET_TERM + length rows * MOST_CHAIN_VALUE)) row) rows
 
 -- the tails, the shortest one first, which is that behind the problem's last pairing
 pub record AreTails (problem : Problem) (network : Network) (values : List ℤ)
     (tails : List (List ℤ)) : Type 0 where
   pub each : (i : ℕ) (tail : List ℤ) → i ≤ length problem.pairings → slice_get tails i ≡ Some tail
       → IsTail network values (length problem.pairings - i) tail
-  pub within : All (λ tail. All (IsWithin (MOST_TERM + length tails * MOST_VALUE)) tail) tails
+  pub within : All (λ tail. All (IsWithin (MOST_TARGET_TERM + length tails * MOST_CHAIN_VALUE)) tail) tails
 
 -- the rows of so many of the last pairings, and the tails, which are one more
 pub record AreSoFar (problem : Problem) (network : Network) (values : List ℤ)

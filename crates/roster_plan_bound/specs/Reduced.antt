@@ -8,7 +8,7 @@ use Rattle.roster_model.specs.Places.{open_number, set_of}
 use Rattle.roster_model.specs.Problem.{Problem}
 use Rattle.roster_cost.specs.Amounts.{IsWithin}
 use Rattle.roster_cost.specs.Priced.{penalties_and_prices}
-use Rattle.roster_plan_bound.specs.declared.parts.TheConstants.{MOST_LEAST, MOST_PRICE, PARTS}
+use Rattle.roster_plan_bound.specs.declared.parts.TheConstants.{MOST_LEAST, MOST_PLAN_PRICE, PARTS}
 
 -- the price of the pairing at place p, or nothing past the last
 abbrev pub price_at : List ℤ → ℕ → ℤ
@@ -17,7 +17,7 @@ price_at prices p = slice_index_or prices p (pos 0)
 -- one price for each pairing, none beyond the limit
 pub record ArePrices (problem : Problem) (prices : List ℤ) : Type 0 where
   pub covers : length prices ≡ length problem.pairings
-  pub within : All (IsWithin MOST_PRICE) prices
+  pub within : All (IsWithin MOST_PLAN_PRICE) prices
 
 -- what a set of person k costs more than the empty one, less the prices of its pairings
 abbrev pub reduced : Problem → List ℤ → ℕ → List ℕ → ℤ

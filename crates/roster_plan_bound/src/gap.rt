@@ -15,9 +15,9 @@ ghost use Rattle.roster_plan_bound.specs.Networks.{AreRows, IsNetwork};
 ghost use Rattle.roster_plan_bound.specs.Reduced.{ArePrices};
 
 use crate::network::Network;
-use crate::parts::{MOST_LEAST, MOST_VALUE, PARTS};
+use crate::parts::{MOST_CHAIN_VALUE, MOST_LEAST, PARTS};
 use crate::pricing::{Pricing, values_of};
-use crate::rows::{Row, led, next_state, rows_of};
+use crate::rows::{ChainRow, led, next_state, rows_of};
 use roster_cumulative::flight_of_set;
 use roster_legal::part_of_legal_is_legal;
 use roster_lines::{Between, LinesFault, TableFault, Wanted, lines_of_pairs};
@@ -111,7 +111,7 @@ pub(crate) struct Cheap<'a> {
     network: &'a Network,
     prices: &'a [i64],
     values: Vec<i64>,
-    rows: Vec<Row>,
+    rows: Vec<ChainRow>,
     most: i64,
 }
 
@@ -163,7 +163,7 @@ impl<'a> Cheap<'a> {
         network: &'a Network,
         prices: &'a [i64],
         values: Vec<i64>,
-        rows: Vec<Row>,
+        rows: Vec<ChainRow>,
         most: i64,
     ) -> Cheap<'a>
         requires { IsTabled problem.now k prices.now network.now values.items rows.items }
@@ -236,13 +236,13 @@ fn least_behind(
     k: usize,
     network: &Network,
     values: &[i64],
-    rows: &[Row],
+    rows: &[ChainRow],
     set: &Set,
     p: usize,
 ) -> i64
     requires network { IsNetwork problem.now k network.now }
     requires covers { length values.now ≡ length problem.now.pairings }
-    requires values { All (IsWithin MOST_VALUE) values.now }
+    requires values { All (IsWithin MOST_CHAIN_VALUE) values.now }
     requires rows { AreRows problem.now network.now values.now rows.now }
     requires all { length rows.now ≡ length problem.now.pairings }
     requires set { All (λ q. q < length problem.now.pairings) set.now }
@@ -260,9 +260,9 @@ fn along(network: &Network, values: &[i64], set: &Set) -> (i64, usize)
     requires some { 0 < length network.now.terms.items }
     requires steps { All (λ p. p < length network.now.steps.items) set.now }
     requires covers { All (λ p. p < length values.now) set.now }
-    requires values { All (IsWithin MOST_VALUE) values.now }
+    requires values { All (IsWithin MOST_CHAIN_VALUE) values.now }
     ensures along { IsAlong network.now values.now set.now result.0 result.1 }
-    ensures within { IsWithin (MOST_PAIRINGS * MOST_VALUE) result.0 }
+    ensures within { IsWithin (MOST_PAIRINGS * MOST_CHAIN_VALUE) result.0 }
 {
     let mut value = 0;
     let mut state = 0;

@@ -3,7 +3,7 @@
 use crate::columns::Columns;
 use crate::lists::amount_at;
 use crate::network::Network;
-use crate::rows::Row;
+use crate::rows::ChainRow;
 use crate::tuning::{FEWEST_COLUMNS, LEAST_REACH, MOST_COLUMNS, MOST_REACH, MOST_TRIES};
 use roster_values::Set;
 use std::alloc::{AllocError, Global};
@@ -14,7 +14,7 @@ struct Known<'a> {
     network: &'a Network,
     prices: &'a [i64],
     values: &'a [i64],
-    rows: &'a [Row],
+    rows: &'a [ChainRow],
     least: i64,
 }
 
@@ -36,7 +36,7 @@ pub(crate) fn renew_at(
     network: &Network,
     prices: &[i64],
     values: &[i64],
-    rows: &[Row],
+    rows: &[ChainRow],
     least: i64,
     columns: &mut Columns,
 ) -> Result<(), AllocError> {

@@ -4,13 +4,13 @@
 pub const PARTS: u64 = 64;
 
 /// A price, at most, and below 0, in parts of a cost unit.
-pub(crate) const MOST_PRICE: u64 = 1 << 38;
+pub(crate) const MOST_PLAN_PRICE: u64 = 1 << 38;
 
 /// What a pairing brings to a chain, at most, and below 0: its units, less its price.
-pub(crate) const MOST_VALUE: u64 = 1 << 39;
+pub(crate) const MOST_CHAIN_VALUE: u64 = 1 << 39;
 
 /// What a state of flight brings at the end of a chain, at most, and below 0.
-pub(crate) const MOST_TERM: u64 = 1 << 53;
+pub(crate) const MOST_TARGET_TERM: u64 = 1 << 53;
 
 /// The least reduced cost of a person, at most, and below 0: a term, and the values of all pairings.
 pub(crate) const MOST_LEAST: u64 = 1 << 54;

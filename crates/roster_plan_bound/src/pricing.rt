@@ -15,9 +15,9 @@ use crate::columns::Columns;
 use crate::gap::Cheap;
 use crate::listing::renew_at;
 use crate::network::{Network, network_of};
-use crate::parts::{MOST_LEAST, MOST_PRICE, MOST_SUM, MOST_VALUE, PARTS};
+use crate::parts::{MOST_CHAIN_VALUE, MOST_LEAST, MOST_PLAN_PRICE, MOST_SUM, PARTS};
 use crate::persons::{Seen, look_at_all};
-use crate::rows::{Row, end_of_all, row_behind, rows_of};
+use crate::rows::{ChainRow, end_of_all, row_behind, rows_of};
 use crate::sets::least_set;
 use roster_cost::{cost_without_pairings, priced_shares_add_up, shares_add_up};
 use roster_cumulative::flight_of_set;
@@ -31,7 +31,7 @@ use std::thread::Threads;
 
 /// What prices say of the rosters of a base: those in which nobody else flies.
 #[derive(Drop)]
-pub(crate) struct Look {
+pub(crate) struct Priced {
     /// No legal roster of the base costs less, in cost units.
     pub(crate) bound: i64,
     /// The same in parts of a cost unit, above what it costs that nobody has a pairing.
@@ -106,7 +106,7 @@ impl<'a> Pricing<'a> {
         persons: &[usize],
         prices: &[i64],
         seen: &mut [Seen],
-    ) -> Result<Look, AllocError>
+    ) -> Result<Priced, AllocError>
         requires threads { 0 < threads }
         requires persons { ArePersonsOf self.now base persons.now }
         requires prices { ArePrices self.now prices.now }
@@ -121,7 +121,7 @@ impl<'a> Pricing<'a> {
         let terms = sum_of_terms(self.problem, base, prices);
         let parts = leasts.sum + terms;
         let bound = cost_without_pairings(self.problem) + in_units(parts);
-        Ok(Look {
+        Ok(Priced {
             bound,
             parts,
             leasts: leasts.each,
@@ -244,7 +244,7 @@ fn least_chain(
     network: &Network,
     prices: &[i64],
     values: &[i64],
-    rows: &[Row],
+    rows: &[ChainRow],
 ) -> Result<i64, AllocError>
     requires person { k < length problem.now.persons }
     requires network { IsNetwork problem.now k network.now }
@@ -292,9 +292,9 @@ pub(crate) fn values_of(
 
 /// The units of a pairing with person `k`, less its price.
 fn value_of(problem: &Problem, k: usize, p: usize, price: i64) -> i64
-    requires { IsWithin MOST_PRICE price }
+    requires { IsWithin MOST_PLAN_PRICE price }
     ensures value { result ≡ (pos PARTS *ℤ units_of problem.now k p) -ℤ price }
-    ensures within { IsWithin MOST_VALUE result }
+    ensures within { IsWithin MOST_CHAIN_VALUE result }
 {
     PARTS as i64 * problem.units(k, p) - price
 }
@@ -304,7 +304,7 @@ fn sum_of_terms(problem: &Problem, base: usize, prices: &[i64]) -> i64
     requires { ArePrices problem.now prices.now }
     ensures least { EachHomeRoster problem.now base (λ places.
         result ≤ℤ shares_behind problem.now prices.now 0 places) }
-    ensures within { IsWithin (MOST_PAIRINGS * MOST_PRICE) result }
+    ensures within { IsWithin (MOST_PAIRINGS * MOST_PLAN_PRICE) result }
 {
     problem.is_sound();
     let count = problem.pairings().len();
@@ -318,11 +318,11 @@ fn sum_of_terms(problem: &Problem, base: usize, prices: &[i64]) -> i64
 /// The lesser of a pairing's price and penalty. One of another base is open: its penalty.
 fn term_of(problem: &Problem, base: usize, p: usize, price: i64) -> i64
     requires pairing { p < length problem.now.pairings }
-    requires price { IsWithin MOST_PRICE price }
+    requires price { IsWithin MOST_PLAN_PRICE price }
     ensures term { IsTermOf problem.now base p price result }
     ensures one { (pairing : Pairing) → slice_get problem.now.pairings p ≡ Some pairing
         → (result ≡ price) ⊎ (result ≡ pos (PARTS * pairing.penalty)) }
-    ensures within { IsWithin MOST_PRICE result }
+    ensures within { IsWithin MOST_PLAN_PRICE result }
 {
     problem.is_sound();
     let pairing = problem.pairing(p);

@@ -11,9 +11,9 @@ ghost use Rattle.roster_plan_bound.specs.Reduced.{ArePrices};
 use crate::gap::lines_of_gap;
 use crate::lists::amount_at;
 use crate::master::{Covered, ascend};
-use crate::parts::{MOST_PRICE, PARTS};
+use crate::parts::{MOST_PLAN_PRICE, PARTS};
 use crate::persons::{Seen, persons_of, unseen};
-use crate::pricing::{Look, Pricing};
+use crate::pricing::{Priced, Pricing};
 use crate::sets::turn_to_sets;
 use crate::tuning::{FIRST_STRIDE, LEAST_STRIDE, MOST_IDLE, MOST_STRIDE};
 use roster_lines::TableFault;
@@ -257,7 +257,7 @@ impl<'a> PricedBound<'a> {
     }
 
     /// Takes the prices if the look at them says more.
-    fn take(&mut self, prices: Vec<i64>, look: Look)
+    fn take(&mut self, prices: Vec<i64>, look: Priced)
         requires prices { ArePrices self.old.problem prices.items }
         requires look { IsLook self.old.problem prices.items self.old.base look.bound look.leasts.items }
         ensures problem { self.new.problem ≡ self.old.problem }
@@ -326,7 +326,7 @@ fn limited(alloc: Global, problem: &Problem, wanted: &[i64]) -> Result<Vec<i64>,
 
 /// The price within its limits.
 fn limited_price(price: i64) -> i64
-    ensures { IsWithin MOST_PRICE result }
+    ensures { IsWithin MOST_PLAN_PRICE result }
 {
-    price.clamp(-(MOST_PRICE as i64), MOST_PRICE as i64)
+    price.clamp(-(MOST_PLAN_PRICE as i64), MOST_PLAN_PRICE as i64)
 }

@@ -9,7 +9,7 @@ ghost use Rattle.roster_plan_bound.specs.Chains.{IsTail};
 ghost use Rattle.roster_plan_bound.specs.Networks.{AreRows, AreSoFar, IsNetwork};
 
 use crate::network::Network;
-use crate::parts::{MOST_AMOUNT, MOST_TERM, MOST_VALUE};
+use crate::parts::{MOST_AMOUNT, MOST_CHAIN_VALUE, MOST_TARGET_TERM};
 use roster_legal::part_of_legal_is_legal;
 use roster_model::limits::MOST_PAIRINGS;
 use roster_problem::Problem;
@@ -19,11 +19,11 @@ use std::marker::Model;
 
 /// For each state of flight a value. Contracts see their list.
 #[derive(Drop)]
-pub(crate) struct Row {
+pub(crate) struct ChainRow {
     values: Vec<i64>,
 }
 
-impl Model for Row {
+impl Model for ChainRow {
     ghost use Rattle.std.specs.Prelude.{List, ℤ};
 
     ghost Value = { List ℤ };
@@ -31,14 +31,14 @@ impl Model for Row {
     ghost view = { λ r. r.values.items };
 }
 
-impl Row {
+impl ChainRow {
     /// The row of those values.
-    fn of(alloc: Global, values: &[i64]) -> Result<Row, AllocError>
+    fn of(alloc: Global, values: &[i64]) -> Result<ChainRow, AllocError>
         ensures { IfOk result (λ row. row ≡ values.now) }
     {
         let mut copy = Vec::new(alloc);
         copy.extend_from_slice(values)?;
-        Ok(Row { values: copy })
+        Ok(ChainRow { values: copy })
     }
 
     /// The values of all states.
@@ -66,16 +66,16 @@ impl Row {
 
     /// Lowers each state to what a pairing brings that has so many steps of flight, and what the row behind
     /// that pairing has there.
-    fn relax(&mut self, after: &Row, value: i64, step: usize)
+    fn relax(&mut self, after: &ChainRow, value: i64, step: usize)
         requires same { length after.now ≡ length self.old }
-        requires value { IsWithin MOST_VALUE value }
+        requires value { IsWithin MOST_CHAIN_VALUE value }
         requires after { All (IsWithin MOST_AMOUNT) after.now }
         ensures same { length self.new ≡ length self.old }
         ensures kept { (f : ℕ) → f < length self.old → value_at self.new f ≤ℤ value_at self.old f }
         ensures through { (f : ℕ) → f < length self.old → value_at self.new f
             ≤ℤ (value +ℤ value_at after.now (plain_next_state (length self.old) f step)) }
         ensures within { (most : ℕ) → All (IsWithin most) after.now
-            → All (IsWithin (most + MOST_VALUE)) self.old → All (IsWithin (most + MOST_VALUE)) self.new }
+            → All (IsWithin (most + MOST_CHAIN_VALUE)) self.old → All (IsWithin (most + MOST_CHAIN_VALUE)) self.new }
     {
         relax(&mut self.values, &after.values, value, step)
     }
@@ -94,17 +94,17 @@ pub(crate) fn next_state(states: usize, f: usize, step: usize) -> usize
     }
 }
 
-/// `Row::relax` for slices.
+/// `ChainRow::relax` for slices.
 fn relax(row: &mut [i64], after: &[i64], value: i64, step: usize)
     requires same { length after.now ≡ length row.old }
-    requires value { IsWithin MOST_VALUE value }
+    requires value { IsWithin MOST_CHAIN_VALUE value }
     requires after { All (IsWithin MOST_AMOUNT) after.now }
     ensures same { length row.new ≡ length row.old }
     ensures kept { (f : ℕ) → f < length row.old → value_at row.new f ≤ℤ value_at row.old f }
     ensures through { (f : ℕ) → f < length row.old → value_at row.new f
         ≤ℤ (value +ℤ value_at after.now (plain_next_state (length row.old) f step)) }
     ensures within { (most : ℕ) → All (IsWithin most) after.now
-        → All (IsWithin (most + MOST_VALUE)) row.old → All (IsWithin (most + MOST_VALUE)) row.new }
+        → All (IsWithin (most + MOST_CHAIN_VALUE)) row.old → All (IsWithin (most + MOST_CHAIN_VALUE)) row.new }
 {
     for f in 0..row.len() {
         relax_at(row, after, value, step, f);
@@ -115,7 +115,7 @@ fn relax(row: &mut [i64], after: &[i64], value: i64, step: usize)
 fn relax_at(row: &mut [i64], after: &[i64], value: i64, step: usize, f: usize)
     requires inside { f < length row.old }
     requires same { length after.now ≡ length row.old }
-    requires value { IsWithin MOST_VALUE value }
+    requires value { IsWithin MOST_CHAIN_VALUE value }
     requires after { All (IsWithin MOST_AMOUNT) after.now }
     ensures same { length row.new ≡ length row.old }
     ensures kept { value_at row.new f ≤ℤ value_at row.old f }
@@ -123,7 +123,7 @@ fn relax_at(row: &mut [i64], after: &[i64], value: i64, step: usize, f: usize)
         ≤ℤ (value +ℤ value_at after.now (plain_next_state (length row.old) f step)) }
     ensures others { (g : ℕ) → g ≢ f → value_at row.new g ≡ value_at row.old g }
     ensures within { (most : ℕ) → All (IsWithin most) after.now
-        → All (IsWithin (most + MOST_VALUE)) row.old → All (IsWithin (most + MOST_VALUE)) row.new }
+        → All (IsWithin (most + MOST_CHAIN_VALUE)) row.old → All (IsWithin (most + MOST_CHAIN_VALUE)) row.new }
 {
     let next = next_state(row.len(), f, step);
     lower(row, f, led(after, value, next));
@@ -146,11 +146,11 @@ fn lower(row: &mut [i64], f: usize, value: i64)
 /// What a pairing brings, and the row behind it has in state `f`.
 pub(crate) fn led(after: &[i64], value: i64, f: usize) -> i64
     requires inside { f < length after.now }
-    requires value { IsWithin MOST_VALUE value }
+    requires value { IsWithin MOST_CHAIN_VALUE value }
     requires after { All (IsWithin MOST_AMOUNT) after.now }
     ensures value { result ≡ value +ℤ value_at after.now f }
     ensures within { (most : ℕ) → All (IsWithin most) after.now
-        → IsWithin (most + MOST_VALUE) result }
+        → IsWithin (most + MOST_CHAIN_VALUE) result }
 {
     value + after[f]
 }
@@ -165,10 +165,10 @@ pub(crate) fn rows_of(
     k: usize,
     network: &Network,
     values: &[i64],
-) -> Result<Vec<Row>, AllocError>
+) -> Result<Vec<ChainRow>, AllocError>
     requires network { IsNetwork problem.now k network.now }
     requires covers { length values.now ≡ length problem.now.pairings }
-    requires values { All (IsWithin MOST_VALUE) values.now }
+    requires values { All (IsWithin MOST_CHAIN_VALUE) values.now }
     ensures rows { IfOk result (λ rows. AreRows problem.now network.now values.now rows.items) }
     ensures all { IfOk result (λ rows. length rows.items ≡ length problem.now.pairings) }
 {
@@ -189,7 +189,7 @@ fn tails_of_end(
     k: usize,
     network: &Network,
     values: &[i64],
-) -> Result<Vec<Row>, AllocError>
+) -> Result<Vec<ChainRow>, AllocError>
     requires network { IsNetwork problem.now k network.now }
     ensures { IfOk result (λ tails. AreSoFar problem.now network.now values.now [] tails.items 0) }
 {
@@ -206,13 +206,13 @@ fn add_row(
     k: usize,
     network: &Network,
     values: &[i64],
-    rows: &mut Vec<Row>,
-    tails: &mut Vec<Row>,
+    rows: &mut Vec<ChainRow>,
+    tails: &mut Vec<ChainRow>,
     back: usize,
 ) -> Result<(), AllocError>
     requires network { IsNetwork problem.now k network.now }
     requires covers { length values.now ≡ length problem.now.pairings }
-    requires values { All (IsWithin MOST_VALUE) values.now }
+    requires values { All (IsWithin MOST_CHAIN_VALUE) values.now }
     requires some { back < length problem.now.pairings }
     requires so_far { AreSoFar problem.now network.now values.now rows.old.items tails.old.items back }
     ensures { OnOk result
@@ -264,12 +264,12 @@ pub(crate) fn end_of_all(
     k: usize,
     network: &Network,
     values: &[i64],
-) -> Result<Row, AllocError>
+) -> Result<ChainRow, AllocError>
     requires network { IsNetwork problem.now k network.now }
     ensures tail { IfOk result (IsTail network.now values.now (length problem.now.pairings)) }
-    ensures within { IfOk result (All (IsWithin MOST_TERM)) }
+    ensures within { IfOk result (All (IsWithin MOST_TARGET_TERM)) }
 {
-    let end = Row::of(alloc, &network.terms)?;
+    let end = ChainRow::of(alloc, &network.terms)?;
     Ok(end)
 }
 
@@ -280,22 +280,22 @@ fn longer_tail(
     k: usize,
     network: &Network,
     values: &[i64],
-    tail: &Row,
-    row: &Row,
+    tail: &ChainRow,
+    row: &ChainRow,
     p: usize,
-) -> Result<Row, AllocError>
+) -> Result<ChainRow, AllocError>
     requires network { IsNetwork problem.now k network.now }
     requires place { p < length problem.now.pairings }
     requires covers { length values.now ≡ length problem.now.pairings }
-    requires values { All (IsWithin MOST_VALUE) values.now }
+    requires values { All (IsWithin MOST_CHAIN_VALUE) values.now }
     requires tail { IsTail network.now values.now (p + 1) tail.now }
     requires row { IsRow network.now values.now (followers_of network.now.followers.items p) row.now }
     requires few { All (IsWithin MOST_AMOUNT) row.now }
     ensures tail { IfOk result (IsTail network.now values.now p) }
     ensures within { IfOk result (λ longer. (most : ℕ) → All (IsWithin most) row.now
-        → All (IsWithin (most + MOST_VALUE)) tail.now → All (IsWithin (most + MOST_VALUE)) longer) }
+        → All (IsWithin (most + MOST_CHAIN_VALUE)) tail.now → All (IsWithin (most + MOST_CHAIN_VALUE)) longer) }
 {
-    let mut longer = Row::of(alloc, tail.all())?;
+    let mut longer = ChainRow::of(alloc, tail.all())?;
     if network.first.has(p) {
         longer.relax(row, values[p], network.steps[p]);
     }
@@ -310,27 +310,27 @@ pub(crate) fn row_behind(
     k: usize,
     network: &Network,
     values: &[i64],
-    rows: &[Row],
+    rows: &[ChainRow],
     first: &Set,
-    tail: &Row,
+    tail: &ChainRow,
     until: usize,
-) -> Result<Row, AllocError>
+) -> Result<ChainRow, AllocError>
     requires network { IsNetwork problem.now k network.now }
     requires covers { length values.now ≡ length problem.now.pairings }
-    requires values { All (IsWithin MOST_VALUE) values.now }
+    requires values { All (IsWithin MOST_CHAIN_VALUE) values.now }
     requires rows { AreRows problem.now network.now values.now rows.now }
     requires alone { (q : ℕ) → is_among first.now q ≡ true → is_among network.now.first q ≡ true }
     requires done { (q : ℕ) → is_among first.now q ≡ true → q < until
         → length problem.now.pairings - 1 - q < length rows.now }
     requires tail { IsTail network.now values.now until tail.now }
-    requires near { All (IsWithin (MOST_TERM + (length rows.now + 1) * MOST_VALUE)) tail.now }
+    requires near { All (IsWithin (MOST_TARGET_TERM + (length rows.now + 1) * MOST_CHAIN_VALUE)) tail.now }
     ensures row { IfOk result (IsRow network.now values.now first.now) }
     ensures within { IfOk result (λ row.
-        All (IsWithin (MOST_TERM + (length rows.now + 1) * MOST_VALUE)) row) }
+        All (IsWithin (MOST_TARGET_TERM + (length rows.now + 1) * MOST_CHAIN_VALUE)) row) }
 {
     problem.is_sound();
     let count = problem.pairings().len();
-    let mut row = Row::of(alloc, tail.all())?;
+    let mut row = ChainRow::of(alloc, tail.all())?;
     let mut from = 0;
     while let Some(q) = first_between(first, from, until) {
         row.relax(&rows[count - 1 - q], values[q], network.steps[q]);

@@ -16,7 +16,7 @@ ghost use Rattle.roster_plan_bound.specs.Reduced.{price_at, reduced, ArePrices, 
 
 use crate::columns::Columns;
 use crate::gap::Cheap;
-use crate::parts::{MOST_LEAST, MOST_PRICE, MOST_TERM, PARTS};
+use crate::parts::{MOST_LEAST, MOST_PLAN_PRICE, MOST_TARGET_TERM, PARTS};
 use crate::persons::Seen;
 use crate::tuning::{
     FEWEST_COLUMNS, FIRST_REACH_OF_SETS, LEAST_REACH, MOST_COLUMNS, MOST_LISTED, MOST_LISTS,
@@ -250,7 +250,7 @@ fn cost_above(problem: &Problem, k: usize, lines: &Lines, i: usize) -> i64
     requires line { i < length lines.now }
     ensures value { result ≡ pos PARTS
         *ℤ (line_cost problem.now k (set_at lines.now i) -ℤ line_cost problem.now k []) }
-    ensures within { IsWithin MOST_TERM result }
+    ensures within { IsWithin MOST_TARGET_TERM result }
 {
     lines_are_near();
     problem.is_sound();
@@ -259,10 +259,10 @@ fn cost_above(problem: &Problem, k: usize, lines: &Lines, i: usize) -> i64
 
 /// The prices of the set's pairings, in all.
 fn price_of(prices: &[i64], set: &Set) -> i64
-    requires prices { All (IsWithin MOST_PRICE) prices.now }
+    requires prices { All (IsWithin MOST_PLAN_PRICE) prices.now }
     requires places { All (λ p. p < length prices.now) set.now }
     ensures value { result ≡ total (price_at prices.now) set.now }
-    ensures within { IsWithin (MOST_PAIRINGS * MOST_PRICE) result }
+    ensures within { IsWithin (MOST_PAIRINGS * MOST_PLAN_PRICE) result }
 {
     let mut sum = 0;
     let mut from = 0;

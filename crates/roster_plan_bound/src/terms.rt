@@ -5,7 +5,7 @@ ghost use Rattle.roster_model.specs.Problem.{target_of, weight_of};
 ghost use Rattle.roster_cost.specs.Amounts.{IsWithin, most_flight};
 ghost use Rattle.roster_plan_bound.specs.Networks.{missed_at, AreTerms};
 
-use crate::parts::{MOST_COUNTED, MOST_TERM, PARTS};
+use crate::parts::{MOST_COUNTED, MOST_TARGET_TERM, PARTS};
 use roster_cost::fixed_flight;
 use roster_model::limits::MOST_MINUTES;
 use roster_problem::Problem;
@@ -26,7 +26,7 @@ pub(crate) fn terms_of(
     requires short { step ≤ 5 }
     ensures terms { IfOk result (λ terms. AreTerms problem.now k step terms.items) }
     ensures some { IfOk result (λ terms. 0 < length terms.items) }
-    ensures within { IfOk result (λ terms. All (IsWithin MOST_TERM) terms.items) }
+    ensures within { IfOk result (λ terms. All (IsWithin MOST_TARGET_TERM) terms.items) }
 {
     let fixed = fixed_flight(problem, k);
     let last = last_state(problem, k, fixed, step);
@@ -62,7 +62,7 @@ fn term(problem: &Problem, k: usize, fixed: u64, more: u64) -> i64
     requires fixed { fixed ≤ most_flight }
     requires more { more ≤ MOST_COUNTED }
     ensures value { result ≡ missed_at problem.now k (fixed + more) -ℤ missed_at problem.now k fixed }
-    ensures within { IsWithin MOST_TERM result }
+    ensures within { IsWithin MOST_TARGET_TERM result }
 {
     let target = u64::from(problem.person(k).target);
     weighed(
@@ -80,7 +80,7 @@ fn last_term(problem: &Problem, k: usize, fixed: u64, more: u64) -> i64
     ensures value { result
         ≡ (pos PARTS *ℤ pos (weight_of problem.now * ((fixed + more) - target_of problem.now k)))
         -ℤ missed_at problem.now k fixed }
-    ensures within { IsWithin MOST_TERM result }
+    ensures within { IsWithin MOST_TARGET_TERM result }
 {
     let persons = problem.persons();
     let person = &persons[k];
@@ -98,7 +98,7 @@ fn weighed(problem: &Problem, missed: u64, before: u64) -> i64
     requires less { before ≤ missed + 2 * MOST_MINUTES }
     ensures value { result ≡ (pos PARTS *ℤ pos (weight_of problem.now * missed))
         -ℤ (pos PARTS *ℤ pos (weight_of problem.now * before)) }
-    ensures within { IsWithin MOST_TERM result }
+    ensures within { IsWithin MOST_TARGET_TERM result }
 {
     if missed < before {
         -(weighed_minutes(problem, before - missed))
@@ -111,7 +111,7 @@ fn weighed(problem: &Problem, missed: u64, before: u64) -> i64
 fn weighed_minutes(problem: &Problem, minutes: u64) -> i64
     requires { minutes ≤ 2 * MOST_MINUTES }
     ensures value { result ≡ pos (PARTS * (weight_of problem.now * minutes)) }
-    ensures within { IsWithin MOST_TERM result }
+    ensures within { IsWithin MOST_TARGET_TERM result }
 {
     (PARTS * (u64::from(problem.weight()) * minutes)) as i64
 }

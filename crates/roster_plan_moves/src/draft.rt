@@ -14,7 +14,7 @@ use std::marker::Model;
 /// A roster that changes, the one that it goes back to, and the best so far. Each of them is legal,
 /// which the type keeps. Contracts see the problem.
 #[derive(Drop)]
-pub(crate) struct Draft<'a> {
+pub(crate) struct RosterDraft<'a> {
     problem: &'a Problem,
     judge: Judge<'a>,
     places: Vec<u16>,
@@ -22,7 +22,7 @@ pub(crate) struct Draft<'a> {
     best: Vec<u16>,
 }
 
-impl<'a> Model for Draft<'a> {
+impl<'a> Model for RosterDraft<'a> {
     ghost use Rattle.roster_model.specs.Problem.{Problem};
     ghost use Rattle.roster_plan_moves.specs.Drafts.{IsDraft};
 
@@ -34,20 +34,20 @@ impl<'a> Model for Draft<'a> {
         d.best.items };
 }
 
-impl<'a> Draft<'a> {
+impl<'a> RosterDraft<'a> {
     /// Three times the same roster.
     pub(crate) fn new(
         alloc: Global,
         problem: &'a Problem,
         places: &[u16],
-    ) -> Result<Draft<'a>, AllocError>
+    ) -> Result<RosterDraft<'a>, AllocError>
         requires { IsLegalRoster problem.now places.now }
         ensures { IfOk result (λ draft. draft ≡ problem.now) }
     {
         let first = copied(alloc, places)?;
         let settled = copied(alloc, places)?;
         let best = copied(alloc, places)?;
-        Ok(Draft {
+        Ok(RosterDraft {
             problem,
             judge: Judge::new(alloc, problem),
             places: first,

@@ -11,7 +11,7 @@ const DAY: i64 = 24 * 60;
 
 /// So often two persons give each other what hinders what they get; more would be most of what they
 /// have.
-const MOST_ROUNDS: usize = 8;
+const MOST_EXCHANGES: usize = 8;
 
 impl<'a> Search<'a> {
     /// Makes the next changes: none, if nothing comes to mind.
@@ -166,7 +166,7 @@ fn with_hindered(
 ) -> (Set, Set) {
     let mut from_first = *from_first;
     let mut from_second = *from_second;
-    for _ in 0..MOST_ROUNDS {
+    for _ in 0..MOST_EXCHANGES {
         from_second = from_second.or(&tables.meeting(second, &from_first));
         from_first = from_first.or(&tables.meeting(first, &from_second));
     }

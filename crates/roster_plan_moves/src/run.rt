@@ -4,7 +4,7 @@ ghost use Rattle.std.specs.Prelude.{◌≡◌, IfOk};
 ghost use Rattle.roster_model.specs.Rosters.{IsLegalRoster};
 
 use crate::changes::Change;
-use crate::draft::Draft;
+use crate::draft::RosterDraft;
 use crate::search::Search;
 use roster_problem::Problem;
 use std::alloc::{AllocError, Global};
@@ -26,7 +26,7 @@ pub fn improved_by_changes(
     requires { IsLegalRoster problem.now start.now }
     ensures { IfOk result (λ found. IsLegalRoster problem.now found.items) }
 {
-    let mut draft = Draft::new(alloc, problem, start)?;
+    let mut draft = RosterDraft::new(alloc, problem, start)?;
     improve(alloc, problem, start, sought, tries, seed, &mut draft)?;
     draft.best(alloc)
 }
@@ -39,7 +39,7 @@ fn improve(
     sought: &[bool],
     tries: u32,
     seed: u64,
-    draft: &mut Draft<'_>,
+    draft: &mut RosterDraft<'_>,
 ) -> Result<(), AllocError>
     ensures { draft.new ≡ draft.old }
 {
@@ -48,7 +48,7 @@ fn improve(
 }
 
 /// Makes the run of so many tries.
-fn run(draft: &mut Draft<'_>, search: &mut Search<'_>, tries: u32) -> Result<(), AllocError>
+fn run(draft: &mut RosterDraft<'_>, search: &mut Search<'_>, tries: u32) -> Result<(), AllocError>
     ensures { draft.new ≡ draft.old }
 {
     fill(draft, search)?;
@@ -64,7 +64,7 @@ fn run(draft: &mut Draft<'_>, search: &mut Search<'_>, tries: u32) -> Result<(),
 }
 
 /// Places open pairings one after another, each with whom it costs least.
-fn fill(draft: &mut Draft<'_>, search: &mut Search<'_>) -> Result<(), AllocError>
+fn fill(draft: &mut RosterDraft<'_>, search: &mut Search<'_>) -> Result<(), AllocError>
     ensures { draft.new ≡ draft.old }
 {
     for p in 0..search.tables.pairings() {
@@ -78,7 +78,11 @@ fn fill(draft: &mut Draft<'_>, search: &mut Search<'_>) -> Result<(), AllocError
 }
 
 /// Makes the changes if they are legal. Else all is as before.
-fn try_changes(draft: &mut Draft<'_>, search: &mut Search<'_>, extra: i64) -> Result<(), AllocError>
+fn try_changes(
+    draft: &mut RosterDraft<'_>,
+    search: &mut Search<'_>,
+    extra: i64,
+) -> Result<(), AllocError>
     ensures { draft.new ≡ draft.old }
 {
     if search.changes.as_slice().is_empty() {
@@ -96,7 +100,7 @@ fn try_changes(draft: &mut Draft<'_>, search: &mut Search<'_>, extra: i64) -> Re
 }
 
 /// Makes the changes one after another, as far as they are legal. Whether all are.
-fn assign_all(draft: &mut Draft<'_>, changes: &[Change]) -> Result<bool, AllocError>
+fn assign_all(draft: &mut RosterDraft<'_>, changes: &[Change]) -> Result<bool, AllocError>
     ensures { draft.new ≡ draft.old }
 {
     for change in changes {

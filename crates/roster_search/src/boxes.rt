@@ -13,7 +13,7 @@ use roster_cost::shares_add_up;
 use roster_lines_table::Table;
 use roster_model::limits::MOST_BASES;
 use roster_problem::Problem;
-use roster_search_least::{Finder, Part, all_open, costs_fit, if_before, merged};
+use roster_search_least::{Finder, LeastOfBase, all_open, costs_fit, if_before, merged};
 use roster_values::Roster;
 use std::alloc::{AllocError, Global};
 
@@ -50,7 +50,7 @@ pub fn least_with<F: Finder>(
     problem: &Problem,
     table: &Table,
     ranges: &[(usize, usize)],
-    parts: &[Part],
+    parts: &[LeastOfBase],
     known: &Roster,
     finder: &mut F,
 ) -> Result<Option<Roster>, AllocError>
@@ -80,7 +80,7 @@ fn merged_bases<F: Finder>(
     problem: &Problem,
     table: &Table,
     ranges: &[(usize, usize)],
-    parts: &[Part],
+    parts: &[LeastOfBase],
     finder: &mut F,
 ) -> Result<Option<Vec<u16>>, AllocError>
     requires finder { F.may_find }
@@ -110,7 +110,7 @@ fn with_base<F: Finder>(
     problem: &Problem,
     table: &Table,
     ranges: &[(usize, usize)],
-    parts: &[Part],
+    parts: &[LeastOfBase],
     base: usize,
     places: Vec<u16>,
     finder: &mut F,

@@ -8,7 +8,7 @@ ghost use Rattle.roster_lines_table.specs.Person.{AreListed};
 use crate::root::root_prices;
 use roster_lines_table::Table;
 use roster_problem::Problem;
-use roster_search_least::{Finder, Part, least_in, region_of_base};
+use roster_search_least::{Finder, LeastOfBase, least_in, region_of_base};
 use roster_search_regions::DualPrices;
 use roster_values::Roster;
 use std::alloc::{AllocError, Global};
@@ -19,7 +19,7 @@ pub(crate) fn least_at<F: Finder>(
     problem: &Problem,
     table: &Table,
     ranges: &[(usize, usize)],
-    parts: &[Part],
+    parts: &[LeastOfBase],
     base: usize,
     finder: &mut F,
 ) -> Result<Option<Roster>, AllocError>

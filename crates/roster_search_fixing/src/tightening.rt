@@ -16,7 +16,7 @@ use roster_search_regions::{Region, price_of};
 use std::alloc::{AllocError, Global};
 
 /// How often a region is tightened at once, at most.
-const MOST_ROUNDS: usize = 32;
+const MOST_TIGHTENINGS: usize = 32;
 
 /// How far a cost lies from what it costs that nobody has a pairing, at most, in parts of a cost unit.
 pub(crate) const MOST_LIMIT: u64 = 1 << 61;
@@ -199,7 +199,7 @@ pub fn tighten(
         (IsNarrowed problem.now (CostsAtMost problem.now most) region.old region.new)
         (IsAllAbove problem.now region.old most)) }
 {
-    for _ in 0..MOST_ROUNDS {
+    for _ in 0..MOST_TIGHTENINGS {
         let before = weight(problem, region);
         if !tighten_once(alloc, problem, region, prices, most)? {
             return Ok(false);

@@ -25,4 +25,4 @@ mod tuning;
 pub use boxes::{if_before, whole};
 pub use finder::Finder;
 pub use least::{RootPrices, costs_fit, least_of_region, roster_in};
-pub use parts::{Part, all_open, least_in, merged, region_of_base};
+pub use parts::{LeastOfBase, all_open, least_in, merged, region_of_base};

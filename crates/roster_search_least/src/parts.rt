@@ -14,7 +14,7 @@ use roster_values::Roster;
 use std::alloc::{AllocError, Global};
 
 /// A base, and the least roster in which only its persons fly, if there is one.
-pub type Part = (usize, Option<Roster>);
+pub type LeastOfBase = (usize, Option<Roster>);
 
 /// The region of the rosters in which the persons of the base have lines in their ranges, and all others no
 /// pairing.

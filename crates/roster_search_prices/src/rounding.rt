@@ -16,7 +16,7 @@ const MUST: i64 = 1 << 50;
 
 /// What each person has on the way to a roster, by the number of its choice.
 #[derive(Drop)]
-struct Draft {
+struct Rounding {
     chosen: Vec<usize>,
     nobody: u16,
     // By depth: the prices of the pairings on the way.
@@ -58,7 +58,7 @@ pub(crate) fn rounded_among(
         (λ places. length places.items ≡ length problem.now.pairings)) }
 {
     let mut places = vec![in alloc; open_number(problem); problem.pairings().len()]?;
-    let mut draft = Draft::new(alloc, problem)?;
+    let mut draft = Rounding::new(alloc, problem)?;
     if !draft.choose_all(problem, region, near, prices, turn, &mut places) {
         return Ok(None);
     }
@@ -92,10 +92,10 @@ fn in_turn(turn: usize, step: usize, count: usize) -> usize
     (turn % count).wrapping_add(step) % count
 }
 
-impl Draft {
+impl Rounding {
     // Nobody has anything.
-    fn new(alloc: Global, problem: &Problem) -> Result<Draft, AllocError> {
-        Ok(Draft {
+    fn new(alloc: Global, problem: &Problem) -> Result<Rounding, AllocError> {
+        Ok(Rounding {
             chosen: vec![in alloc; 0; problem.persons().len()]?,
             nobody: open_number(problem),
             sums: vec![in alloc; 0; problem.pairings().len().saturating_add(1)]?,

@@ -7,13 +7,13 @@ use Rattle.roster_model.specs.declared.limits.TheConstants.{MOST_PAIRINGS}
 use Rattle.roster_model.specs.Costs.{total}
 use Rattle.roster_model.proofs.CostLemmas.{total-nil, total-cons, total-append}
 use Rattle.roster_cost.specs.Amounts.{IsWithin}
-use Rattle.roster_search_regions.specs.declared.choice.TheConstants.{MOST_PRICE}
+use Rattle.roster_search_regions.specs.declared.choice.TheConstants.{MOST_DUAL_PRICE}
 use Rattle.roster_search_regions.specs.declared.sums.Sums.{Sums}
 use Rattle.roster_search_regions.specs.Prices.{price_at, ArePrices, AreSums}
 
 -- ---- prices are limited, and so are their sums
 
-pub price-within : (prices : List ℤ) (p : ℕ) → ArePrices prices → IsWithin MOST_PRICE (price_at prices p)
+pub price-within : (prices : List ℤ) (p : ℕ) → ArePrices prices → IsWithin MOST_DUAL_PRICE (price_at prices p)
 price-within prices p are =
     elim (cases_lt p (length prices)) [
       | inl inside ↦ are p (pos 0) inside
@@ -23,7 +23,7 @@ price-within prices p are =
     ]
 
 prices-within : (prices : List ℤ) (path : List ℕ) → ArePrices prices
-    → IsWithin (length path * MOST_PRICE) (total (price_at prices) path)
+    → IsWithin (length path * MOST_DUAL_PRICE) (total (price_at prices) path)
 prices-within prices [] are =
     (omega (arith, ints, total-nil (price_at prices)), omega (arith, ints, total-nil (price_at prices)))
 prices-within prices (p ∷ path) are =
@@ -33,7 +33,7 @@ prices-within prices (p ∷ path) are =
 
 pub sum-within : (prices : List ℤ) (sums : Sums) (path : List ℕ) (j : ℕ) → ArePrices prices
     → AreSums prices sums path → j ≤ length path
-    → IsWithin (MOST_PAIRINGS * MOST_PRICE) (get_or sums.sums j (pos 0))
+    → IsWithin (MOST_PAIRINGS * MOST_DUAL_PRICE) (get_or sums.sums j (pos 0))
 sum-within prices sums path j are known inside =
     let bound = prices-within prices (take j path) are in
     let long : length (take j path) ≤ MOST_PAIRINGS =

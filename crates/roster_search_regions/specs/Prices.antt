@@ -3,7 +3,7 @@ use Rattle.std.specs.Prelude.{◌≡◌, ℕ, ◌≤◌, List, length, take, sli
 use Rattle.roster_model.specs.declared.limits.TheConstants.{MOST_PAIRINGS}
 use Rattle.roster_model.specs.Costs.{total}
 use Rattle.roster_cost.specs.Amounts.{IsWithin}
-use Rattle.roster_search_regions.specs.declared.choice.TheConstants.{MOST_PRICE}
+use Rattle.roster_search_regions.specs.declared.choice.TheConstants.{MOST_DUAL_PRICE}
 use Rattle.roster_search_regions.specs.declared.sums.Sums.{Sums}
 use Rattle.roster_search_regions.specs.Regions.{AllowedLine}
 
@@ -13,7 +13,7 @@ price_at prices p = slice_index_or prices p (pos 0)
 
 -- no price is beyond its limit
 abbrev pub ArePrices : List ℤ → Type 0
-ArePrices prices = All (IsWithin MOST_PRICE) prices
+ArePrices prices = All (IsWithin MOST_DUAL_PRICE) prices
 
 -- what a line costs more than the empty one, less the prices of its pairings
 abbrev pub value_of : List ℤ → AllowedLine → ℤ

@@ -4,7 +4,7 @@ ghost use Rattle.std.specs.Prelude.{◌≡◌, IfOk};
 ghost use Rattle.roster_cost.specs.Amounts.{IsWithin};
 ghost use Rattle.roster_search_regions.specs.Prices.{ArePrices};
 
-use crate::choice::MOST_PRICE;
+use crate::choice::MOST_DUAL_PRICE;
 use crate::reading::number_at;
 use crate::region::Region;
 use roster_problem::Problem;
@@ -12,7 +12,7 @@ use std::alloc::{AllocError, Global};
 use std::marker::Model;
 
 /// What each pairing earns the line that holds it, in parts of a cost unit: one price for each, within
-/// `MOST_PRICE`. They move step by step, and keep their direction as a falling stone does. Contracts see
+/// `MOST_DUAL_PRICE`. They move step by step, and keep their direction as a falling stone does. Contracts see
 /// only the prices.
 #[derive(Drop)]
 pub struct DualPrices {
@@ -38,9 +38,9 @@ impl Model for DualPrices {
 
 /// The amount, or the nearest that a price may be.
 fn limited(amount: i64) -> i64
-    ensures { IsWithin MOST_PRICE result }
+    ensures { IsWithin MOST_DUAL_PRICE result }
 {
-    amount.clamp(-(MOST_PRICE as i64), MOST_PRICE as i64)
+    amount.clamp(-(MOST_DUAL_PRICE as i64), MOST_DUAL_PRICE as i64)
 }
 
 /// The penalty of the pairing at place `p` in parts of a cost unit, or 0 past the last.

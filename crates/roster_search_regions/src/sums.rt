@@ -6,7 +6,7 @@ ghost use Rattle.roster_cost.specs.Amounts.{IsWithin};
 ghost use Rattle.roster_search_regions.specs.Prices.{price_at, ArePrices};
 ghost use Rattle.roster_search_regions.specs.Trees.{next_path, IsLimited};
 
-use crate::choice::{Choice, MOST_PRICE, MOST_VALUE};
+use crate::choice::{Choice, MOST_DUAL_PRICE, MOST_VALUE};
 use roster_model::limits::MOST_PAIRINGS;
 
 /// How many sums a path has, at most: from none of its pairings to all.
@@ -23,7 +23,7 @@ pub(crate) struct Sums {
 pub fn price_of(prices: &[i64], p: usize) -> i64
     requires { ArePrices prices.now }
     ensures value { result ≡ price_at prices.now p }
-    ensures bound { IsWithin MOST_PRICE result }
+    ensures bound { IsWithin MOST_DUAL_PRICE result }
 {
     if p < prices.len() { prices[p] } else { 0 }
 }

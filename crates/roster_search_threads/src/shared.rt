@@ -11,7 +11,7 @@ use roster_lines_table::Table;
 use roster_model::limits::MOST_BASES;
 use roster_problem::Problem;
 use roster_search::root_prices_by_threads;
-use roster_search_least::{Part, least_in, region_of_base};
+use roster_search_least::{LeastOfBase, least_in, region_of_base};
 use roster_search_regions::DualPrices;
 use roster_values::Roster;
 use std::alloc::{AllocError, Global};
@@ -26,7 +26,7 @@ pub(crate) fn parts_by_threads<R: Threads + Sync>(
     table: &Table,
     ranges: &[(usize, usize)],
     threads: usize,
-) -> Result<Vec<Part>, AllocError>
+) -> Result<Vec<LeastOfBase>, AllocError>
     requires table { AreListed problem.now table.now }
     requires ranges { length ranges.now ≡ length table.now }
     requires threads { 0 < threads }
@@ -37,7 +37,7 @@ pub(crate) fn parts_by_threads<R: Threads + Sync>(
     let next = AtomicUsize::new(0);
     let idle = AtomicUsize::new(0);
     let each = threads_a_base(problem, threads);
-    let turns = |_: usize| -> Result<Vec<Part>, AllocError>
+    let turns = |_: usize| -> Result<Vec<LeastOfBase>, AllocError>
         requires { IsSync R.row × AreListed problem.now table.now
             × (length ranges.now ≡ length table.now) × (0 < each) }
         ensures { IfOk result (λ parts.
@@ -103,7 +103,7 @@ fn parts_in_turn<R: Threads + Sync>(
     bases: &[usize],
     next: &AtomicUsize,
     idle: &AtomicUsize,
-) -> Result<Vec<Part>, AllocError>
+) -> Result<Vec<LeastOfBase>, AllocError>
     requires table { AreListed problem.now table.now }
     requires ranges { length ranges.now ≡ length table.now }
     requires threads { 0 < threads }
@@ -164,8 +164,8 @@ fn gathered(
     problem: &Problem,
     table: &Table,
     ranges: &[(usize, usize)],
-    lists: Vec<Result<Vec<Part>, AllocError>>,
-) -> Result<Vec<Part>, AllocError>
+    lists: Vec<Result<Vec<LeastOfBase>, AllocError>>,
+) -> Result<Vec<LeastOfBase>, AllocError>
     requires { All (λ parts. IfOk parts
         (λ parts. AreBaseParts problem.now table.now ranges.now parts.items)) lists.items }
     ensures { IfOk result (λ parts. AreBaseParts problem.now table.now ranges.now parts.items) }

@@ -150,7 +150,7 @@ pub record IsKept (pool : Played) (total : ℕ) : Type 0 where
   pub persons : 0 < length pool.state.widths
 
 -- a span that is settled, and the key of the roster by which it is
-pub record Part : Type 0 where
+pub record SettledSpan : Type 0 where
   pub span : Span
   pub best : Key
 

@@ -17,9 +17,9 @@ pub struct Settled {
 
 impl Model for Settled {
     ghost use Rattle.std.specs.Arc.{arc_value};
-    ghost use Rattle.roster_subtreepool.specs.States.{Part};
+    ghost use Rattle.roster_subtreepool.specs.States.{SettledSpan};
 
-    ghost Value = { Part };
+    ghost Value = { SettledSpan };
 
     ghost view = { λ s. record { span = s.span; best = arc_value s.best } };
 }

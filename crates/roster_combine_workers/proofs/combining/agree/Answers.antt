@@ -2,7 +2,7 @@ use Rattle.std.proofs.Common.{◌<◌, ℕ, List, Vec, Global, length, map, sym,
 use Rattle.std.specs.Prelude.{All}
 use Rattle.std.proofs.lemmas.List.{length-map}
 use Rattle.roster_subtreepool_spans.specs.Spans.{Span}
-use Rattle.roster_subtreepool.specs.States.{Part}
+use Rattle.roster_subtreepool.specs.States.{SettledSpan}
 use Rattle.roster_combine_workers.specs.Parts.{spans_by}
 use Rattle.roster_combine_workers.proofs.combining.agree.Goals as goal
 
@@ -12,7 +12,7 @@ Within count finished = All (λ (entry : ℕ × Span). entry.0 < count) finished
 
 pub returns : goal.returns
 returns c =
-    let items : Vec Part Global → List Part = λ list. list.items in
+    let items : Vec SettledSpan Global → List SettledSpan = λ list. list.items in
     let lists = map items c.args.lists.now in
     let finished = c.finished-finished.ensures.value in
     let same = c.are_same.ensures.0 c.if-not-are_same.false in

@@ -3,7 +3,7 @@ use Rattle.std.specs.Prelude.{IfOk, IfSome}
 use Rattle.std.proofs.lemmas.Result.{IfOk-at_ok}
 use Rattle.std.proofs.lemmas.List.{map_push}
 use Rattle.std.proofs.lemmas.List.Elements.{All-pop, All-push, All-same}
-use Rattle.roster_subtreepool.specs.States.{Part}
+use Rattle.roster_subtreepool.specs.States.{SettledSpan}
 use Rattle.roster_combine_workers.specs.Parts.{AreSettled}
 use Rattle.roster_combine_workers.proofs.crew.handed_in.Goals as goal
 
@@ -12,7 +12,7 @@ some_part {X} P r x is all = subst (λ (s : Option X). IfSome s P) is all
 
 pub loop-part-preserved : goal.loop-part-preserved
 loop-part-preserved g c =
-    let items : Vec Part Global → List Part = λ list. list.items in
+    let items : Vec SettledSpan Global → List SettledSpan = λ list. list.items in
     record {
       shares = omega (arith, c.loop-part.invariant.shares, c.in_ok-push.ensures.len, c.in-Some.ensures.len);
       settled = λ problem table all.

@@ -7,7 +7,7 @@ use Rattle.roster_model.specs.Costs.{cost_of}
 use Rattle.roster_model.specs.Settled.{Anywhere, IsHeld, IsNotAfter}
 use Rattle.roster_search_least.specs.Parts.{merge}
 use Rattle.roster_search_least.proofs.BoxLemmas.{all_open}
-use Rattle.roster_plan.specs.declared.parts.Part.{Part}
+use Rattle.roster_plan.specs.declared.parts.BasePlan.{BasePlan}
 use Rattle.roster_plan.specs.Parts.{AreTogether, IsPart}
 use Rattle.roster_plan.proofs.PartLemmas.{all_best, all_bounded, next_together, nothing_together}
 use Rattle.roster_plan.proofs.parts.assembled.Goals as goal
@@ -35,7 +35,7 @@ loop-base-init c =
 here : (c : goal.After-deref-in-loop-base)
     → IsPart c.args.problem.now c.loop-base.base c.index-parts-base.result
 here c = c.requires.each c.loop-base.base c.index-parts-base.result
-    (slice_get-get_or c.args.parts.now c.loop-base.base c.index-parts-base.result c.loop-base-test.true ∙ ap (λ (part : Part). Some part) (sym c.index-parts-base.is))
+    (slice_get-get_or c.args.parts.now c.loop-base.base c.index-parts-base.result c.loop-base-test.true ∙ ap (λ (part : BasePlan). Some part) (sym c.index-parts-base.is))
 
 pub merged-requires-clause-part : goal.merged-requires-clause-part
 merged-requires-clause-part c = (here c).held.legal.covers
@@ -48,7 +48,7 @@ loop-base-preserved c =
     let old : List ℕ = c.loop-base.places.items in
     let bound : ℤ = to_z w128 c.loop-base.bound-bits in
     let is : IsPart problem base part = c.requires.each base part
-    (slice_get-get_or c.args.parts.now base part c.loop-base-test.true ∙ ap (λ (p : Part). Some p) (sym c.index-parts-base.is)) in
+    (slice_get-get_or c.args.parts.now base part c.loop-base-test.true ∙ ap (λ (p : BasePlan). Some p) (sym c.index-parts-base.is)) in
     let cost : ℤ = c.roster_cost-idle.result in
     let cost_fits : FitsSigned w64 cost = search rules in
     let cost_told : to_z w64 (of_z w64 cost) ≡ cost = to_z-of_z w64 cost cost_fits in
@@ -79,7 +79,7 @@ loop-base-preserved c =
       within = (omega (arith, ints, low, sum_told), omega (arith, ints, high, sum_told));
       best = λ all.
           let this : part.is_best ≡ true =
-          subst (λ (p : Part). p.is_best ≡ true) (sym c.index-parts-base.is)
+          subst (λ (p : BasePlan). p.is_best ≡ true) (sym c.index-parts-base.is)
           (all base part c.loop-base-test.true) in
           c.are_both-is_best.ensures ∙ ap (λ b. b && part.is_best) (c.loop-base.invariant.best all) ∙ this;
     }

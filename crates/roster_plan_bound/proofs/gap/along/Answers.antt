@@ -5,7 +5,7 @@ use Rattle.roster_model.proofs.SetLemmas.{All-is_among}
 use Rattle.roster_values.specs.Set.{places_from}
 use Rattle.roster_values.proofs.SetParts.{places_from-first}
 use Rattle.roster_cost.specs.Amounts.{IsWithin}
-use Rattle.roster_plan_bound.specs.declared.parts.TheConstants.{MOST_VALUE}
+use Rattle.roster_plan_bound.specs.declared.parts.TheConstants.{MOST_CHAIN_VALUE}
 use Rattle.roster_plan_bound.specs.Chains.{chain_value, next_state, value_at}
 use Rattle.roster_plan_bound.proofs.ChainLemmas.{chain-cons}
 use Rattle.roster_plan_bound.proofs.gap.along.Goals as goal
@@ -31,7 +31,7 @@ pub overflow_add-value : goal.overflow_add-value
 overflow_add-value c =
     let inside : c.in-Some.q < length c.args.values.now = All-is_among (λ p. p < length c.args.values.now) c.args.set.now c.in-Some.q c.requires.covers c.in-Some.ensures.place.2 in
     let value : ℤ = value_at c.args.values.now c.in-Some.q in
-    let within : IsWithin MOST_VALUE value = c.requires.values c.in-Some.q (pos 0) inside in
+    let within : IsWithin MOST_CHAIN_VALUE value = c.requires.values c.in-Some.q (pos 0) inside in
     let fits : FitsSigned w64 value = search rules in
     let told : to_z w64 (of_z w64 value) ≡ value = to_z-of_z w64 value fits in
     let low = c.loop-q.invariant.within.0 in
@@ -60,7 +60,7 @@ loop-q-preserved c =
     let inside : q < length values =
     All-is_among (λ p. p < length values) set q c.requires.covers c.in-Some.ensures.place.2 in
     let value : ℤ = value_at values q in
-    let within : IsWithin MOST_VALUE value = c.requires.values q (pos 0) inside in
+    let within : IsWithin MOST_CHAIN_VALUE value = c.requires.values q (pos 0) inside in
     let fits : FitsSigned w64 value = search rules in
     let told : to_z w64 (of_z w64 value) ≡ value = to_z-of_z w64 value fits in
     let before : ℤ = to_z w64 c.loop-q.value-bits in

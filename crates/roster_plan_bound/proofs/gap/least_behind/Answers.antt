@@ -3,7 +3,7 @@ use Rattle.std.specs.Prelude.{All, slice_get}
 use Rattle.std.proofs.lemmas.Int.{ints, to_z-of_z}
 use Rattle.std.proofs.lemmas.Option.{get_or_from_slice_get, slice_get-get_or}
 use Rattle.roster_cost.specs.Amounts.{IsWithin}
-use Rattle.roster_plan_bound.specs.declared.parts.TheConstants.{MOST_AMOUNT, MOST_LEAST, MOST_VALUE}
+use Rattle.roster_plan_bound.specs.declared.parts.TheConstants.{MOST_AMOUNT, MOST_LEAST, MOST_CHAIN_VALUE}
 use Rattle.roster_plan_bound.specs.Chains.{next_state, value_at}
 use Rattle.roster_plan_bound.proofs.GapLemmas.{least_behind_is}
 use Rattle.roster_plan_bound.proofs.RowLemmas.{row_small, value_within, All-within-more}
@@ -66,7 +66,7 @@ returns c =
     let whole_fits : FitsSigned w64 whole = search rules in
     let whole_told : to_z w64 (of_z w64 whole) ≡ whole = to_z-of_z w64 whole whole_fits in
     let brought : ℤ = value_at values p in
-    let brought_within : IsWithin MOST_VALUE brought =
+    let brought_within : IsWithin MOST_CHAIN_VALUE brought =
     c.requires.values p (pos 0) (omega (arith, c.requires.covers, c.requires.place)) in
     let brought_fits : FitsSigned w64 brought = search rules in
     let brought_told : to_z w64 (of_z w64 brought) ≡ brought = to_z-of_z w64 brought brought_fits in

@@ -3,7 +3,7 @@ use Rattle.std.specs.List.Sorted.{IsStrictlyIncreasing}
 use Rattle.std.proofs.lemmas.Int.{to_z-of_z}
 use Rattle.roster_model.specs.Problem.{home_of}
 use Rattle.roster_cost.specs.Amounts.{IsWithin}
-use Rattle.roster_plan_bound.specs.declared.parts.TheConstants.{MOST_LEAST, MOST_TERM, MOST_VALUE}
+use Rattle.roster_plan_bound.specs.declared.parts.TheConstants.{MOST_LEAST, MOST_TARGET_TERM, MOST_CHAIN_VALUE}
 use Rattle.roster_plan_bound.specs.Chains.{IsTail}
 use Rattle.roster_plan_bound.specs.Reduced.{reduced, IsLeastOf}
 use Rattle.roster_plan_bound.proofs.ChainLemmas.{least_is, AddsFlight}
@@ -22,7 +22,7 @@ row_behind-requires-clause-tail c =
 
 pub row_behind-requires-clause-near : goal.row_behind-requires-clause-near
 row_behind-requires-clause-near c =
-    All-within-more MOST_TERM (MOST_TERM + (length c.args.rows.now + 1) * MOST_VALUE) c.in_ok-end.end
+    All-within-more MOST_TARGET_TERM (MOST_TARGET_TERM + (length c.args.rows.now + 1) * MOST_CHAIN_VALUE) c.in_ok-end.end
     (omega arith) c.in_ok-end.ensures.within
 
 pub first-requires : goal.first-requires
@@ -47,13 +47,13 @@ returns c =
     let first = c.first.ensures in
     let some : 0 < length row = omega (arith, is.covers, c.requires.network.some) in
     let here =
-    subst (IsWithin (MOST_TERM + (length c.args.rows.now + 1) * MOST_VALUE)) (sym first)
+    subst (IsWithin (MOST_TARGET_TERM + (length c.args.rows.now + 1) * MOST_CHAIN_VALUE)) (sym first)
     (c.in_ok-row.ensures.within 0 (pos 0) some) in
     let few = c.is_sound.ensures.sound.pairings in
-    let most : MOST_TERM + (length c.args.rows.now + 1) * MOST_VALUE ≤ MOST_LEAST =
+    let most : MOST_TARGET_TERM + (length c.args.rows.now + 1) * MOST_CHAIN_VALUE ≤ MOST_LEAST =
     omega (arith, few, c.requires.all) in
     let within =
-    within-more (MOST_TERM + (length c.args.rows.now + 1) * MOST_VALUE) MOST_LEAST least most here in
+    within-more (MOST_TARGET_TERM + (length c.args.rows.now + 1) * MOST_CHAIN_VALUE) MOST_LEAST least most here in
     let fits : FitsSigned w64 least = search rules in
     let told : to_z w64 (of_z w64 least) ≡ least = to_z-of_z w64 least fits in
     subst (IsLeastOf problem c.args.prices.now c.args.k) (sym told) (record {

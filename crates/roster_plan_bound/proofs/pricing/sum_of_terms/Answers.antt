@@ -1,7 +1,7 @@
 use Rattle.std.proofs.Common.{◌≡◌, ℕ, ◌+◌, ◌-◌, ◌≤◌, length, ℤ, pos, ◌+ℤ◌, ◌≤ℤ◌, ap, ◌∙◌, subst, sym, arith, w64, to_z, of_z, FitsSigned, rules}
 use Rattle.std.proofs.lemmas.Int.{ints, to_z-of_z}
 use Rattle.roster_cost.specs.Amounts.{IsWithin}
-use Rattle.roster_plan_bound.specs.declared.parts.TheConstants.{MOST_PRICE}
+use Rattle.roster_plan_bound.specs.declared.parts.TheConstants.{MOST_PLAN_PRICE}
 use Rattle.roster_plan_bound.specs.Reduced.{price_at, shares_behind, IsTermOf}
 use Rattle.roster_plan_bound.proofs.ShareLemmas.{nothing_behind, one_more}
 use Rattle.roster_plan_bound.proofs.pricing.sum_of_terms.Goals as goal
@@ -35,7 +35,7 @@ loop-back-preserved c =
     omega (arith, c.loop-back-test.true) in
     let place : length c.pairings-count.result.now - 1 - c.loop-back.back ≡ next = omega arith in
     let price : ℤ = price_at c.args.prices.now (length c.pairings-count.result.now - 1 - c.loop-back.back) in
-    let price_within : IsWithin MOST_PRICE price =
+    let price_within : IsWithin MOST_PLAN_PRICE price =
     c.requires.within (length c.pairings-count.result.now - 1 - c.loop-back.back) (pos 0)
     (omega (arith, count, c.requires.covers, c.loop-back-test.true)) in
     let price_fits : FitsSigned w64 price = search rules in

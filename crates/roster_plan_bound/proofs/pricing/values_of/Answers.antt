@@ -5,7 +5,7 @@ use Rattle.std.proofs.lemmas.List.{length_push}
 use Rattle.std.proofs.lemmas.List.Elements.{All-push}
 use Rattle.roster_model.specs.Problem.{units_of}
 use Rattle.roster_cost.specs.Amounts.{IsWithin}
-use Rattle.roster_plan_bound.specs.declared.parts.TheConstants.{MOST_PRICE, MOST_VALUE, PARTS}
+use Rattle.roster_plan_bound.specs.declared.parts.TheConstants.{MOST_PLAN_PRICE, MOST_CHAIN_VALUE, PARTS}
 use Rattle.roster_plan_bound.specs.Reduced.{price_at}
 use Rattle.roster_plan_bound.proofs.RowLemmas.{each_more}
 use Rattle.roster_plan_bound.proofs.pricing.values_of.Goals as goal
@@ -19,7 +19,7 @@ told c =
 
 value_here : (c : goal.In_ok-push) → c.value_of.result ≡ (pos PARTS *ℤ units_of c.args.problem.now c.args.k c.loop-p.p) -ℤ price_at c.args.prices.now c.loop-p.p
 value_here c =
-    let within : IsWithin MOST_PRICE (price_at c.args.prices.now c.loop-p.p) =
+    let within : IsWithin MOST_PLAN_PRICE (price_at c.args.prices.now c.loop-p.p) =
     c.requires.within c.loop-p.p (pos 0) c.loop-p-test.true in
     let fits : FitsSigned w64 (price_at c.args.prices.now c.loop-p.p) = search rules in
     c.value_of.ensures.value ∙ ap (λ y. (pos PARTS *ℤ units_of c.args.problem.now c.args.k c.loop-p.p) -ℤ y) (to_z-of_z w64 (price_at c.args.prices.now c.loop-p.p) fits)
@@ -36,5 +36,5 @@ loop-p-preserved c =
           (λ q v. v ≡ (pos PARTS *ℤ units_of c.args.problem.now c.args.k q) -ℤ price_at c.args.prices.now q)
           (pos 0) c.loop-p.p c.loop-p.values.items c.push.new.self.items value pushed inv.long inv.each
           (told c ∙ value_here c);
-      within = subst (All (IsWithin MOST_VALUE)) (sym pushed) (All-push (IsWithin MOST_VALUE) c.loop-p.values.items value inv.within (subst (IsWithin MOST_VALUE) (sym (told c)) c.value_of.ensures.within));
+      within = subst (All (IsWithin MOST_CHAIN_VALUE)) (sym pushed) (All-push (IsWithin MOST_CHAIN_VALUE) c.loop-p.values.items value inv.within (subst (IsWithin MOST_CHAIN_VALUE) (sym (told c)) c.value_of.ensures.within));
     }

@@ -2,7 +2,7 @@ use Rattle.std.proofs.Common.{◌≡◌, ℕ, ◌<◌, length, pos, ◌-ℤ◌, 
 use Rattle.std.specs.Prelude.{All}
 use Rattle.roster_cost.specs.Amounts.{IsWithin}
 use Rattle.roster_model.specs.Problem.{units_of}
-use Rattle.roster_plan_bound.specs.declared.parts.TheConstants.{MOST_VALUE, PARTS}
+use Rattle.roster_plan_bound.specs.declared.parts.TheConstants.{MOST_CHAIN_VALUE, PARTS}
 use Rattle.roster_plan_bound.specs.Chains.{value_at}
 use Rattle.roster_plan_bound.specs.Reduced.{price_at}
 use Rattle.roster_plan_bound.proofs.pricing.values_of.Given as goal
@@ -13,5 +13,5 @@ invariant-loop-p l = record {
   long : length l.values.items ≡ l.p;
   each : (q : ℕ) → q < l.p
       → value_at l.values.items q ≡ (pos PARTS *ℤ units_of l.problem l.k q) -ℤ price_at l.prices q;
-  within : All (IsWithin MOST_VALUE) l.values.items;
+  within : All (IsWithin MOST_CHAIN_VALUE) l.values.items;
 }

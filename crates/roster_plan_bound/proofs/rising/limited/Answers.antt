@@ -4,7 +4,7 @@ use Rattle.std.proofs.lemmas.Int.{to_z-of_z}
 use Rattle.std.proofs.lemmas.List.{length_push}
 use Rattle.std.proofs.lemmas.List.Elements.{All-push}
 use Rattle.roster_cost.specs.Amounts.{IsWithin}
-use Rattle.roster_plan_bound.specs.declared.parts.TheConstants.{MOST_PRICE}
+use Rattle.roster_plan_bound.specs.declared.parts.TheConstants.{MOST_PLAN_PRICE}
 use Rattle.roster_plan_bound.proofs.rising.limited.Goals as goal
 
 pub loop-p-preserved : goal.loop-p-preserved
@@ -17,5 +17,5 @@ loop-p-preserved c =
     let told : price ≡ c.limited_price.result = to_z-of_z w64 c.limited_price.result fits in
     record {
       long = ap length pushed ∙ length_push c.loop-p.prices.items price ∙ ap (λ n. n + 1) inv.long;
-      within = subst (All (IsWithin MOST_PRICE)) (sym pushed) (All-push (IsWithin MOST_PRICE) c.loop-p.prices.items price inv.within (subst (IsWithin MOST_PRICE) (sym told) within));
+      within = subst (All (IsWithin MOST_PLAN_PRICE)) (sym pushed) (All-push (IsWithin MOST_PLAN_PRICE) c.loop-p.prices.items price inv.within (subst (IsWithin MOST_PLAN_PRICE) (sym told) within));
     }

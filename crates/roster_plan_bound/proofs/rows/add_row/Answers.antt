@@ -6,7 +6,7 @@ use Rattle.roster_model.specs.Problem.{Problem}
 use Rattle.roster_model.specs.Rules.{is_among}
 use Rattle.roster_cost.specs.Amounts.{IsWithin}
 use Rattle.roster_plan_bound.specs.declared.network.Network.{Network}
-use Rattle.roster_plan_bound.specs.declared.parts.TheConstants.{MOST_AMOUNT, MOST_TERM, MOST_VALUE}
+use Rattle.roster_plan_bound.specs.declared.parts.TheConstants.{MOST_AMOUNT, MOST_TARGET_TERM, MOST_CHAIN_VALUE}
 use Rattle.roster_plan_bound.specs.Chains.{followers_of, IsRow, IsTail}
 use Rattle.roster_plan_bound.proofs.RowLemmas.{follower_alone, rows_more, tails_more, All-within-more}
 use Rattle.roster_plan_bound.proofs.rows.add_row.Goals as goal
@@ -75,12 +75,12 @@ row_behind-requires-clause-near c =
     let count = ap length c.pairings-count.ensures.value in
     let from : ℕ = c.all_from-from.result in
     let long = ap length c.deref.ensures.value ∙ inv.long in
-    let tail : All (IsWithin (MOST_TERM + length c.args.tails.now.items * MOST_VALUE)) c.index-tail.result.now =
-    subst (All (IsWithin (MOST_TERM + length c.args.tails.now.items * MOST_VALUE)))
+    let tail : All (IsWithin (MOST_TARGET_TERM + length c.args.tails.now.items * MOST_CHAIN_VALUE)) c.index-tail.result.now =
+    subst (All (IsWithin (MOST_TARGET_TERM + length c.args.tails.now.items * MOST_CHAIN_VALUE)))
     (sym c.index-tail.ensures)
     (inv.are_tails.within (length c.pairings-count.result.now - from) c.index-tail.result.now
     (omega (arith, count, inv.longer, c.requires.some, c.all_from-from.ensures))) in
-    All-within-more (MOST_TERM + length c.args.tails.now.items * MOST_VALUE) _ c.index-tail.result.now
+    All-within-more (MOST_TARGET_TERM + length c.args.tails.now.items * MOST_CHAIN_VALUE) _ c.index-tail.result.now
     (omega (arith, long, inv.longer)) tail
 
 pub longer_tail-requires-clause-row : goal.longer_tail-requires-clause-row
@@ -97,7 +97,7 @@ pub longer_tail-requires-clause-few : goal.longer_tail-requires-clause-few
 longer_tail-requires-clause-few c =
     let long = ap length c.deref.ensures.value ∙ c.requires.so_far.long in
     let few = c.is_sound.ensures.sound.pairings in
-    All-within-more (MOST_TERM + (length c.deref.result.now + 1) * MOST_VALUE) MOST_AMOUNT c.in_ok-row.row
+    All-within-more (MOST_TARGET_TERM + (length c.deref.result.now + 1) * MOST_CHAIN_VALUE) MOST_AMOUNT c.in_ok-row.row
     (omega (arith, long, few, c.requires.some)) c.in_ok-row.ensures.within
 
 pub longer_tail-requires-clause-tail : goal.longer_tail-requires-clause-tail
@@ -122,10 +122,10 @@ returns c =
     let below : c.args.back < length problem.pairings = omega (arith, count, c.requires.some) in
     let followers = followers_found problem network (length c.pairings-count.result.now) c.args.back c.index.result.now count c.requires.network.covers below c.index.ensures in
     let row = subst (λ first. IsRow network values first c.in_ok-row.row) followers c.in_ok-row.ensures.row in
-    let most : ℕ = MOST_TERM + (length c.args.rows.now.items + 1) * MOST_VALUE in
-    let within : All (IsWithin most) c.in_ok-row.row = subst (λ rs. All (IsWithin (MOST_TERM + (length rs + 1) * MOST_VALUE)) c.in_ok-row.row) c.deref.ensures.value c.in_ok-row.ensures.within in
-    let tail : All (IsWithin (MOST_TERM + length c.args.tails.now.items * MOST_VALUE)) c.index-2.result.now =
-    subst (All (IsWithin (MOST_TERM + length c.args.tails.now.items * MOST_VALUE)))
+    let most : ℕ = MOST_TARGET_TERM + (length c.args.rows.now.items + 1) * MOST_CHAIN_VALUE in
+    let within : All (IsWithin most) c.in_ok-row.row = subst (λ rs. All (IsWithin (MOST_TARGET_TERM + (length rs + 1) * MOST_CHAIN_VALUE)) c.in_ok-row.row) c.deref.ensures.value c.in_ok-row.ensures.within in
+    let tail : All (IsWithin (MOST_TARGET_TERM + length c.args.tails.now.items * MOST_CHAIN_VALUE)) c.index-2.result.now =
+    subst (All (IsWithin (MOST_TARGET_TERM + length c.args.tails.now.items * MOST_CHAIN_VALUE)))
     (sym c.index-2.ensures)
     (inv.are_tails.within c.args.back c.index-2.result.now (omega (arith, inv.longer))) in
     record {
@@ -135,8 +135,8 @@ returns c =
           ∙ ap (λ n. n + 1) inv.long;
       are_tails = tails_more problem network values c.args.tails.now.items c.push-2.new.self.items c.in_ok-longer.longer inv.are_tails c.in_ok-push-2.ensures.items
           (λ few. subst (λ n. IsTail network values n c.in_ok-longer.longer) (omega (arith, count, inv.longer, below)) c.in_ok-longer.ensures.tail)
-          (All-within-more (most + MOST_VALUE) (MOST_TERM + (length c.args.tails.now.items + 1) * MOST_VALUE) c.in_ok-longer.longer (omega (arith, inv.long, inv.longer))
-          (c.in_ok-longer.ensures.within most within (All-within-more (MOST_TERM + length c.args.tails.now.items * MOST_VALUE) (most + MOST_VALUE) c.index-2.result.now (omega (arith, inv.long, inv.longer)) tail)));
+          (All-within-more (most + MOST_CHAIN_VALUE) (MOST_TARGET_TERM + (length c.args.tails.now.items + 1) * MOST_CHAIN_VALUE) c.in_ok-longer.longer (omega (arith, inv.long, inv.longer))
+          (c.in_ok-longer.ensures.within most within (All-within-more (MOST_TARGET_TERM + length c.args.tails.now.items * MOST_CHAIN_VALUE) (most + MOST_CHAIN_VALUE) c.index-2.result.now (omega (arith, inv.long, inv.longer)) tail)));
       longer =
           ap length c.in_ok-push-2.ensures.items ∙ length_push c.args.tails.now.items c.in_ok-longer.longer
           ∙ ap (λ n. n + 1) inv.longer;

@@ -2,7 +2,7 @@ use Rattle.std.proofs.Common.{◌≡◌, ◌+◌, false, length, subst, sym, ap,
 use Rattle.std.specs.Prelude.{All}
 use Rattle.roster_model.specs.Rules.{is_among}
 use Rattle.roster_cost.specs.Amounts.{IsWithin}
-use Rattle.roster_plan_bound.specs.declared.parts.TheConstants.{MOST_VALUE}
+use Rattle.roster_plan_bound.specs.declared.parts.TheConstants.{MOST_CHAIN_VALUE}
 use Rattle.roster_plan_bound.specs.Chains.{value_at, IsTail}
 use Rattle.roster_plan_bound.proofs.RowLemmas.{lowered, tail_more, tail_same, value_within}
 use Rattle.roster_plan_bound.proofs.rows.longer_tail.Goals as goal
@@ -46,8 +46,8 @@ returns-clause-within c most behind before =
     let copied : c.in_ok-longer.longer ≡ c.args.tail.now = c.in_ok-longer.ensures ∙ c.all.ensures in
     elim c.if-has.branch [
       | then-has w ↦
-          subst (All (IsWithin (most + MOST_VALUE))) (sym w.longer-is)
+          subst (All (IsWithin (most + MOST_CHAIN_VALUE))) (sym w.longer-is)
           (w.relax.ensures.within most behind
-          (subst (All (IsWithin (most + MOST_VALUE))) (sym copied) before))
-      | else-has w ↦ subst (All (IsWithin (most + MOST_VALUE))) (sym (w.longer-is ∙ copied)) before
+          (subst (All (IsWithin (most + MOST_CHAIN_VALUE))) (sym copied) before))
+      | else-has w ↦ subst (All (IsWithin (most + MOST_CHAIN_VALUE))) (sym (w.longer-is ∙ copied)) before
     ]

@@ -4,7 +4,7 @@ use Rattle.std.proofs.lemmas.Option.{get_or_from_slice_get, slice_get-get_or}
 use Rattle.std.proofs.lemmas.Bool.{cases_eq, cases_lt, false≢true}
 use Rattle.std.proofs.lemmas.Int.{ints}
 use Rattle.roster_cost.specs.Amounts.{IsWithin}
-use Rattle.roster_plan_bound.specs.declared.parts.TheConstants.{MOST_AMOUNT, MOST_LEAST, MOST_TERM, MOST_VALUE}
+use Rattle.roster_plan_bound.specs.declared.parts.TheConstants.{MOST_AMOUNT, MOST_LEAST, MOST_TARGET_TERM, MOST_CHAIN_VALUE}
 use Rattle.roster_plan_bound.specs.Chains.{next_state, value_at}
 use Rattle.roster_plan_bound.proofs.RowLemmas.{lowered, row_is, row_small, value_within, All-within-more}
 use Rattle.roster_plan_bound.proofs.rows.row_behind.Goals as goal
@@ -24,11 +24,11 @@ row_found c row at =
     c.index-rows-count.is ∙ get_or_from_slice_get c.args.rows.now (length c.pairings-count.result.now - 1 - c.in-Some.q) row c.index-rows-count.result there
 
 row_within : (c : goal.After-relax)
-    → All (IsWithin (MOST_TERM + length c.args.rows.now * MOST_VALUE)) c.index-rows-count.result
+    → All (IsWithin (MOST_TARGET_TERM + length c.args.rows.now * MOST_CHAIN_VALUE)) c.index-rows-count.result
 row_within c =
     let count = ap length c.pairings-count.ensures.value in
     let done = c.requires.done c.in-Some.q c.in-Some.ensures.place.2 c.in-Some.ensures.place.1 in
-    subst (All (IsWithin (MOST_TERM + length c.args.rows.now * MOST_VALUE))) (sym c.index-rows-count.is)
+    subst (All (IsWithin (MOST_TARGET_TERM + length c.args.rows.now * MOST_CHAIN_VALUE))) (sym c.index-rows-count.is)
     (c.requires.rows.within (length c.pairings-count.result.now - 1 - c.in-Some.q) c.index-rows-count.result (omega (arith, count, done)))
 
 pub relax-requires-clause-same : goal.relax-requires-clause-same
@@ -85,11 +85,11 @@ loop-q-preserved c =
             omega (arith, ints, led, now)
       ];
       within =
-          All-within-more ((MOST_TERM + length c.args.rows.now * MOST_VALUE) + MOST_VALUE)
-          (MOST_TERM + (length c.args.rows.now + 1) * MOST_VALUE) c.relax.new.self (omega arith)
-          (c.relax.ensures.within (MOST_TERM + length c.args.rows.now * MOST_VALUE)
+          All-within-more ((MOST_TARGET_TERM + length c.args.rows.now * MOST_CHAIN_VALUE) + MOST_CHAIN_VALUE)
+          (MOST_TARGET_TERM + (length c.args.rows.now + 1) * MOST_CHAIN_VALUE) c.relax.new.self (omega arith)
+          (c.relax.ensures.within (MOST_TARGET_TERM + length c.args.rows.now * MOST_CHAIN_VALUE)
           (row_within c)
-          (All-within-more (MOST_TERM + (length c.args.rows.now + 1) * MOST_VALUE) ((MOST_TERM + length c.args.rows.now * MOST_VALUE) + MOST_VALUE) c.loop-q.row (omega arith) inv.within));
+          (All-within-more (MOST_TARGET_TERM + (length c.args.rows.now + 1) * MOST_CHAIN_VALUE) ((MOST_TARGET_TERM + length c.args.rows.now * MOST_CHAIN_VALUE) + MOST_CHAIN_VALUE) c.loop-q.row (omega arith) inv.within));
     }
 
 pub returns-clause-row : goal.returns-clause-row

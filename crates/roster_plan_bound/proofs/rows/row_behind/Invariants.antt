@@ -3,7 +3,7 @@ use Rattle.std.specs.Prelude.{All, slice_get, slice_index}
 use Rattle.roster_model.specs.declared.limits.TheConstants.{MOST_PAIRINGS}
 use Rattle.roster_model.specs.Rules.{is_among}
 use Rattle.roster_cost.specs.Amounts.{IsWithin}
-use Rattle.roster_plan_bound.specs.declared.parts.TheConstants.{MOST_TERM, MOST_VALUE}
+use Rattle.roster_plan_bound.specs.declared.parts.TheConstants.{MOST_TARGET_TERM, MOST_CHAIN_VALUE}
 use Rattle.roster_plan_bound.specs.Chains.{next_state, value_at}
 use Rattle.roster_plan_bound.proofs.rows.row_behind.Given as goal
 
@@ -15,7 +15,7 @@ invariant-loop-q l = record {
   led : (q : ℕ) (row : List ℤ) → q < l.from → is_among l.first q ≡ true
       → slice_get l.rows (length l.problem.pairings - 1 - q) ≡ Some row
       → (f : ℕ) → f < length l.network.terms.items → value_at l.row f ≤ℤ (value_at l.values q +ℤ value_at row (next_state (length l.network.terms.items) f (slice_index l.network.steps.items q)));
-  within : All (IsWithin (MOST_TERM + (length l.rows + 1) * MOST_VALUE)) l.row;
+  within : All (IsWithin (MOST_TARGET_TERM + (length l.rows + 1) * MOST_CHAIN_VALUE)) l.row;
 }
 
 abbrev pub decreases-loop-q : goal.decreases-loop-q

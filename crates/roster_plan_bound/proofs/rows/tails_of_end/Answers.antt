@@ -1,6 +1,6 @@
 use Rattle.std.proofs.Common.{◌≡◌, ◌+◌, ◌*◌, length, refl, subst, sym, ap, ◌∙◌, arith}
 use Rattle.std.proofs.lemmas.List.{length_push}
-use Rattle.roster_plan_bound.specs.declared.parts.TheConstants.{MOST_TERM, MOST_VALUE}
+use Rattle.roster_plan_bound.specs.declared.parts.TheConstants.{MOST_TARGET_TERM, MOST_CHAIN_VALUE}
 use Rattle.roster_plan_bound.specs.Chains.{IsTail}
 use Rattle.roster_plan_bound.specs.Networks.{AreTails}
 use Rattle.roster_plan_bound.proofs.RowLemmas.{rows_none, tails_more, tails_none, All-within-more}
@@ -20,7 +20,7 @@ returns c =
       long = refl;
       are_tails = tails_more problem network values c.new-tails.result.items c.push.new.self.items c.in_ok-end.end none c.in_ok-push.ensures.items
           (λ few. subst (λ n. IsTail network values n c.in_ok-end.end) (omega (arith, zero)) c.in_ok-end.ensures.tail)
-          (All-within-more MOST_TERM (MOST_TERM + (length c.new-tails.result.items + 1) * MOST_VALUE) c.in_ok-end.end (omega arith) c.in_ok-end.ensures.within);
+          (All-within-more MOST_TARGET_TERM (MOST_TARGET_TERM + (length c.new-tails.result.items + 1) * MOST_CHAIN_VALUE) c.in_ok-end.end (omega arith) c.in_ok-end.ensures.within);
       longer =
           ap length c.in_ok-push.ensures.items
           ∙ length_push c.new-tails.result.items c.in_ok-end.end ∙ ap (λ n. n + 1) zero;

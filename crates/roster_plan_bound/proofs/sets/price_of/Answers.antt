@@ -5,7 +5,7 @@ use Rattle.roster_model.proofs.CostLemmas.{total-nil, total-cons}
 use Rattle.roster_model.proofs.SetLemmas.{All-is_among}
 use Rattle.roster_values.specs.Set.{places_from}
 use Rattle.roster_cost.specs.Amounts.{IsWithin}
-use Rattle.roster_plan_bound.specs.declared.parts.TheConstants.{MOST_PRICE}
+use Rattle.roster_plan_bound.specs.declared.parts.TheConstants.{MOST_PLAN_PRICE}
 use Rattle.roster_plan_bound.specs.Reduced.{price_at}
 use Rattle.roster_plan_bound.proofs.sets.price_of.Goals as goal
 
@@ -18,7 +18,7 @@ pub overflow_add-sum : goal.overflow_add-sum
 overflow_add-sum c =
     let inside : c.in-Some.p < length c.args.prices.now = All-is_among (λ p. p < length c.args.prices.now) c.args.set.now c.in-Some.p c.requires.places c.in-Some.ensures.place.2 in
     let price : ℤ = price_at c.args.prices.now c.in-Some.p in
-    let within : IsWithin MOST_PRICE price = c.requires.prices c.in-Some.p (pos 0) inside in
+    let within : IsWithin MOST_PLAN_PRICE price = c.requires.prices c.in-Some.p (pos 0) inside in
     let fits : FitsSigned w64 price = search rules in
     let told : to_z w64 (of_z w64 price) ≡ price = to_z-of_z w64 price fits in
     let low = c.loop-p.invariant.within.0 in
@@ -36,7 +36,7 @@ loop-p-preserved c =
     let inside : p < length c.args.prices.now =
     All-is_among
     (λ q. q < length c.args.prices.now) c.args.set.now p c.requires.places c.in-Some.ensures.place.2 in
-    let within : IsWithin MOST_PRICE price = c.requires.prices p (pos 0) inside in
+    let within : IsWithin MOST_PLAN_PRICE price = c.requires.prices p (pos 0) inside in
     let fits : FitsSigned w64 price = search rules in
     let told : to_z w64 (of_z w64 price) ≡ price = to_z-of_z w64 price fits in
     let before : ℤ = to_z w64 c.loop-p.sum-bits in

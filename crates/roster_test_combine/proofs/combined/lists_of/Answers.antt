@@ -4,24 +4,24 @@ use Rattle.std.proofs.lemmas.List.{map_push}
 use Rattle.std.proofs.lemmas.List.Elements.{All-nil, All-push, All-same}
 use Rattle.roster_model.specs.Problem.{Problem}
 use Rattle.roster_lines_table.specs.Entries.{Entry}
-use Rattle.roster_subtreepool.specs.States.{Part}
+use Rattle.roster_subtreepool.specs.States.{SettledSpan}
 use Rattle.roster_combine_workers.specs.Parts.{AreSettled, IsSettled}
 use Rattle.roster_test_combine.proofs.combined.lists_of.Goals as goal
 use Rattle.roster_test_combine.proofs.combined.lists_of.Goals.{in-First+in_ok-push-in-First, in-Second+in_ok-push-in-Second+in_ok-push-in-Second-2, in-Nobody}
 
-abbrev items : Vec Part Global → List Part
+abbrev items : Vec SettledSpan Global → List SettledSpan
 items list = list.items
 
-abbrev lists_in : Vec (Vec Part Global) Global → List (Vec Part Global)
+abbrev lists_in : Vec (Vec SettledSpan Global) Global → List (Vec SettledSpan Global)
 lists_in lists = lists.items
 
-none : (problem : Problem) (table : List (List Entry)) (lists : List (Vec Part Global)) → lists ≡ []
+none : (problem : Problem) (table : List (List Entry)) (lists : List (Vec SettledSpan Global)) → lists ≡ []
     → All (AreSettled problem table) (map items lists)
 none problem table lists is =
     All-same (AreSettled problem table) (map items lists) [] (ap (map items) is)
     (All-nil (AreSettled problem table))
 
-pushed : (problem : Problem) (table : List (List Entry)) (old lists : List (Vec Part Global)) (list : Vec Part Global) → lists ≡ old ++ list ∷ []
+pushed : (problem : Problem) (table : List (List Entry)) (old lists : List (Vec SettledSpan Global)) (list : Vec SettledSpan Global) → lists ≡ old ++ list ∷ []
     → All (AreSettled problem table) (map items old) → AreSettled problem table list.items
     → All (AreSettled problem table) (map items lists)
 pushed problem table old lists list is all one =

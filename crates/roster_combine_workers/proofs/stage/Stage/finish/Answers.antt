@@ -5,7 +5,7 @@ use Rattle.std.proofs.lemmas.List.{get_or-map, get_or-set_same, length-map, leng
 use Rattle.std.proofs.Math.Seq.{map-set_same}
 use Rattle.roster_model.specs.Rosters.{Key}
 use Rattle.roster_subtreepool_spans.specs.Spans.{Span}
-use Rattle.roster_subtreepool.specs.States.{Part, Played, held}
+use Rattle.roster_subtreepool.specs.States.{SettledSpan, Played, held}
 use Rattle.roster_subtreepool.proofs.TimesLemmas.{held_within}
 use Rattle.roster_incumbent.specs.Kept.{less_of}
 use Rattle.roster_combine_workers.specs.Parts.{IsSettled, Task}
@@ -13,7 +13,7 @@ use Rattle.roster_combine_workers.specs.Replays.{IsReplaying, Replay}
 use Rattle.roster_combine_workers.proofs.ReplayLemmas.{replays-finish}
 use Rattle.roster_combine_workers.proofs.stage.Stage.finish.Goals as goal
 
-abbrev items : Vec Part Global → List Part
+abbrev items : Vec SettledSpan Global → List SettledSpan
 items list = list.items
 
 -- room in a list changes none
@@ -26,7 +26,7 @@ invariant_of-self g c =
       c.self.invariant.0,
       c.self.invariant.1,
       subst
-          (λ (ls : List (List Part)). IsReplaying task c.self.inside.pool.state ls (arc_value c.self.inside.best))
+          (λ (ls : List (List SettledSpan)). IsReplaying task c.self.inside.pool.state ls (arc_value c.self.inside.best))
           (sym kept) c.self.invariant.2,
       c.self.invariant.3,
       length-set lists worker c.room_for.new.list ∙ c.self.invariant.4,
@@ -42,7 +42,7 @@ invariant_of-self-in-Err-finish g c =
       c.self.invariant.0,
       c.self.invariant.1,
       subst (λ (pool : Played). IsReplaying task pool.state (map items (slice_set lists worker c.room_for.new.list)) (arc_value c.self.inside.best)) (sym c.in-Err-finish.ensures.same.0)
-          (subst (λ (ls : List (List Part)). IsReplaying task c.self.inside.pool.state ls (arc_value c.self.inside.best)) (sym kept) c.self.invariant.2),
+          (subst (λ (ls : List (List SettledSpan)). IsReplaying task c.self.inside.pool.state ls (arc_value c.self.inside.best)) (sym kept) c.self.invariant.2),
       c.self.invariant.3,
       length-set lists worker c.room_for.new.list ∙ c.self.invariant.4,
       c.self.invariant.5,
@@ -60,7 +60,7 @@ invariant_of-self-in-Ok-finish g c =
     let replaying : IsReplaying task old (map items lists) known = c.self.invariant.2 in
     let span : Span = c.args.done.piece in
     let best : Key = arc_value c.args.done.best in
-    let part : Part = record { span = span; best = best } in
+    let part : SettledSpan = record { span = span; best = best } in
     let room = c.room_for.new.list in
     let pushed = c.push_reserved.new.self in
     let has : held old worker ≡ Some span =
@@ -80,7 +80,7 @@ invariant_of-self-in-Ok-finish g c =
     ∙ get_or-set_same lists worker room c.index_mut-in-Ok-finish.result.now within in
     let more : pushed.items ≡ slice_index_or (map items lists) worker [] ++ part ∷ [] =
     c.push_reserved.ensures.items
-    ∙ ap₂ (λ (xs : List Part) (x : Part). xs ++ x ∷ []) (ap items before ∙ own) (ap₂ (λ (s : Span) (b : Key). record { span = s; best = b }) settled.0 settled.1) in
+    ∙ ap₂ (λ (xs : List SettledSpan) (x : SettledSpan). xs ++ x ∷ []) (ap items before ∙ own) (ap₂ (λ (s : Span) (b : Key). record { span = s; best = b }) settled.0 settled.1) in
     let final : map items (slice_set (slice_set lists worker room) worker pushed) ≡ slice_set (map items lists) worker (slice_index_or (map items lists) worker [] ++ part ∷ []) =
     ap (map items) (set-set lists worker room pushed) ∙ map-set items lists worker pushed
     ∙ ap (slice_set (map items lists) worker) more in
@@ -89,7 +89,7 @@ invariant_of-self-in-Ok-finish g c =
     let finished = replays-finish task old next worker part (map items lists) known replaying has c.in-Ok-finish.ensures.adds.state is_settled in (
       c.self.invariant.0,
       c.self.invariant.1,
-      subst (λ (ls : List (List Part)). IsReplaying task next ls (arc_value c.keep_less.new.best)) (sym final)
+      subst (λ (ls : List (List SettledSpan)). IsReplaying task next ls (arc_value c.keep_less.new.best)) (sym final)
           (subst (λ (key : Key). IsReplaying task next (slice_set (map items lists) worker (slice_index_or (map items lists) worker [] ++ part ∷ [])) key) (sym less) finished),
       c.self.invariant.3,
       length-set (slice_set lists worker room) worker pushed ∙ length-set lists worker room

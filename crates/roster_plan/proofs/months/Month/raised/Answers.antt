@@ -5,7 +5,7 @@ use Rattle.std.proofs.lemmas.Result.{IfOk-weaker}
 use Rattle.roster_model.specs.Rosters.{Key}
 use Rattle.roster_model.specs.Settled.{IsHeld, IsNotAfter}
 use Rattle.roster_plan_bound.specs.Homes.{IsHome, IsHomeBound}
-use Rattle.roster_plan.specs.declared.parts.Part.{Part}
+use Rattle.roster_plan.specs.declared.parts.BasePlan.{BasePlan}
 use Rattle.roster_plan.specs.Months.{HasBound}
 use Rattle.roster_plan.specs.Parts.{IsPart}
 use Rattle.roster_model.specs.declared.limits.TheConstants.{MOST_BASES}
@@ -30,7 +30,7 @@ returns-then-bound-part-clause-raised g c =
     let stands =
     slice_get-get_or parts c.args.base part
     (omega (arith, c.requires.base, c.requires.month.parts.covers))
-    ∙ ap (λ (p : Part). Some p) (sym c.index-part.ensures) in
+    ∙ ap (λ (p : BasePlan). Some p) (sym c.index-part.ensures) in
     has_bound c.args.base bound c.args.self part stands least
 
 pub with-requires-clause-part : goal.with-requires-clause-part

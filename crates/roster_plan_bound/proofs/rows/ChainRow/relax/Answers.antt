@@ -3,9 +3,9 @@ use Rattle.std.specs.Prelude.{All}
 use Rattle.std.proofs.Math.Seq.{take-append_seam}
 use Rattle.std.proofs.lemmas.Int.{to_z-of_z}
 use Rattle.roster_cost.specs.Amounts.{IsWithin}
-use Rattle.roster_plan_bound.specs.declared.parts.TheConstants.{MOST_AMOUNT, MOST_VALUE}
+use Rattle.roster_plan_bound.specs.declared.parts.TheConstants.{MOST_AMOUNT, MOST_CHAIN_VALUE}
 use Rattle.roster_plan_bound.specs.Chains.{next_state, value_at}
-use Rattle.roster_plan_bound.proofs.rows.Row.relax.Goals as goal
+use Rattle.roster_plan_bound.proofs.rows.ChainRow.relax.Goals as goal
 
 pub relax-requires-clause-after : goal.relax-requires-clause-after
 relax-requires-clause-after c =
@@ -58,6 +58,6 @@ returns-clause-through c f inside =
 
 pub returns-clause-within : goal.returns-clause-within
 returns-clause-within c most behind before =
-    subst (All (IsWithin (most + MOST_VALUE))) (sym (new c))
+    subst (All (IsWithin (most + MOST_CHAIN_VALUE))) (sym (new c))
     (c.relax.ensures.within most (subst (All (IsWithin most)) (sym (after c)) behind)
-    (subst (All (IsWithin (most + MOST_VALUE))) (sym (old c)) before))
+    (subst (All (IsWithin (most + MOST_CHAIN_VALUE))) (sym (old c)) before))

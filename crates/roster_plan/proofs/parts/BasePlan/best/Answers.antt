@@ -3,7 +3,7 @@ use Rattle.std.proofs.lemmas.Int.{to_z-of_z}
 use Rattle.roster_plan_bound.specs.Homes.{IsHomeBound}
 use Rattle.roster_plan.proofs.PartLemmas.{best_of_found}
 use Rattle.roster_plan.proofs.ExactLemmas.{best_is_home_bound}
-use Rattle.roster_plan.proofs.parts.Part.best.Goals as goal
+use Rattle.roster_plan.proofs.parts.BasePlan.best.Goals as goal
 
 pub returns-clause-part : goal.returns-clause-part
 returns-clause-part c =

@@ -1,6 +1,6 @@
 use Rattle.std.proofs.Common.{◌≡◌, ◌++◌, map, take}
 use Rattle.roster_desk_reports.specs.Text.{given_by_line, given_by_lines}
-use Rattle.roster_desk_reports.proofs.report.Draft.take_all.Given as goal
+use Rattle.roster_desk_reports.proofs.report.ReportDraft.take_all.Given as goal
 
 -- what the lines so far give
 abbrev pub invariant-loop-line : goal.invariant-loop-line

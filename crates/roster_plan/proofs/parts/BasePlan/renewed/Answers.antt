@@ -5,7 +5,7 @@ use Rattle.roster_model.specs.Settled.{IsHeld}
 use Rattle.roster_model.proofs.KeyLemmas.{key_le-trans}
 use Rattle.roster_plan_bound.specs.Homes.{IsHome, IsHomeBound}
 use Rattle.roster_plan.proofs.PartLemmas.{either_part}
-use Rattle.roster_plan.proofs.parts.Part.renewed.Goals as goal
+use Rattle.roster_plan.proofs.parts.BasePlan.renewed.Goals as goal
 
 pub returns-clause-part : goal.returns-clause-part
 returns-clause-part c =
