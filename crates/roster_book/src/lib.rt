@@ -32,9 +32,6 @@ pub use book::Book;
 pub use code::Code;
 pub use fault::BookFault;
 pub use reading::read_book;
-pub use roster_problem::{
-    Base, Cost, Costs, Duty, DutyList, Holder, Leave, Pairing, Person, Problem, Sector,
-    duties_in_order,
-};
-pub use roster_values::{Command, Name, Places, Roster, Rule, Set, Step, Steps};
+pub use roster_problem::{Duty, Leave, Pairing, Person, Problem, Sector};
+pub use roster_values::{Command, Set, Step};
 pub use roster_watched::Watched;

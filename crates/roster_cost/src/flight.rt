@@ -57,7 +57,7 @@ pub fn pairing_flight(problem: &Problem, k: usize, p: usize) -> u64
 }
 
 /// The minutes of flight of person `k` in the month with the set, fixed duties included.
-pub fn set_flight(problem: &Problem, k: usize, set: &Set) -> u64
+pub(crate) fn set_flight(problem: &Problem, k: usize, set: &Set) -> u64
     requires person { k < length problem.now.persons }
     requires places { All (λ p. p < length problem.now.pairings) set.now }
     ensures value { result ≡ flight_of problem.now k set.now }

@@ -19,11 +19,11 @@ mod laws;
 mod line;
 mod roster;
 
-pub use flight::{fixed_flight, pairing_flight, set_flight};
+pub use flight::{fixed_flight, pairing_flight};
 pub use key::{Key, comes_before};
 pub use laws::{
     keys_are_in_order, lines_are_near, one_pairing_more, order_of_keys, priced_shares_add_up,
     shares_add_up, units_of_set,
 };
-pub use line::{cost_at, line_cost, set_units};
+pub use line::{cost_at, line_cost};
 pub use roster::{cost_without_pairings, roster_cost};

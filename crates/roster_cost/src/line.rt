@@ -11,7 +11,7 @@ use roster_problem::Problem;
 use roster_values::Set;
 
 /// The cost units of the pairings of the set with person `k`.
-pub fn set_units(problem: &Problem, k: usize, set: &Set) -> i64
+pub(crate) fn set_units(problem: &Problem, k: usize, set: &Set) -> i64
     requires { All (λ p. p < length problem.now.pairings) set.now }
     ensures value { result ≡ costs.total (units_of problem.now k) set.now }
     ensures bound { IsWithin most_units result }

@@ -7,7 +7,7 @@ use crate::telling::{refuse, write};
 use roster_book::{BookFault, Command, read_book};
 use roster_desk_arguments::Page;
 use roster_desk_fault::{fault_text, warn_text};
-use roster_desk_words::Status;
+use roster_desk_given::Status;
 use roster_watched::Watched;
 use std::alloc::{AllocError, Global};
 use std::io::Write;

@@ -5,7 +5,8 @@ ghost use Rattle.std.specs.Prelude.{◌≡◌, ◌<◌, length};
 use crate::axis::Axis;
 use crate::bars::push_duty;
 use crate::html::push_text;
-use roster_desk_words::{Asked, Zones, push_all, why_text};
+use roster_desk_given::{Asked, Zones};
+use roster_desk_words::{push_all, why_text};
 use roster_problem::{Problem, open_number};
 use std::alloc::{AllocError, Global};
 

@@ -22,5 +22,5 @@ mod words;
 pub use assigns::assigns_text;
 pub use fault::{ReportFault, Wrong};
 pub use named::{pairing_named, person_named};
-pub use placing::{places_of, read_roster};
+pub use placing::read_roster;
 pub use report::{CrewLine, Report, read_report};

@@ -9,8 +9,8 @@ use Rattle.roster_model.specs.Texts.{fault_text, IsPlanOf, IsReportOf}
 use Rattle.roster_plan.specs.declared.known.Planned.{Planned}
 use Rattle.roster_desk_reports.specs.Given.{HasAll, IsGiven}
 use Rattle.roster_desk_reports.specs.Text.{given_by_text}
-use Rattle.roster_desk_words.specs.declared.status.Status.{Status}
-use Rattle.roster_desk_words.specs.declared.status.Status.TheVariants as statuses
+use Rattle.roster_desk_given.specs.declared.status.Status.{Status}
+use Rattle.roster_desk_given.specs.declared.status.Status.TheVariants as statuses
 
 -- ---- what is written of a plan
 

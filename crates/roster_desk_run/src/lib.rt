@@ -6,5 +6,5 @@
 
 mod running;
 
-pub use roster_desk_words::Status;
+pub use roster_desk_given::Status;
 pub use running::{run, write_planned};

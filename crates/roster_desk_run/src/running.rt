@@ -13,8 +13,8 @@ ghost use Rattle.roster_desk_run.specs.Run.{IsAnswerTo, IsFaultLine, IsFaultless
 ghost use Rattle.roster_desk_run.specs.Run.{IsPlanFrom, IsPlanOfBook, IsStartRefused, IsTextOf};
 
 use roster_book::{Book, BookFault, Command, Watched, read_book};
+use roster_desk_given::Status;
 use roster_desk_reports::{ReportFault, read_roster};
-use roster_desk_words::Status;
 use roster_plan::{Means, Planned, Watcher, plan};
 use roster_problem::Problem;
 use roster_report::{TextFault, write_fault, write_plan, write_report};

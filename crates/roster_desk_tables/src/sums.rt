@@ -4,7 +4,7 @@ ghost use Rattle.std.specs.Prelude.{◌≡◌, ◌<◌, length};
 
 use roster_cost::line_cost;
 use roster_cumulative::{greatest_duty, greatest_flight, month_flight};
-use roster_desk_words::{duties_with, set_with};
+use roster_desk_given::{duties_with, set_with};
 use roster_model::profile::{LONG_RUN, MIDDLE_RUN, SHORT_RUN};
 use roster_problem::Problem;
 use std::alloc::{AllocError, Global};

@@ -6,7 +6,7 @@ use crate::persons::push_person;
 use crate::records::Records;
 use crate::rows::push_rows;
 use crate::{persons, rows};
-use roster_desk_words::Zones;
+use roster_desk_given::Zones;
 use roster_problem::Problem;
 use std::alloc::{AllocError, Global};
 

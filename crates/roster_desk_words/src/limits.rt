@@ -2,9 +2,9 @@
 
 ghost use Rattle.std.specs.Prelude.{◌≡◌, ◌<◌, length};
 
-use crate::persons::duties_with;
 use crate::sentences::counted;
 use crate::words::{day, push_all, push_time};
+use roster_desk_given::duties_with;
 use roster_instants::BaseDays;
 use roster_legal_reasons::{Amount, standing};
 use roster_problem::Problem;

@@ -4,7 +4,7 @@ ghost use Rattle.std.specs.Prelude.{◌<◌, length};
 
 use crate::times::{push_times, times_in_leave, times_of_block, times_of_rest, times_shared};
 use crate::words::{day, duty_name, pairing_name, push_all, push_time, time};
-use crate::zones::Zones;
+use roster_desk_given::Zones;
 use roster_instants::BaseDays;
 use roster_legal_reasons::{
     Amount, DutyInLeave, FewDaysOff, LongBlock, MonthFlight, Reason, RunOfDays, SharedDuties,

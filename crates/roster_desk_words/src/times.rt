@@ -1,7 +1,7 @@
 //! From when to when what is told of lies.
 
 use crate::words::{duty_at, push_all};
-use crate::zones::Zones;
+use roster_desk_given::Zones;
 use roster_instants::Minute;
 use roster_legal_reasons::{DutyInLeave, LongBlock, SharedDuties, ShortRest};
 use roster_problem::{DutyList, Problem};

@@ -2,12 +2,10 @@
 
 ghost use Rattle.std.specs.Prelude.{◌≡◌, ◌<◌, IfOk, length};
 
-use crate::asked::Asked;
-use crate::persons::{broken_with, duties_with};
 use crate::sentences::push_reason;
 use crate::words::push_all;
-use crate::zones::Zones;
 use roster_cost::roster_cost;
+use roster_desk_given::{Asked, Zones, broken_with, duties_with};
 use roster_legal_reasons::Reason;
 use roster_problem::{DutyList, Problem, open_number};
 use std::alloc::{AllocError, Global};

@@ -23,7 +23,7 @@ mod wanted;
 mod wanted_tables;
 
 pub use extend::{LinesFault, lines_between, lines_of, lines_of_pairs, wanted_lines};
-pub use pairs::{Pairs, pairs_of};
+pub use pairs::Pairs;
 pub use pairs_by_threads::all_pairs;
 pub use shared::all_lines;
 pub use table::{TableFault, table_of};

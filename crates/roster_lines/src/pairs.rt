@@ -22,7 +22,7 @@ pub struct Pairs {
 }
 
 /// Judges each pairing alone, and then each two of those that are legal.
-pub fn pairs_of(
+pub(crate) fn pairs_of(
     alloc: Global,
     judge: &mut Judge<'_>,
     problem: &Problem,

@@ -42,4 +42,4 @@ mod whole;
 pub use known::Planned;
 pub use means::Means;
 pub use planning::plan;
-pub use watching::{Phase, Unwatched, Watcher};
+pub use watching::{Phase, Watcher};

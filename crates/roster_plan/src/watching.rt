@@ -51,19 +51,3 @@ pub trait Watcher {
         requires pairing { p < length problem.now.pairings }
         requires person { k < length problem.now.persons };
 }
-
-/// Nobody, for a plan of which only the end is wanted.
-#[derive(Clone, Copy)]
-pub struct Unwatched;
-
-impl Watcher for Unwatched {
-    fn tell(
-        &mut self,
-        _problem: &Problem,
-        _base: Option<usize>,
-        _step: Phase,
-        _planned: &Planned,
-    ) {}
-
-    fn leave_out(&mut self, _problem: &Problem, _p: usize, _k: usize) {}
-}

@@ -4,10 +4,10 @@
 pub const MOST_SCALE: u32 = 16384;
 
 /// What a line costs more than the empty one, or less, at most, in parts of a cost unit.
-pub const MOST_EXTRA: u64 = 1 << 52;
+pub(crate) const MOST_EXTRA: u64 = 1 << 52;
 
 /// A dual price, at most, and below 0, in parts of a cost unit.
-pub const MOST_DUAL_PRICE: u64 = 1 << 42;
+pub(crate) const MOST_DUAL_PRICE: u64 = 1 << 42;
 
 /// What a line costs more than the empty one less the prices of its pairings, at most, and below 0, in parts
 /// of a cost unit.

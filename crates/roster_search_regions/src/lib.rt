@@ -36,7 +36,7 @@ mod sums;
 mod tree;
 mod writer;
 
-pub use choice::{Choice, MOST_DUAL_PRICE, MOST_EXTRA, MOST_SCALE, MOST_VALUE};
+pub use choice::{Choice, MOST_SCALE, MOST_VALUE};
 pub use choices::Choices;
 pub use dual_prices::{DualPrices, scaled_penalty};
 pub use reading::number_at;

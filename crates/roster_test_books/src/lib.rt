@@ -3,9 +3,7 @@
 
 ghost use Rattle.std.specs.Prelude.{◌<◌, All, IfSome, length};
 
-use roster_book::{BookFault, Command, Watched, read_book};
-use roster_problem::Problem;
-use roster_values::Set;
+use roster_book::{BookFault, Command, Problem, Set, Watched, read_book};
 use std::alloc::Global;
 
 /// Six persons, and on each of two days five pairings at one time. Only P1 with A costs anything. Each

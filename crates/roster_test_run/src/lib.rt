@@ -4,6 +4,7 @@
 //! - `runs`: runs over memory, and how they end
 //! - `devices`: readers and writers that fail, and then go on
 //! - `faults`: the texts of faults
+//! - `values`: the values of a book, as a caller of `roster_book` names them
 #![tactic(auto)]
 
 #[cfg(test)]
@@ -12,3 +13,5 @@ mod devices;
 mod faults;
 #[cfg(test)]
 mod runs;
+#[cfg(test)]
+mod values;

@@ -4,13 +4,14 @@ ghost use Rattle.std.specs.Prelude.{IfOk, IfSome};
 ghost use Rattle.roster_model.specs.Answer.{IsAnswer, records_of};
 ghost use Rattle.roster_values.specs.View.{command_of};
 
-use roster_book::{Command, Watched, duties_in_order};
+use roster_book::{Command, Watched};
 use roster_cli_run::{Status, has_answer, one_answer, run};
 use roster_combine::{Open, all_open_is_legal, has_best, one_best};
 use roster_legal::{
     has_locks, has_verdicts, one_first_broken, one_list_of_locks, one_list_of_verdicts,
     part_of_legal_is_legal,
 };
+use roster_problem::duties_in_order;
 use std::alloc::{AllocError, Global};
 use std::sync::Wait;
 use std::test::Fail;

@@ -2,8 +2,8 @@
 
 use roster_cost::{
     Key, cost_at, cost_without_pairings, fixed_flight, keys_are_in_order, line_cost,
-    lines_are_near, one_pairing_more, order_of_keys, pairing_flight, roster_cost, set_flight,
-    set_units, shares_add_up, units_of_set,
+    lines_are_near, one_pairing_more, order_of_keys, pairing_flight, roster_cost, shares_add_up,
+    units_of_set,
 };
 use roster_problem::{Problem, has_throughout, open_number, put};
 use roster_test_books::{problem_of, set_of};
@@ -35,8 +35,6 @@ fn lines_cost(rt: &impl Abort, problem: &Problem) -> Result<(), Fail> {
     assert!(rt; line_cost(problem, 1, &Set::empty()) == 480);
     assert!(rt; line_cost(problem, 0, &first) == 487);
     assert!(rt; line_cost(problem, 1, &first) == -3);
-    assert!(rt; set_units(problem, 0, &first) == 7);
-    assert!(rt; set_flight(problem, 0, &first) == 480);
     Ok(())
 }
 

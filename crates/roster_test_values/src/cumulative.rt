@@ -2,12 +2,12 @@
 
 use crate::given::{duties, duty, list_of, march, name};
 use roster_cumulative::{
-    ListLimits, cumulative_broken, duty_flight, duty_on, flight_on, greatest_duty, greatest_flight,
-    month_flight,
+    DutyList, ListLimits, Rule, cumulative_broken, duty_flight, duty_on, flight_on, greatest_duty,
+    greatest_flight, month_flight,
 };
 use roster_instants::BaseDays;
-use roster_problem::{Duty, DutyList, Person, Sector};
-use roster_values::{Limit, Rule};
+use roster_problem::{Duty, Person, Sector};
+use roster_values::Limit;
 use std::process::Abort;
 
 // The list has these minutes of duty on these days.

@@ -1,7 +1,7 @@
 -- How the desk's program ends.
 use Rattle.std.specs.Prelude.{ℕ}
-use Rattle.roster_desk_words.specs.declared.status.Status.{Status}
-use Rattle.roster_desk_words.specs.declared.status.Status.TheVariants as statuses
+use Rattle.roster_desk_given.specs.declared.status.Status.{Status}
+use Rattle.roster_desk_given.specs.declared.status.Status.TheVariants as statuses
 
 -- the exit status of each outcome
 abbrev pub exit_number : Status → ℕ

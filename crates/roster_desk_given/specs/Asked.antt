@@ -2,8 +2,8 @@
 use Rattle.std.specs.Prelude.{ℕ, List, Option, Some, None, Result, Ok, option_map, ok_or}
 use Rattle.roster_model.specs.Problem.{Problem}
 use Rattle.roster_model.specs.Record.{place_named}
-use Rattle.roster_desk_words.specs.declared.asked.Unknown.{Unknown}
-use Rattle.roster_desk_words.specs.declared.asked.Unknown.TheVariants as unknown
+use Rattle.roster_desk_given.specs.declared.asked.Unknown.{Unknown}
+use Rattle.roster_desk_given.specs.declared.asked.Unknown.TheVariants as unknown
 
 -- nothing if no name is given; else the place of the entry with the name, or if there is none the fault
 abbrev pub asked_for : {X : Type 0} → (X → List ℕ) → List X → Unknown → Option (List ℕ)

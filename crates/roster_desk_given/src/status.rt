@@ -2,7 +2,7 @@
 
 ghost use Rattle.std.specs.Prelude.{◌≡◌};
 ghost use Rattle.std.specs.Process.{exit_status};
-ghost use Rattle.roster_desk_words.specs.Status.{exit_number};
+ghost use Rattle.roster_desk_given.specs.Status.{exit_number};
 
 use roster_desk_reports::Wrong;
 use std::process::ExitCode;

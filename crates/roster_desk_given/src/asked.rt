@@ -1,7 +1,7 @@
 //! Which pairings and persons are asked for.
 
 ghost use Rattle.std.specs.Prelude.{◌≡◌, ◌⊎◌, Ok, Err, IfOk, IfErr, option_map};
-ghost use Rattle.roster_desk_words.specs.Asked.{pairing_asked, person_asked};
+ghost use Rattle.roster_desk_given.specs.Asked.{pairing_asked, person_asked};
 
 use roster_desk_reports::{pairing_named, person_named};
 use roster_problem::Problem;
