@@ -1,6 +1,6 @@
 //! How much of each limit a person uses.
 
-ghost use Rattle.std.specs.Prelude.{◌<◌, ◌≤◌, length};
+ghost use Rattle.std.specs.Prelude.{◌≡◌, ◌<◌, ◌*◌, ◌/◌, length, min};
 
 use crate::html::push_text;
 use roster_desk_words::{push_all, push_limit};
@@ -17,14 +17,15 @@ fn minutes_of(amount: Amount) -> (u64, u64) {
     }
 }
 
-/// How much of the limit is used, in percent, 100 at most.
+/// How much of the limit is used, in percent, 100 at most, and also if there may be nothing.
 fn part(used: u64, most: u64) -> u64
-    ensures { result ≤ 100 }
+    ensures nothing { most ≡ 0 → result ≡ 100 }
+    ensures part { 0 < most → result ≡ min 100 (used * 100 / most) }
 {
-    if used >= most || most == 0 {
+    if used >= most {
         return 100;
     }
-    (used.saturating_mul(100) / most).min(100)
+    (u128::from(used) * 100 / u128::from(most)) as u64
 }
 
 /// Appends the meter of a limit.

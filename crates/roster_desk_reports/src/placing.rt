@@ -1,6 +1,6 @@
 //! The roster that a report gives of a book.
 
-ghost use Rattle.std.specs.Prelude.{◌≡◌, ◌<◌, ◌≤◌, ℕ, All, IfOk, OnOk, Some, length, map, slice_get};
+ghost use Rattle.std.specs.Prelude.{◌≡◌, ◌<◌, ◌≤◌, ◌↔◌, true, ℕ, All, IfOk, OnOk, Some, length, map, slice_get};
 ghost use Rattle.roster_desk_reports.specs.Given.{GivesPairing, Grows, HasAll, HasFirst, HasGiven, HasNames};
 ghost use Rattle.roster_desk_reports.specs.Given.{HasPairing, IsAmongNames, IsGiven, IsGivenFirst, IsPairing};
 ghost use Rattle.roster_desk_reports.specs.Text.{given_by_line, given_by_text};
@@ -14,7 +14,9 @@ use roster_values::{Name, Places};
 use std::alloc::{AllocError, Global};
 
 /// Whether the months are the same.
-fn is_same(month: Period, other: Period) -> bool {
+fn is_same(month: Period, other: Period) -> bool
+    ensures { (result ≡ true) ↔ (month ≡ other) }
+{
     month.year() == other.year() && month.month() == other.month()
 }
 

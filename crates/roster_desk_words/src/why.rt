@@ -1,11 +1,14 @@
 //! Who could have a pairing, and why others mustn't.
 
-ghost use Rattle.std.specs.Prelude.{◌≡◌, ◌<◌, IfOk, length};
+ghost use Rattle.std.specs.Prelude.{◌≡◌, ◌<◌, length};
+ghost use Rattle.roster_desk_words.specs.Asked.{is_asked};
 
 use crate::sentences::push_reason;
 use crate::words::push_all;
-use roster_cost::roster_cost;
-use roster_desk_given::{Asked, Zones, broken_with, duties_with};
+use roster_desk_given::{
+    Asked, Asked, Outcome, Zones, Zones, broken_with, broken_with, duties_with, duties_with,
+    outcome, with_pairing,
+};
 use roster_legal_reasons::Reason;
 use roster_problem::{DutyList, Problem, open_number};
 use std::alloc::{AllocError, Global};
@@ -52,24 +55,6 @@ fn push_broken(
     out.extend_from_slice(b"\n")
 }
 
-/// The places with the pairing at `p` given to person `k`.
-fn with_pairing(
-    alloc: Global,
-    problem: &Problem,
-    places: &[u16],
-    p: usize,
-    k: usize,
-) -> Result<Vec<u16>, AllocError>
-    requires pairing { p < length places.now }
-    requires person { k < length problem.now.persons }
-    ensures { IfOk result (λ moved. length moved.items ≡ length places.now) }
-{
-    problem.is_sound();
-    let mut moved = places.to_vec(alloc)?;
-    moved[p] = k as u16;
-    Ok(moved)
-}
-
 /// Appends the line of a pairing and a person: what the roster would cost if the person had it too, or why
 /// that isn't legal.
 fn push_line(
@@ -89,13 +74,12 @@ fn push_line(
     let person = problem.person(k).id.as_bytes();
     push_all(out, &[pairing, b" ", person, b" "])?;
     let moved = with_pairing(alloc, problem, places, p, k)?;
-    match broken_with(alloc, problem, moved.as_slice(), k)? {
-        Some(told) => {
+    match outcome(alloc, problem, moved.as_slice(), k)? {
+        Outcome::Broken(told) => {
             let list = duties_with(alloc, problem, moved.as_slice(), k)?;
             push_told(alloc, out, problem, zones, k, &list, told)?;
         }
-        None => {
-            let cost = roster_cost(problem, moved.as_slice());
+        Outcome::Costs(cost) => {
             let digits = cost.to_string(alloc)?;
             push_all(out, &[b"OK: the roster costs ", digits.as_bytes()])?;
         }
@@ -146,6 +130,7 @@ fn push_pairing(
 /// Whether the pairing is asked for: it is the one that is named, or open if none is.
 fn is_asked(problem: &Problem, places: &[u16], p: usize, named: Option<usize>) -> bool
     requires { p < length places.now }
+    ensures { result ≡ is_asked problem.now places.now p named }
 {
     match named {
         Some(asked) => asked == p,

@@ -1,0 +1,54 @@
+//! What comes of one pairing more.
+
+ghost use Rattle.std.specs.Prelude.{◌≡◌, ◌<◌, IfOk, length, slice_set};
+ghost use Rattle.roster_desk_given.specs.Outcomes.{IsOutcome};
+
+use crate::persons::broken_with;
+use roster_cost::roster_cost;
+use roster_legal_reasons::Reason;
+use roster_problem::Problem;
+use std::alloc::{AllocError, Global};
+
+/// What a roster gives to a person comes to.
+#[derive(Clone, Copy)]
+pub enum Outcome {
+    /// The person breaks a rule, or is locked by one: this breaks it first.
+    Broken(Reason),
+    /// The person keeps every rule, and the whole roster costs so much, in cost units.
+    Costs(i64),
+}
+
+/// The places with the pairing at `p` given to person `k`, and all others as they are.
+pub fn with_pairing(
+    alloc: Global,
+    problem: &Problem,
+    places: &[u16],
+    p: usize,
+    k: usize,
+) -> Result<Vec<u16>, AllocError>
+    requires pairing { p < length places.now }
+    requires person { k < length problem.now.persons }
+    ensures { IfOk result (λ moved. moved.items ≡ slice_set places.now p k) }
+{
+    problem.is_sound();
+    let mut moved = places.to_vec(alloc)?;
+    moved[p] = k as u16;
+    Ok(moved)
+}
+
+/// What the places come to for person `k`.
+pub fn outcome(
+    alloc: Global,
+    problem: &Problem,
+    places: &[u16],
+    k: usize,
+) -> Result<Outcome, AllocError>
+    requires covers { length places.now ≡ length problem.now.pairings }
+    requires person { k < length problem.now.persons }
+    ensures { IfOk result (IsOutcome problem.now places.now k) }
+{
+    match broken_with(alloc, problem, places, k)? {
+        Some(reason) => Ok(Outcome::Broken(reason)),
+        None => Ok(Outcome::Costs(roster_cost(problem, places))),
+    }
+}
