@@ -1,12 +1,15 @@
-"""What bench/wild draws: pairings, persons with leave and fixed duties, and costs. Minutes are those of tools/second, in
-UTC; days are places in the window of a base, of which 35 is the month's first."""
+"""What bench/wild draws: pairings, persons with leave and fixed duties, and costs.
+
+Minutes are those of tools/second, in UTC; days are places in the window of a base, of which 35 is the month's first.
+"""
 
 from bisect import bisect_right
 
 from beside import DAY, second
 
-STATIONS = ["AGP", "ATH", "BCN", "CPH", "DOH", "DUB", "FCO", "GRU", "HEL", "HND", "JFK", "LHR", "LIS", "LAX", "NBO", "OSL"]
-STATIONS += ["OTP", "PEK", "SYD", "WAW", "ZRH", "hotel-1", "hotel-2", "X"]
+AIRPORTS = ["AGP", "ATH", "BCN", "CPH", "DOH", "DUB", "FCO", "GRU", "HEL", "HND", "JFK", "LHR", "LIS", "LAX", "NBO", "OSL"]
+AIRPORTS += ["OTP", "PEK", "SYD", "WAW", "ZRH"]
+STATIONS = [*AIRPORTS, "hotel-1", "hotel-2", "X"]
 # Of how many days pairings are.
 LENGTHS = [[1], [1], [1, 1, 2], [1, 1, 2, 2, 3, 4], [1, 2, 3, 4, 5], [2], [2, 3], [3, 4], [3, 4], [4], [4, 5], [5]]
 # Of each haul the most sectors of a duty, the least and the most minutes of one, and the most of the duty.

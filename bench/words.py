@@ -39,6 +39,21 @@ def number(least, most=10**9):
     return read
 
 
+def numbers_from(least, most):
+    """A reader of two numbers from the least to the most with a dash between them, as 4-40."""
+
+    def read(word):
+        first, dash, last = word.partition("-")
+        if not dash:
+            raise argparse.ArgumentTypeError(f"'{word}' are no two numbers with '-' between them")
+        numbers = [number(least, most)(it) for it in (first, last)]
+        if numbers[0] > numbers[1]:
+            raise argparse.ArgumentTypeError(f"'{word}' ends below its begin")
+        return numbers
+
+    return read
+
+
 def one_of(*numbers):
     """A reader of one of these numbers."""
 
