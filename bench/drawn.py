@@ -7,8 +7,8 @@ from bisect import bisect_right
 
 from beside import DAY, second
 
-AIRPORTS = ["AGP", "ATH", "BCN", "CPH", "DOH", "DUB", "FCO", "GRU", "HEL", "HND", "JFK", "LHR", "LIS", "LAX", "NBO", "OSL"]
-AIRPORTS += ["OTP", "PEK", "SYD", "WAW", "ZRH"]
+AIRPORTS = ["AGP", "ATH", "BCN", "CPH", "DOH", "DUB", "FCO", "GRU", "HEL", "HND", "JFK", "LHR", "LIS", "LAX", "NBO"]
+AIRPORTS += ["OSL", "OTP", "PEK", "SYD", "WAW", "ZRH"]
 STATIONS = [*AIRPORTS, "hotel-1", "hotel-2", "X"]
 # Of how many days pairings are.
 LENGTHS = [[1], [1], [1, 1, 2], [1, 1, 2, 2, 3, 4], [1, 2, 3, 4, 5], [2], [2, 3], [3, 4], [3, 4], [4], [4, 5], [5]]
@@ -220,11 +220,14 @@ class Money:
         self.draw = draw
         self.weight = draw.choice([None, 0, 1, 1, 1, 2, 3, 5, 10, 20])
         self.divisor, self.most = draw.choice([1, 1, 5, 10, 50, 100, 1000, 10**6]), draw.choice([1, 3, 10, 40, 200, 1000])
-        self.share, self.signs = draw.choice([0, 0.02, 0.1, 0.2, 0.5, 0.95]), draw.choice([(1, 1), (1, 1), (0, 1), (1, 0)])
+        self.share = draw.choice([0, 0.02, 0.1, 0.2, 0.5, 0.95])
+        self.signs = draw.choice([(1, 1), (1, 1), (0, 1), (1, 0)])
         self.forbids = draw.choice([0, 0, 0, 0.01])
         self.penalties = draw.choice(["equal", "by days", "by days", "wild"])
         self.penalty_divisor = draw.choice([self.divisor, self.divisor, 1, 7, 50, 500])
-        self.penalty = min(10**8, self.divisor * self.most * draw.choice([1, 2, 5, 20, 100]) + draw.choice([0, 100, 1000]))
+        greatest = self.divisor * self.most
+        self.penalty = min(10**8, greatest * draw.choice([1, 1, 2, 5, 20, 100]) // draw.choice([1, 1, 3]))
+        self.penalty += draw.choice([0, 100, 1000])
         self.targets = draw.choice(["none", "equal", "equal", "by days", "part-time", "any"])
         self.miss, self.target_step = draw.choice([1, 1, 1, draw.uniform(0.7, 1.3)]), draw.choice([1, 5, 30, 60])
 
@@ -235,7 +238,7 @@ class Money:
             scale = scale * days + draw.randrange(0, scale // 2 + 2)
         elif self.penalties == "wild":
             scale = int(scale * 10 ** draw.uniform(-2, 1))
-        return min(10**9, scale // divisor * divisor if draw.random() < 0.98 else 0)
+        return min(10**9, max(1, scale // divisor) * divisor) if draw.random() < 0.98 else 0
 
     def units(self):
         """The units of a person with a pairing, or None for most."""
