@@ -1,0 +1,360 @@
+//! The simplex method, from one basis to the next.
+
+use crate::columns::{Columns, NOWHERE};
+use crate::marking::Allowed;
+use crate::inverse::{Inverse, number_at};
+use crate::right::right_sides;
+use crate::tuning::{
+    COLUMNS_A_ROUND, FORBIDDEN_FACTOR, LEAST_USED, MOST_RAISES, PIVOTS_AN_INVERSE, TOLERANCE_PART,
+};
+use roster_values::Set;
+use std::alloc::{AllocError, Global};
+
+/// A linear program, with a basis that its columns can be used by, and its dual prices.
+///
+/// The first columns are those of empty lines, then those of open pairings: that of row `i` is column `i`,
+/// and has its only one there.
+#[derive(Drop)]
+pub(crate) struct Simplex {
+    persons: usize,
+    pairings: usize,
+    pub(crate) columns: Columns,
+    // How much each row needs, in parts of a whole.
+    right: Vec<i64>,
+    inverse: Inverse,
+    // By row: the column that is basic, and what it costs.
+    pub(crate) basis: Vec<usize>,
+    costs: Vec<i64>,
+    // By row, in parts of a cost unit.
+    pub(crate) duals: Vec<i64>,
+    // Columns that may enter, by how much they cost more than is paid for them.
+    pub(crate) candidates: Vec<(i64, usize)>,
+    taken: Vec<bool>,
+    before: Vec<usize>,
+    // How many parts a cost unit has.
+    scale: u32,
+    // How often it has become dearer to use what is forbidden.
+    raises: u32,
+    // How many pivots there were since the inverse was made.
+    pivots: usize,
+}
+
+impl Simplex {
+    /// All persons have empty lines, of these costs, and all pairings are open, at these penalties: all in
+    /// parts of a cost unit.
+    pub(crate) fn new(
+        alloc: Global,
+        idle: &[i64],
+        penalties: &[i64],
+        scale: u32,
+    ) -> Result<Simplex, AllocError> {
+        let columns = first_columns(alloc, idle, penalties)?;
+        let size = columns.len();
+        let right = right_sides(alloc, size)?;
+        let inverse = Inverse::new(alloc, &right)?;
+        let mut simplex = Simplex {
+            persons: idle.len(),
+            pairings: penalties.len(),
+            columns,
+            right,
+            inverse,
+            basis: vec![in alloc; 0; size]?,
+            costs: vec![in alloc; 0; size]?,
+            duals: vec![in alloc; 0; size]?,
+            candidates: Vec::new(alloc),
+            taken: vec![in alloc; false; size]?,
+            before: vec![in alloc; 0; size]?,
+            scale,
+            raises: 0,
+            pivots: 0,
+        };
+        simplex.go_home();
+        simplex.pay();
+        Ok(simplex)
+    }
+
+    /// How many rows there are.
+    pub(crate) fn size(&self) -> usize {
+        self.basis.len()
+    }
+
+    /// The columns.
+    pub(crate) fn columns(&self) -> &Columns {
+        &self.columns
+    }
+
+    /// Allows the columns that lines of persons may have, and forbids the others.
+    pub(crate) fn mark(&mut self, allowed: &[Allowed], flown: &Set, left_open: &Set) {
+        self.raises = 0;
+        self.columns.mark(allowed, flown, left_open);
+    }
+
+    /// Adds a column of a line.
+    pub(crate) fn add_line(&mut self, k: usize, set: &Set, cost: i64) -> Result<(), AllocError> {
+        self.columns.add_line(k, set, self.persons, cost)
+    }
+
+    /// The dual price of a row, in parts of a cost unit.
+    pub(crate) fn dual(&self, row: usize) -> i64 {
+        number_at(&self.duals, row)
+    }
+
+    /// The row of a pairing.
+    pub(crate) fn row_of(&self, p: usize) -> usize {
+        self.persons.saturating_add(p)
+    }
+
+    /// What all rows pay, in parts of a cost unit.
+    pub(crate) fn value(&self) -> i64 {
+        let mut value: i64 = 0;
+        for dual in &self.duals {
+            value = value.wrapping_add(*dual);
+        }
+        value
+    }
+
+    /// How much is used of column `c`, in parts of a whole.
+    pub(crate) fn amount(&self, c: usize) -> i64 {
+        match self.columns.column(c) {
+            Some(column) => self.inverse.amount(column.row),
+            None => 0,
+        }
+    }
+
+    /// How much is used of the column that is basic in a row, in parts of a whole.
+    pub(crate) fn amount_in(&self, row: usize) -> i64 {
+        self.inverse.amount(row)
+    }
+
+    /// The column that is basic in a row.
+    pub(crate) fn basic(&self, row: usize) -> usize {
+        place_at(&self.basis, row)
+    }
+
+    /// Whether more than a thousandth of some forbidden column is used.
+    pub(crate) fn uses_forbidden(&self) -> bool {
+        for (row, c) in self.basis.iter().enumerate() {
+            if self.is_forbidden(*c) && self.inverse.amount(row) > LEAST_USED {
+                return true;
+            }
+        }
+        false
+    }
+
+    /// Makes it dearer to use what is forbidden. False if it has become so often enough.
+    pub(crate) fn raise(&mut self) -> bool {
+        if self.raises >= MOST_RAISES {
+            return false;
+        }
+        self.raises += 1;
+        true
+    }
+
+    // Whether column `c` is forbidden.
+    fn is_forbidden(&self, c: usize) -> bool {
+        match self.columns.column(c) {
+            Some(column) => column.is_forbidden,
+            None => false,
+        }
+    }
+
+    // What it costs more to use a forbidden column.
+    fn forbidden_cost(&self) -> i64 {
+        let cost = self.columns.greatest().saturating_mul(FORBIDDEN_FACTOR);
+        let raised = cost.saturating_mul(1 << (2 * self.raises.min(MOST_RAISES)));
+        raised.min(1 << 62) as i64
+    }
+
+    // How much cheaper than its price a column must be to enter.
+    fn tolerance(&self) -> i64 {
+        let least = i64::from(self.scale) / TOLERANCE_PART;
+        least.max(self.forbidden_cost() >> 34).max(1)
+    }
+
+    // Computes the duals anew.
+    fn pay(&mut self) {
+        let more = self.forbidden_cost();
+        for row in 0..self.basis.len() {
+            let cost = cost_of(&self.columns, self.basis[row], more);
+            if row < self.costs.len() {
+                self.costs[row] = cost;
+            }
+        }
+        self.inverse.duals(&self.costs, &mut self.duals);
+    }
+
+    /// Goes from basis to basis, until no column costs less than is paid for it, or there were very many.
+    pub(crate) fn solve(&mut self) -> Result<(), AllocError> {
+        let most = self.most_pivots();
+        let mut made: usize = 0;
+        for _ in 0..most {
+            self.pay();
+            self.choose()?;
+            let more = self.enter_candidates(most.saturating_sub(made))?;
+            made = made.saturating_add(more);
+            if more == 0 || made >= most {
+                break;
+            }
+        }
+        self.pay();
+        Ok(())
+    }
+
+    // How many pivots are made by one call, at most.
+    fn most_pivots(&self) -> usize {
+        let size = self.size().saturating_mul(4);
+        let more = self.columns.len().saturating_sub(self.size()).min(size);
+        size.saturating_add(200)
+            .saturating_add(more.saturating_mul(2))
+    }
+
+    // Chooses the columns that cost least beside what is paid for them.
+    fn choose(&mut self) -> Result<(), AllocError> {
+        let tolerance = self.tolerance();
+        self.columns
+            .cheap(&self.duals, tolerance, &mut self.candidates)?;
+        self.candidates.sort_unstable();
+        self.candidates.truncate(COLUMNS_A_ROUND);
+        Ok(())
+    }
+
+    // Enters the chosen columns that still cost less than is paid for them, but so many at most. It tells how
+    // many it entered.
+    fn enter_candidates(&mut self, most: usize) -> Result<usize, AllocError> {
+        let tolerance = self.tolerance();
+        let mut made: usize = 0;
+        for i in 0..self.candidates.len() {
+            if made >= most {
+                break;
+            }
+            let c = candidate(&self.candidates, i);
+            let reduced = self.columns.reduced(c, &self.duals);
+            if reduced < tolerance.wrapping_neg() && self.enter(c)? {
+                made = made.saturating_add(1);
+                if self.pivots == 0 {
+                    break;
+                }
+                self.inverse.move_duals(reduced, &mut self.duals);
+            }
+        }
+        Ok(made)
+    }
+
+    /// Uses as much of column `c` as can be. False if it is basic, or no other column would be used up.
+    pub(crate) fn enter(&mut self, c: usize) -> Result<bool, AllocError> {
+        match self.columns.column(c) {
+            Some(column) if column.row == NOWHERE => {}
+            _ => return Ok(false),
+        }
+        self.inverse.look(self.columns.ones(c));
+        let Some(row) = self.inverse.leaving() else {
+            return Ok(false);
+        };
+        self.exchange(row, c)?;
+        self.pivots = self.pivots.saturating_add(1);
+        if self.pivots >= PIVOTS_AN_INVERSE {
+            self.renew()?;
+        }
+        Ok(true)
+    }
+
+    // Column `c`, which was looked at, takes the place of the one that is basic in a row.
+    fn exchange(&mut self, row: usize, c: usize) -> Result<(), AllocError> {
+        self.inverse.pivot(row)?;
+        if row < self.basis.len() {
+            self.columns.put_row(self.basis[row], NOWHERE);
+            self.basis[row] = c;
+        }
+        self.columns.put_row(c, row);
+        Ok(())
+    }
+
+    /// Makes the inverse anew, since each pivot spoils it a little. A basis that can't be used any more gives
+    /// way to the first one.
+    pub(crate) fn renew(&mut self) -> Result<(), AllocError> {
+        for (before, now) in self.before.iter_mut().zip(&self.basis) {
+            *before = *now;
+        }
+        self.go_home();
+        self.taken.fill(false);
+        for c in &self.before {
+            if *c < self.taken.len() {
+                self.taken[*c] = true;
+            }
+        }
+        for i in 0..self.basis.len() {
+            let c = place_at(&self.before, i);
+            if c >= self.taken.len() {
+                self.put_back(c)?;
+            }
+        }
+        if self.inverse.least_amount() < -LEAST_USED {
+            self.go_home();
+        }
+        Ok(())
+    }
+
+    // Makes column `c` basic in a row that isn't taken.
+    fn put_back(&mut self, c: usize) -> Result<(), AllocError> {
+        self.inverse.look(self.columns.ones(c));
+        let Some(row) = self.inverse.strongest(&self.taken) else {
+            return Ok(());
+        };
+        if row < self.taken.len() {
+            self.taken[row] = true;
+        }
+        self.exchange(row, c)
+    }
+
+    // Goes to the first basis: empty lines and open pairings.
+    fn go_home(&mut self) {
+        self.inverse.begin(&self.right);
+        self.pivots = 0;
+        for row in 0..self.basis.len() {
+            self.columns.put_row(self.basis[row], NOWHERE);
+        }
+        for row in 0..self.basis.len() {
+            self.basis[row] = row;
+            self.columns.put_row(row, row);
+        }
+    }
+}
+
+/// The column at place `i`, or one that there isn't.
+fn place_at(columns: &[usize], i: usize) -> usize {
+    if i < columns.len() { columns[i] } else { NOWHERE }
+}
+
+/// Candidate `i`, or one that there isn't.
+pub(crate) fn candidate(candidates: &[(i64, usize)], i: usize) -> usize {
+    match candidates.get(i) {
+        Some(candidate) => candidate.1,
+        None => NOWHERE,
+    }
+}
+
+/// What column `c` costs, and so much more if it is forbidden.
+fn cost_of(columns: &Columns, c: usize, more: i64) -> i64 {
+    match columns.column(c) {
+        Some(column) if column.is_forbidden => column.cost.saturating_add(more),
+        Some(column) => column.cost,
+        None => 0,
+    }
+}
+
+/// The columns of empty lines, and of open pairings.
+fn first_columns(
+    alloc: Global,
+    idle: &[i64],
+    penalties: &[i64],
+) -> Result<Columns, AllocError> {
+    let mut columns = Columns::new(alloc);
+    let empty = Set::empty();
+    for (k, cost) in idle.iter().enumerate() {
+        columns.add_line(k, &empty, idle.len(), *cost)?;
+    }
+    for (p, penalty) in penalties.iter().enumerate() {
+        columns.add_open(p, idle.len().saturating_add(p), *penalty)?;
+    }
+    Ok(columns)
+}
