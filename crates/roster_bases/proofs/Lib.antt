@@ -1,0 +1,5 @@
+pub mod BaseLemmas
+pub mod Picks
+pub mod Unites
+pub mod Homes
+pub mod Orders

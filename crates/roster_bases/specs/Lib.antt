@@ -1,0 +1,3 @@
+pub mod Bases
+pub mod Homes
+pub mod United
