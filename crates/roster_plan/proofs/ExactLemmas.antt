@@ -8,7 +8,8 @@ use Rattle.roster_model.specs.Settled.{Anywhere, IsBest, IsHeld, IsLowerBound, I
 use Rattle.roster_model.proofs.SettledLemmas.{held-key}
 use Rattle.roster_lines_table.specs.Entries.{Entry}
 use Rattle.roster_lines_table.specs.Person.{IsOfTable}
-use Rattle.roster_plan_bound.specs.Homes.{EachHomeRoster, IsHome, IsHomeBound}
+use Rattle.roster_bases.specs.Bases.{only}
+use Rattle.roster_bases.specs.Homes.{EachHomeRoster, IsHome, IsHomeBound}
 use Rattle.roster_search_least.specs.Least.{CostsAtLeast, IsLeast}
 use Rattle.roster_search_least.proofs.FindLemmas.{cost_cases}
 use Rattle.roster_search_least.proofs.Keys.{by_cost, no_dearer}
@@ -16,13 +17,13 @@ use Rattle.roster_search_least.proofs.Keys.{by_cost, no_dearer}
 -- each roster of the base that costs at most so much has lines of the table
 abbrev pub HasAllWithin : Problem → ℕ → List (List Entry) → ℤ → Type 0
 HasAllWithin problem base table most =
-    EachHomeRoster problem base (λ places. cost_of problem places ≤ℤ most → IsOfTable table places)
+    EachHomeRoster problem (only base) (λ places. cost_of problem places ≤ℤ most → IsOfTable table places)
 
 -- so the least of the table is the best of the base, if it costs so little,
 pub best_of_base : (problem : Problem) (base : ℕ) (table : List (List Entry)) (most limit : ℤ) (key : Key)
     → HasAllWithin problem base table most → limit ≤ℤ (most +ℤ pos 1)
     → IsLeast problem (IsOfTable table) key → key.cost <ℤ limit
-    → IsHeld problem key × IsNotAfter problem (IsHome problem base) key
+    → IsHeld problem key × IsNotAfter problem (IsHome problem (only base)) key
 best_of_base problem base table most limit key all near least cheap = (
   least.held,
   λ others legal home. elim (cost_cases most (cost_of problem others)) [
@@ -34,7 +35,7 @@ best_of_base problem base table most limit key all near least cheap = (
 -- and no roster of the base costs so little if none of the table does
 pub none_below : (problem : Problem) (base : ℕ) (table : List (List Entry)) (most limit : ℤ)
     → HasAllWithin problem base table most → limit ≤ℤ (most +ℤ pos 1)
-    → CostsAtLeast problem (IsOfTable table) limit → IsHomeBound problem base limit
+    → CostsAtLeast problem (IsOfTable table) limit → IsHomeBound problem (only base) limit
 none_below problem base table most limit all near above places legal home =
     elim (cost_cases most (cost_of problem places)) [
       | inl within ↦ above places legal (all places legal home within)
@@ -48,7 +49,7 @@ best_is_bound problem key best places legal = no_dearer key (key_of problem plac
 
 -- nor any of a base less than the best one of it,
 pub best_is_home_bound : (problem : Problem) (base : ℕ) (key : Key)
-    → IsNotAfter problem (IsHome problem base) key → IsHomeBound problem base key.cost
+    → IsNotAfter problem (IsHome problem (only base)) key → IsHomeBound problem (only base) key.cost
 best_is_home_bound problem base key best places legal home =
     no_dearer key (key_of problem places) (best places legal home)
 

@@ -12,9 +12,9 @@ use Rattle.roster_model.specs.Places.{set_of, open_number}
 use Rattle.roster_model.specs.Rules.{is_among, IsLegal}
 use Rattle.roster_model.specs.Costs.{cost_of, open_penalties, placed_units, missed_target, missed_targets}
 use Rattle.roster_model.specs.Rosters.{IsLegalRoster}
-use Rattle.roster_plan_bound.specs.Homes.{EachHomeRoster, IsHome, IsHomeBound}
-use Rattle.roster_search_least.specs.Parts.{base_of_person}
-use Rattle.roster_plan.proofs.PartLemmas.{of_home}
+use Rattle.roster_bases.specs.Bases.{base_of_person, only}
+use Rattle.roster_bases.specs.Homes.{EachHomeRoster, IsHome, IsHomeBound}
+use Rattle.roster_bases.proofs.Homes.{flown_at_home}
 use Rattle.roster_model.proofs.CostLemmas.{total-pos}
 use Rattle.roster_model.proofs.SumLemmas.{sum_by-range_more}
 use Rattle.roster_model.proofs.SetLemmas.{is_among-later}
@@ -73,17 +73,8 @@ behind problem p pairing pairings x places left e f =
 none : Pairing
 none = record { id = []; base = 0; penalty = 0; row = 0 }
 
--- who has a pairing in a roster of a base is of the base
-who_has : (problem : Problem) (base p k : ℕ) (places : List ℕ) → IsHome problem base places
-    → p < length places → k < length problem.persons → get_or places p 0 ≡ k → base_of_person problem k ≡ base
-who_has problem base p k places home inside person has =
-    elim (cases_eq (base_of_person problem k) base) [
-      | inl same ↦ same
-      | inr other ↦ absurd (false≢true (subst (λ set. is_among set p ≡ true) (of_home problem base places home k person (ne_eqb (base_of_person problem k) base other)) (in_set_of_number k p places inside has)))
-    ]
-
 pub one_more : (problem : Problem) (base p : ℕ) (floor bound missed : ℤ) (places : List ℕ)
-    → PartsAreLegal problem → IsLegalRoster problem places → IsHome problem base places
+    → PartsAreLegal problem → IsLegalRoster problem places → IsHome problem (only base) places
     → p < length problem.pairings → IsFloor problem base p floor
     → bound ≤ℤ (cost_behind problem (p + 1) places +ℤ missed)
     → (bound +ℤ floor) ≤ℤ (cost_behind problem p places +ℤ missed)
@@ -99,7 +90,7 @@ one_more problem base p floor bound missed places parts roster home inside floor
     let split =
     behind problem p pairing (drop (p + 1) problem.pairings) x (drop (p + 1) places) places e
     (drop_more places p 0 there) in
-    let own = amount n x pairing.penalty (units_of problem x p) floor most (floored.unflown pairing is) (λ person. floored.flown x person (who_has problem base p x places home there person refl) (alone_legal problem p x places parts roster there person refl)) in
+    let own = amount n x pairing.penalty (units_of problem x p) floor most (floored.unflown pairing is) (λ person. floored.flown x person (flown_at_home problem (only base) places x p home there person refl) (alone_legal problem p x places parts roster there person refl)) in
     omega (arith, ints, split, own, below)
 
 -- behind the last pairing only missed targets are left
@@ -120,7 +111,7 @@ one_person_more problem base k p least floor among is =
     record {
       unflown = λ pairing there. let u = among.unflown pairing there in omega (arith, ints, u, most);
       flown = λ j below own legal. elim (cases_eq j k) [
-        | inl same ↦ subst (λ i. floor ≤ℤ units_of problem i p) (sym same) (is.flown (subst (λ i. base_of_person problem i ≡ base) same own) (subst (λ i. IsLegal problem i (p ∷ [])) same legal))
+        | inl same ↦ subst (λ i. floor ≤ℤ units_of problem i p) (sym same) (is.flown (subst (λ i. only base (base_of_person problem i) ≡ true) same own) (subst (λ i. IsLegal problem i (p ∷ [])) same legal))
         | inr other ↦ let f = among.flown j (omega arith) own legal in omega (arith, ints, f, most)
       ];
       within = elim is.from [
@@ -130,9 +121,9 @@ one_person_more problem base k p least floor among is =
     }
 
 pub is_bound : (problem : Problem) (base p : ℕ) (bound : ℤ) → p ≡ 0
-    → EachHomeRoster problem base (λ places.
+    → EachHomeRoster problem (only base) (λ places.
     bound ≤ℤ (cost_behind problem p places +ℤ missed_targets problem places))
-    → IsHomeBound problem base bound
+    → IsHomeBound problem (only base) bound
 unfolding cost_of
 is_bound problem base p bound first below places roster home =
     let here : bound ≤ℤ (cost_behind problem 0 places +ℤ missed_targets problem places) =

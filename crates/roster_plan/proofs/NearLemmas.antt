@@ -1,7 +1,7 @@
 -- Which lines a neighbourhood has.
 use Rattle.std.proofs.Common.{◌≡◌, ℕ, ◌+◌, ◌<◌, Bool, true, false, eqb, List, [], length, refl, sym, ap, ◌∙◌, subst, inl, inr, arith}
 use Rattle.std.specs.Prelude.{slice_get, Some, ◌||◌}
-use Rattle.std.proofs.lemmas.Bool.{cases_eq, cases_lt, eq-eqb, false≢true, ne_eqb}
+use Rattle.std.proofs.lemmas.Bool.{cases_Bool, cases_lt, eq-eqb, false≢true}
 use Rattle.std.proofs.lemmas.Option.{slice_get_cases, slice_get_within, slice_get-get_or}
 use Rattle.roster_model.specs.Places.{set_of}
 use Rattle.roster_model.specs.Problem.{Problem}
@@ -14,10 +14,9 @@ use Rattle.roster_lines_table.specs.Person.{lines_at, AreListed}
 use Rattle.roster_lines.specs.declared.wanted.Between.{Between}
 use Rattle.roster_lines.specs.Between.{IsBetween}
 use Rattle.roster_lines.specs.WantedTables.{AreAllWanted}
-use Rattle.roster_plan_bound.specs.Homes.{IsHome}
-use Rattle.roster_search_least.specs.Parts.{base_of_person}
+use Rattle.roster_bases.specs.Bases.{base_of_person, only}
+use Rattle.roster_bases.specs.Homes.{IsHome}
 use Rattle.roster_plan.specs.Near.{HasAllNear, IsNear}
-use Rattle.roster_plan.proofs.PartLemmas.{of_home}
 
 -- what a person wants who keeps some pairings and may have others
 abbrev pub wants : Between → Problem → ℕ → List ℕ → Type 0
@@ -59,7 +58,7 @@ HasAll-next p old new has members q below = elim (cases_lt q p) [
 -- A person of the base is free who keeps nothing and may have each pairing; any other one keeps nothing.
 pub record IsFree (problem : Problem) (base k : ℕ) (between : Between) : Type 0 where
   pub keeps : between.must ≡ []
-  pub may : base_of_person problem k ≡ base → HasAll (length problem.pairings) between.may
+  pub may : only base (base_of_person problem k) ≡ true → HasAll (length problem.pairings) between.may
 
 abbrev pub AreFree : Problem → ℕ → List Between → Type 0
 AreFree problem base wanted =
@@ -68,17 +67,17 @@ AreFree problem base wanted =
 -- so each legal roster in which only persons of the base fly is near
 pub free_near : (problem : Problem) (base : ℕ) (wanted : List Between) (places : List ℕ)
     → AreFree problem base wanted → length wanted ≡ length problem.persons
-    → IsLegalRoster problem places → IsHome problem base places → IsNear wanted places
+    → IsLegalRoster problem places → IsHome problem (only base) places → IsNear wanted places
 free_near problem base wanted places free covers legal home k between at =
     let is = free k between at in
     let person : k < length problem.persons = omega (arith, slice_get_within wanted k between at, covers) in
     record {
       holds = λ p member. absurd (false≢true (sym (ap (λ set. is_among set p) is.keeps) ∙ member));
-      within = λ p member. elim (cases_eq (base_of_person problem k) base) [
+      within = λ p member. elim (cases_Bool (only base (base_of_person problem k))) [
         | inl ours ↦ elim (cases_lt p (length places)) [
           | inl below ↦ let covers = legal.covers in either_true (is_among between.must p) (is_among between.may p) (is.may ours p (omega arith))
           | inr past ↦ absurd (false≢true (sym (is_among-set_of_past k p places past) ∙ member))
         ]
-        | inr other ↦ absurd (false≢true (subst (λ set. is_among set p ≡ true) (of_home problem base places home k person (ne_eqb (base_of_person problem k) base other)) member))
+        | inr other ↦ absurd (false≢true (subst (λ set. is_among set p ≡ true) (home k person other) member))
       ];
     }

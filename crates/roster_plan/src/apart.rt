@@ -13,6 +13,7 @@ use crate::means::{MOST_EFFORT, Means};
 use crate::months::Month;
 use crate::parts::{BasePlan, is_open};
 use crate::watching::{Phase, Watcher};
+use roster_bases::{count_of_pairings, count_of_persons};
 use roster_cost::keys_are_in_order;
 use roster_lines::Pairs;
 use roster_model::limits::MOST_BASES;
@@ -95,7 +96,7 @@ fn gaps_of<'a, R: Threads + Sync>(
             // Until its gaps are searched it has what is said if memory runs out.
             gaps.push(Gap {
                 base,
-                crew: crew_of(problem, base),
+                crew: count_of_persons(problem, base),
                 cost: known.cost,
                 priced: PricedBound::new(rt, alloc, workers, pricing, base)?,
                 raised: Ok(()),
@@ -285,32 +286,12 @@ fn looks_of(problem: &Problem, parts: &[BasePlan], effort: u32) -> u32 {
 /// many that may follow it before all do, and each state of flight.
 fn steps_of(problem: &Problem, parts: &[BasePlan]) -> u64 {
     let mut steps: u64 = 0;
-    for person in problem.persons() {
-        if is_open(parts, person.base) {
-            steps = steps.wrapping_add(pairings_of(problem, person.base));
+    for base in 0..MOST_BASES {
+        if is_open(parts, base) {
+            let crew = count_of_persons(problem, base) as u64;
+            let pairings = count_of_pairings(problem, base) as u64;
+            steps = steps.wrapping_add(crew.wrapping_mul(pairings));
         }
     }
     steps.wrapping_mul(USUAL_FOLLOWERS * USUAL_STATES)
-}
-
-/// How many persons the base has.
-fn crew_of(problem: &Problem, base: usize) -> usize {
-    let mut crew: usize = 0;
-    for person in problem.persons() {
-        if person.base == base {
-            crew = crew.wrapping_add(1);
-        }
-    }
-    crew
-}
-
-/// How many pairings the base has.
-fn pairings_of(problem: &Problem, base: usize) -> u64 {
-    let mut pairings: u64 = 0;
-    for pairing in problem.pairings() {
-        if pairing.base == base {
-            pairings = pairings.wrapping_add(1);
-        }
-    }
-    pairings
 }

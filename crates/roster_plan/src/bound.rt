@@ -5,9 +5,11 @@ ghost use Rattle.roster_model.specs.Costs.{missed_target, missed_targets};
 ghost use Rattle.roster_model.specs.Places.{set_of};
 ghost use Rattle.roster_cost.specs.Amounts.{most_line_cost};
 ghost use Rattle.roster_lines.specs.Listing.{AreAllPairs};
-ghost use Rattle.roster_plan_bound.specs.Homes.{IsHome, IsHomeBound};
+ghost use Rattle.roster_bases.specs.Bases.{only};
+ghost use Rattle.roster_bases.specs.Homes.{IsHome, IsHomeBound};
 ghost use Rattle.roster_plan.specs.Floors.{IsFloor, IsFloorOf};
 
+use roster_bases::is_person_of;
 use roster_cost::line_cost;
 use roster_legal::part_of_legal_is_legal;
 use roster_lines::Pairs;
@@ -22,7 +24,7 @@ const MOST_MISSED: i64 = 1 << 60;
 /// targets by what their fixed duties leave of them; those of the base miss them by nothing or more.
 pub(crate) fn lower_bound(problem: &Problem, pairs: &[Pairs], base: usize) -> i64
     requires { AreAllPairs problem.now pairs.now }
-    ensures { IsHomeBound problem.now base result }
+    ensures { IsHomeBound problem.now (only base) result }
 {
     problem.is_sound();
     part_of_legal_is_legal();
@@ -37,7 +39,7 @@ pub(crate) fn lower_bound(problem: &Problem, pairs: &[Pairs], base: usize) -> i6
 
 /// What persons of other bases cost at least, who fly nothing.
 fn missed_by_others(problem: &Problem, base: usize) -> i64
-    ensures below { (places : List ℕ) → IsHome problem.now base places
+    ensures below { (places : List ℕ) → IsHome problem.now (only base) places
         → result ≤ℤ missed_targets problem.now places }
     ensures low { pos 0 ≤ℤ result }
     ensures high { result ≤ℤ pos (2 ^ 60) }
@@ -52,12 +54,12 @@ fn missed_by_others(problem: &Problem, base: usize) -> i64
 /// What person `k` costs who flies nothing; nothing if the person is of the base.
 fn missed_by(problem: &Problem, base: usize, k: usize) -> i64
     requires { k < length problem.now.persons }
-    ensures below { (places : List ℕ) → IsHome problem.now base places
+    ensures below { (places : List ℕ) → IsHome problem.now (only base) places
         → result ≤ℤ pos (missed_target problem.now k (set_of k places)) }
     ensures low { pos 0 ≤ℤ result }
     ensures high { result ≤ℤ pos most_line_cost }
 {
-    if problem.person(k).base == base {
+    if is_person_of(problem, k, base) {
         return 0;
     }
     line_cost(problem, k, &Set::empty())
@@ -87,7 +89,7 @@ fn lower(problem: &Problem, pairs: &[Pairs], base: usize, k: usize, p: usize, le
     ensures { IsFloorOf problem.now base k p least result }
 {
     let units = problem.units(k, p);
-    if units >= least || problem.person(k).base != base || !pairs[k].alone.has(p) {
+    if units >= least || !is_person_of(problem, k, base) || !pairs[k].alone.has(p) {
         return least;
     }
     units

@@ -4,7 +4,8 @@ ghost use Rattle.std.specs.Prelude.{◌≡◌, ◌<◌, IfOk, Some, slice_get};
 ghost use Rattle.roster_lines.specs.Listing.{AreAllPairs};
 ghost use Rattle.roster_model.specs.declared.limits.TheConstants.{MOST_BASES as most_bases};
 ghost use Rattle.roster_model.specs.Settled.{IsHeld, IsNotAfter};
-ghost use Rattle.roster_plan_bound.specs.Homes.{IsHome, IsHomeBound};
+ghost use Rattle.roster_bases.specs.Bases.{only};
+ghost use Rattle.roster_bases.specs.Homes.{IsHome, IsHomeBound};
 ghost use Rattle.roster_plan.specs.Exact.{IsExact};
 ghost use Rattle.roster_plan.specs.Months.{HasBound, IsMonth, IsMonthFrom};
 ghost use Rattle.roster_plan.specs.Parts.{AreParts, IsPart};
@@ -80,7 +81,7 @@ impl Month {
     ) -> Result<Month, AllocError>
         requires month { IsMonth problem.now self }
         requires base { base < most_bases }
-        requires bound { IsHomeBound problem.now base bound }
+        requires bound { IsHomeBound problem.now (only base) bound }
         ensures month { IfOk result (IsMonthFrom problem.now self.planned.roster) }
         ensures raised { IfOk result (HasBound base bound) }
     {
@@ -109,7 +110,7 @@ impl Month {
         requires month { IsMonth problem.now self }
         requires base { base < most_bases }
         requires held { IsHeld problem.now found.now }
-        requires best { IsNotAfter problem.now (IsHome problem.now base) found.now }
+        requires best { IsNotAfter problem.now (IsHome problem.now (only base)) found.now }
         ensures { IfOk result (IsMonthFrom problem.now self.planned.roster) }
     {
         keys_are_in_order();

@@ -10,10 +10,12 @@ ghost use Rattle.roster_lines.specs.Listing.{AreAllPairs};
 ghost use Rattle.roster_model.specs.Rosters.{key_le};
 ghost use Rattle.roster_model.specs.Rules.{is_among};
 ghost use Rattle.roster_model.specs.Settled.{IsHeld, IsNotAfter};
-ghost use Rattle.roster_plan_bound.specs.Homes.{EachHomeRoster, IsHome};
+ghost use Rattle.roster_bases.specs.Bases.{only};
+ghost use Rattle.roster_bases.specs.Homes.{EachHomeRoster, IsHome};
 ghost use Rattle.roster_plan.specs.Near.{HasAllNear, IsNear};
 
 use crate::known::earlier;
+use roster_bases::is_person_of;
 use roster_cost::{comes_before, keys_are_in_order};
 use roster_lines::{Between, Pairs, TableFault, wanted_table};
 use roster_lines_table::Table;
@@ -96,7 +98,7 @@ pub(crate) fn search_base(
     requires limit { (0 < most) × (most ≤ MOST_LINES) }
     ensures held { IfOk result (λ nearby. IsHeld problem.now nearby.roster) }
     ensures best { IfOk result (λ nearby. nearby.is_settled ≡ true
-        → IsNotAfter problem.now (IsHome problem.now base) nearby.roster) }
+        → IsNotAfter problem.now (IsHome problem.now (only base)) nearby.roster) }
 {
     let wanted = free_at(alloc, problem, base)?;
     let nearby = search_nearby(alloc, problem, pairs, known, &wanted, most, work)?;
@@ -141,7 +143,7 @@ fn table_near(
 fn free_at(alloc: Global, problem: &Problem, base: usize) -> Result<Vec<Between>, AllocError>
     ensures covers { IfOk result (λ wanted. length wanted.items ≡ length problem.now.persons) }
     ensures all { IfOk result
-        (λ wanted. EachHomeRoster problem.now base (IsNear wanted.items)) }
+        (λ wanted. EachHomeRoster problem.now (only base) (IsNear wanted.items)) }
 {
     problem.is_sound();
     let all = all_of(problem.pairings().len());
@@ -149,7 +151,7 @@ fn free_at(alloc: Global, problem: &Problem, base: usize) -> Result<Vec<Between>
     for k in 0..problem.persons().len() {
         wanted.push(Between {
             must: Set::empty(),
-            may: if problem.person(k).base == base {
+            may: if is_person_of(problem, k, base) {
                 all
             } else {
                 Set::empty()

@@ -3,26 +3,30 @@
 //! No person flies a pairing of another base. So what a month costs is what its bases do, each apart, and the
 //! best roster is put together from the best one of each base.
 
-ghost use Rattle.std.specs.Prelude.{◌≡◌, ◌⊎◌, ◌<◌, ◌+◌, ◌*◌, ◌^◌, ◌==◌, ◌&&◌, ◌+ℤ◌, ◌-ℤ◌, ◌≤ℤ◌};
+ghost use Rattle.std.specs.Prelude.{◌≡◌, ◌⊎◌, ◌<◌, ◌+◌, ◌*◌, ◌^◌, ◌&&◌, ◌+ℤ◌, ◌-ℤ◌, ◌≤ℤ◌};
 ghost use Rattle.std.specs.Prelude.{true, false, not, All, IfOk, IfSome, MatchOption, neg_ℤ, pos};
-ghost use Rattle.std.specs.Prelude.{length, replicate, slice_get};
+ghost use Rattle.std.specs.Prelude.{slice_get};
 ghost use Rattle.roster_cost.specs.Amounts.{IsWithin};
 ghost use Rattle.roster_model.specs.declared.limits.TheConstants.{MOST_BASES as most_bases};
 ghost use Rattle.roster_model.specs.Rosters.{key_le};
 ghost use Rattle.roster_model.specs.Settled.{IsHeld, IsLowerBound, IsNotAfter};
-ghost use Rattle.roster_plan_bound.specs.Homes.{IsHome};
+ghost use Rattle.roster_model.specs.Plans as plans;
+ghost use Rattle.roster_bases.specs.Bases as bases;
+ghost use Rattle.roster_bases.specs.Bases.{only};
+ghost use Rattle.roster_bases.specs.Homes.{IsHome};
+ghost use Rattle.roster_bases.specs.United.{unite};
 ghost use Rattle.roster_lines.specs.Listing.{AreAllPairs};
-ghost use Rattle.roster_search_least.specs.Parts.{merge};
-ghost use Rattle.roster_plan.specs.Parts.{AreParts, HasNoCrew, IsPart};
+ghost use Rattle.roster_plan.specs.Parts.{AreParts, IsPart};
 ghost use Rattle.roster_plan.specs.Planned.{IsKnown, IsPlannedFrom};
 
 use crate::bound::lower_bound;
 use crate::known::{Planned, best_plan, costed, earlier, so_far};
-use roster_cost::{comes_before, roster_cost, shares_add_up};
+use roster_bases::{all_open, has_crew, united};
+use roster_cost::{comes_before, roster_cost};
 use roster_lines::Pairs;
 use roster_model::limits::MOST_BASES;
 use roster_problem::Problem;
-use roster_search_least::{all_open, costs_fit, merged};
+use roster_search_least::costs_fit;
 use roster_values::Roster;
 use std::alloc::{AllocError, Global};
 
@@ -96,16 +100,9 @@ fn first_part(
     })
 }
 
-/// Whether somebody is of the base.
-fn has_crew(problem: &Problem, base: usize) -> bool
-    ensures { result ≡ false → HasNoCrew problem.now base }
-{
-    problem.persons().iter().any(|person| person.base == base)
-}
-
 /// The part of a base of which nobody is: its only roster leaves all open.
 fn part_of_nobody(alloc: Global, problem: &Problem, base: usize) -> Result<BasePlan, AllocError>
-    requires { HasNoCrew problem.now base }
+    requires { bases.has_crew problem.now base ≡ false }
     ensures { IfOk result (IsPart problem.now base) }
 {
     let roster = costed(problem, all_open(alloc, problem)?);
@@ -126,13 +123,13 @@ fn roster_of(
 ) -> Result<Roster, AllocError>
     requires { IsHeld problem.now known.now }
     ensures held { IfOk result (IsHeld problem.now) }
-    ensures home { IfOk result (λ own. IsHome problem.now base own.places) }
-    ensures own { IfOk result (λ own. own.places ≡ merge problem.now (λ b. b == base) known.now.places
-        (replicate (length problem.now.pairings) (length problem.now.persons))) }
+    ensures home { IfOk result (λ own. IsHome problem.now (only base) own.places) }
+    ensures own { IfOk result (λ own. own.places ≡ unite problem.now (only base)
+        known.now.places (plans.all_open problem.now)) }
 {
     problem.is_sound();
     let open = all_open(alloc, problem)?;
-    let places = merged(alloc, problem, base, known, &open)?;
+    let places = united(alloc, problem, base, known, &open)?;
     Ok(costed(problem, places))
 }
 
@@ -170,7 +167,7 @@ impl BasePlan {
         found: &Roster,
     ) -> Result<Option<BasePlan>, AllocError>
         requires held { IsHeld problem.now found.now }
-        requires best { IsNotAfter problem.now (IsHome problem.now base) found.now }
+        requires best { IsNotAfter problem.now (IsHome problem.now (only base)) found.now }
         ensures part { IfOk result (λ part. IfSome part (IsPart problem.now base)) }
         ensures best { IfOk result (λ part. IfSome part (λ part. part.is_best ≡ true)) }
     {
@@ -228,7 +225,6 @@ fn assembled(alloc: Global, problem: &Problem, parts: &[BasePlan]) -> Result<Pla
     ensures best { IfOk result
         (λ planned. All (λ part. part.is_best ≡ true) parts.now → planned.is_best ≡ true) }
 {
-    shares_add_up();
     problem.is_sound();
     costs_fit(problem);
     let mut places = all_open(alloc, problem)?;
@@ -237,7 +233,7 @@ fn assembled(alloc: Global, problem: &Problem, parts: &[BasePlan]) -> Result<Pla
     let mut is_best = true;
     for base in 0..parts.len() {
         let part = &parts[base];
-        places = merged(alloc, problem, base, &part.roster, &places)?;
+        places = united(alloc, problem, base, &part.roster, &places)?;
         bound = with_more(bound, above(part.bound, idle), base);
         is_best = are_both(is_best, part.is_best);
     }

@@ -5,7 +5,8 @@ ghost use Rattle.roster_lines.specs.Listing.{AreAllPairs};
 ghost use Rattle.roster_model.specs.Problem.{Problem};
 ghost use Rattle.roster_model.specs.Settled.{IsHeld, IsNotAfter};
 ghost use Rattle.roster_model.specs.declared.limits.TheConstants.{MOST_BASES as most_bases};
-ghost use Rattle.roster_plan_bound.specs.Homes.{IsHome};
+ghost use Rattle.roster_bases.specs.Bases.{only};
+ghost use Rattle.roster_bases.specs.Homes.{IsHome};
 ghost use Rattle.roster_plan.specs.Bases.{AreWholes, IsWhole};
 ghost use Rattle.roster_plan.specs.Exact.{IsExact};
 ghost use Rattle.roster_plan.specs.Months.{IsMonth, IsMonthFrom};
@@ -120,7 +121,7 @@ fn best_of(
 fn found_by(problem: &Problem, base: usize, nearby: Nearby) -> Option<Found>
     requires held { IsHeld problem.now nearby.roster }
     requires best { nearby.is_settled ≡ true
-        → IsNotAfter problem.now (IsHome problem.now base) nearby.roster }
+        → IsNotAfter problem.now (IsHome problem.now (only base)) nearby.roster }
     ensures { IfSome result (IsExact problem.now base) }
 {
     if !nearby.is_settled {

@@ -1,7 +1,7 @@
 -- Chains that begin with a set, and what one person's reduced cost is in a roster.
 use Rattle.std.proofs.Common.{◌≡◌, ℕ, ◌+◌, ◌-◌, ◌<◌, List, [], ◌∷◌, ◌++◌, length, get_or, Some, refl, sym, ap, ◌∙◌, subst, inl, inr, arith, ℤ, pos, ◌+ℤ◌, ◌-ℤ◌, ◌*ℤ◌, ◌≤ℤ◌}
-use Rattle.std.specs.Prelude.{◌≢◌, slice_get}
-use Rattle.std.proofs.lemmas.Bool.{cases_eq}
+use Rattle.std.specs.Prelude.{false, slice_get}
+use Rattle.std.proofs.lemmas.Bool.{cases_Bool, cases_eq}
 use Rattle.std.proofs.lemmas.Int.{ints}
 use Rattle.std.proofs.lemmas.List.{get_or_append_left, get_or_push, length_push}
 use Rattle.std.proofs.lemmas.List.Elements.{All-nil, All-push}
@@ -10,22 +10,21 @@ use Rattle.roster_model.specs.Costs.{cost_of}
 use Rattle.roster_model.specs.Places.{set_of}
 use Rattle.roster_model.specs.Problem.{Problem}
 use Rattle.roster_model.specs.Rosters.{IsLegalRoster}
-use Rattle.roster_model.specs.records.Crew.{Person}
 use Rattle.roster_model.proofs.CostLemmas.{total-nil}
 use Rattle.roster_model.proofs.LineLemmas.{given_line}
 use Rattle.roster_cost.specs.Amounts.{cost_without_pairings, IsWithin}
 use Rattle.roster_lines_table.specs.Entries.{Entry, sets_of}
 use Rattle.roster_lines_table.specs.Person.{lines_at, IsOfTable}
+use Rattle.roster_bases.specs.Bases.{base_of_person, only}
+use Rattle.roster_bases.specs.Homes.{EachHomeRoster, IsHome}
 use Rattle.roster_plan_bound.specs.declared.network.Network.{Network}
 use Rattle.roster_plan_bound.specs.Chains.{followers_of, next_state, value_at, IsChain}
 use Rattle.roster_plan_bound.specs.Gaps.{AreCheapOf, IsAlong, IsLeastBehind}
-use Rattle.roster_plan_bound.specs.Homes.{EachHomeRoster, IsHome}
 use Rattle.roster_plan_bound.specs.Looks.{AreLeasts, IsLook}
 use Rattle.roster_plan_bound.specs.Networks.{AreRows}
 use Rattle.roster_plan_bound.specs.Reduced.{price_at, reduced, reduced_costs, shares_behind, IsLeastOf}
 use Rattle.roster_plan_bound.specs.declared.parts.TheConstants.{MOST_LEAST, PARTS}
 use Rattle.roster_plan_bound.proofs.ChainLemmas.{chain-cons, next_inside}
-use Rattle.roster_plan_bound.proofs.HomeLemmas.{nobody}
 use Rattle.roster_plan_bound.proofs.ShareLemmas.{bound_below, parts_of_cost, reduced_more, reduced_none, IsPriced, IsShared}
 
 -- the end of a chain is one behind the pairing before it
@@ -67,7 +66,7 @@ leasts_none problem prices base = record {
 
 -- nothing that is small, and that the reduced cost of person k isn't below in a roster of the base
 pub record IsLeastIn (problem : Problem) (prices : List ℤ) (base k : ℕ) (least : ℤ) : Type 0 where
-  pub below : EachHomeRoster problem base (λ places. least ≤ℤ reduced problem prices k (set_of k places))
+  pub below : EachHomeRoster problem (only base) (λ places. least ≤ℤ reduced problem prices k (set_of k places))
   pub within : IsWithin MOST_LEAST least
 
 -- what is so of all lines is so of those of rosters
@@ -79,10 +78,10 @@ least_home problem prices base k least is person = record {
 }
 
 -- who is of another base flies nothing
-pub least_away : (problem : Problem) (prices : List ℤ) (base k : ℕ) (person : Person)
-    → slice_get problem.persons k ≡ Some person → person.base ≢ base → IsLeastIn problem prices base k (pos 0)
-least_away problem prices base k person is other = record {
-  below = λ places roster home. subst (λ set. pos 0 ≤ℤ reduced problem prices k set) (sym (home k person is other)) (omega (arith, ints, total-nil (price_at prices)));
+pub least_away : (problem : Problem) (prices : List ℤ) (base k : ℕ) → k < length problem.persons
+    → only base (base_of_person problem k) ≡ false → IsLeastIn problem prices base k (pos 0)
+least_away problem prices base k person other = record {
+  below = λ places roster home. subst (λ set. pos 0 ≤ℤ reduced problem prices k set) (sym (home k person other)) (omega (arith, ints, total-nil (price_at prices)));
   within = (omega (arith, ints), omega (arith, ints));
 }
 
@@ -116,7 +115,7 @@ pub look_is : (problem : Problem) (prices : List ℤ) (base : ℕ) (sum terms un
     → ((places : List ℕ) → IsLegalRoster problem places → IsShared problem places)
     → ((places : List ℕ) → IsLegalRoster problem places → IsPriced problem prices places)
     → AreLeasts problem prices base (length problem.persons) sum each
-    → EachHomeRoster problem base (λ places. terms ≤ℤ shares_behind problem prices 0 places)
+    → EachHomeRoster problem (only base) (λ places. terms ≤ℤ shares_behind problem prices 0 places)
     → ((more : ℤ) → (sum +ℤ terms) ≤ℤ (pos PARTS *ℤ more) → units ≤ℤ more)
     → (pos PARTS *ℤ units) ≤ℤ ((sum +ℤ terms) +ℤ pos PARTS)
     → IsLook problem prices base (cost_without_pairings problem +ℤ units) each
@@ -132,7 +131,7 @@ look_is problem prices base sum terms units each shared priced are pairings leas
 
 -- in a roster of the base that costs no more than so many units above the bound no person's reduced cost is
 -- above the limit
-pub cheap_enough : (problem : Problem) (prices leasts : List ℤ) (base : ℕ) (bound least limit : ℤ) (gap k : ℕ) (places : List ℕ) → IsLook problem prices base bound leasts → IsLegalRoster problem places → IsHome problem base places → k < length problem.persons
+pub cheap_enough : (problem : Problem) (prices leasts : List ℤ) (base : ℕ) (bound least limit : ℤ) (gap k : ℕ) (places : List ℕ) → IsLook problem prices base bound leasts → IsLegalRoster problem places → IsHome problem (only base) places → k < length problem.persons
     → cost_of problem places ≤ℤ (bound +ℤ pos gap) → least ≡ value_at leasts k
     → limit ≡ least +ℤ (pos PARTS *ℤ (pos gap +ℤ pos 1))
     → reduced problem prices k (set_of k places) ≤ℤ limit
@@ -145,11 +144,11 @@ cheap_enough problem prices leasts base bound least limit gap k places look rost
 -- for each of the first persons the table has the lines of cheap rosters of the base
 abbrev pub HasCheap : Problem → ℕ → ℤ → ℕ → List (List Entry) → ℕ → Type 0
 HasCheap problem base bound gap table count =
-    EachHomeRoster problem base (λ places. cost_of problem places ≤ℤ (bound +ℤ pos gap)
+    EachHomeRoster problem (only base) (λ places. cost_of problem places ≤ℤ (bound +ℤ pos gap)
     → (k : ℕ) → k < count → (i : ℕ) × (slice_get (sets_of (lines_at table k)) i ≡ Some (set_of k places)))
 
 pub cheap_more : (problem : Problem) (base : ℕ) (bound : ℤ) (gap k : ℕ) (table : List (List Entry)) (lines : List Entry) → length table ≡ k → HasCheap problem base bound gap table k
-    → EachHomeRoster problem base (λ places. cost_of problem places ≤ℤ (bound +ℤ pos gap)
+    → EachHomeRoster problem (only base) (λ places. cost_of problem places ≤ℤ (bound +ℤ pos gap)
     → (i : ℕ) × (slice_get (sets_of lines) i ≡ Some (set_of k places)))
     → HasCheap problem base bound gap (table ++ lines ∷ []) (k + 1)
 cheap_more problem base bound gap k table lines long before here places roster home cost j inside =
@@ -168,37 +167,34 @@ cheap_more problem base bound gap k table lines long before here places roster h
 
 -- what the lines of person k have that a cheap roster of the base gives
 pub cheap_given : (problem : Problem) (prices : List ℤ) (base k : ℕ) (limit : ℤ) (lines : List Entry) (places : List ℕ) → AreCheapOf problem prices base k limit lines → k < length problem.persons
-    → IsLegalRoster problem places → IsHome problem base places
+    → IsLegalRoster problem places → IsHome problem (only base) places
     → reduced problem prices k (set_of k places) ≤ℤ limit
     → (i : ℕ) × (slice_get (sets_of lines) i ≡ Some (set_of k places))
 cheap_given problem prices base k limit lines places are inside roster home low =
-    let person : Person = get_or problem.persons k nobody in
-    let is : slice_get problem.persons k ≡ Some person = slice_get-get_or problem.persons k nobody inside in
-    elim (cases_eq person.base base) [
-      | inl own ↦ are.every person is own (set_of k places) (given_line problem k places roster inside) low
-      | inr other ↦ (0, are.listed.first ∙ ap Some (sym (home k person is other)))
+    elim (cases_Bool (only base (base_of_person problem k))) [
+      | inl own ↦ are.every own (set_of k places) (given_line problem k places roster inside) low
+      | inr other ↦ (0, are.listed.first ∙ ap Some (sym (home k inside other)))
     ]
 
 -- of each of the first persons who is of another base the table has the empty line alone
 abbrev pub HasNone : Problem → ℕ → List (List Entry) → Type 0
 HasNone problem base table = (k : ℕ) (lines : List Entry) → slice_get table k ≡ Some lines
-    → (person : Person) → slice_get problem.persons k ≡ Some person → person.base ≢ base
-    → sets_of lines ≡ [] ∷ []
+    → only base (base_of_person problem k) ≡ false → sets_of lines ≡ [] ∷ []
 
 -- so in its rosters nobody of another base flies
 pub none_flies : (problem : Problem) (base : ℕ) (table : List (List Entry)) (places : List ℕ)
     → length table ≡ length problem.persons → HasNone problem base table → IsOfTable table places
-    → IsHome problem base places
-none_flies problem base table places covers none is k person at other =
-    let inside : k < length table = omega (arith, covers, slice_get_within problem.persons k person at) in
+    → IsHome problem (only base) places
+none_flies problem base table places covers none is k person other =
+    let inside : k < length table = omega (arith, covers, person) in
     let found = is k inside in
-    let alone : sets_of (lines_at table k) ≡ [] ∷ [] =
-    none k (lines_at table k) (slice_get-get_or table k [] inside) person at other in
+    let empty : sets_of (lines_at table k) ≡ [] ∷ [] =
+    none k (lines_at table k) (slice_get-get_or table k [] inside) other in
     let there : slice_get ([] ∷ []) found.0 ≡ Some (set_of k places) =
-    ap (λ sets. slice_get sets found.0) (sym alone) ∙ found.1 in
-    only found.0 (set_of k places) there
+    ap (λ sets. slice_get sets found.0) (sym empty) ∙ found.1 in
+    alone found.0 (set_of k places) there
   where
-    only : (i : ℕ) (set : List ℕ) → slice_get ([] ∷ []) i ≡ Some set → set ≡ []
-    only i set found =
+    alone : (i : ℕ) (set : List ℕ) → slice_get ([] ∷ []) i ≡ Some set → set ≡ []
+    alone i set found =
         let first : i ≡ 0 = omega (arith, slice_get_within ([] ∷ []) i set found) in
         sym (get_or_from_slice_get ([] ∷ []) i set [] found) ∙ ap (λ j. get_or ([] ∷ []) j []) first

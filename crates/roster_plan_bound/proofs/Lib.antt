@@ -1,4 +1,3 @@
-mod HomeLemmas
 mod ChainLemmas
 mod ListedLemmas
 mod RowLemmas

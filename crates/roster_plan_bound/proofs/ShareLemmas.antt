@@ -2,7 +2,7 @@
 use Rattle.std.proofs.Common.{◌≡◌, ℕ, zero, suc, ◌+◌, ◌-◌, ◌*◌, ◌<◌, eqb, cond, List, [], ◌∷◌, length, drop, get_or, Some, refl, sym, ap, ◌∙◌, subst, inl, inr, arith, ℤ, pos, ◌+ℤ◌, ◌-ℤ◌, ◌*ℤ◌, ◌≤ℤ◌, eq-eqb, w64, FitsSigned, rules, ◌≤◌}
 use Rattle.std.specs.Prelude.{◌≢◌, slice_get}
 use Rattle.std.specs.List.{range_with_len}
-use Rattle.std.proofs.lemmas.Bool.{cases_eq, ne_eqb}
+use Rattle.std.proofs.lemmas.Bool.{cases_Bool, cases_eq, ne_eqb}
 use Rattle.std.proofs.lemmas.Int.{ints}
 use Rattle.std.proofs.lemmas.List.{drop_all, drop_more}
 use Rattle.std.proofs.lemmas.Option.{get_or_from_slice_get, slice_get-get_or}
@@ -15,10 +15,11 @@ use Rattle.roster_model.proofs.CostLemmas.{total-nil, total-cons}
 use Rattle.roster_model.specs.declared.limits.TheConstants.{MOST_PERSONS}
 use Rattle.roster_cost.specs.Amounts.{cost_without_pairings, IsWithin}
 use Rattle.roster_cost.specs.Priced.{penalties_and_prices, reduced_cost}
+use Rattle.roster_bases.specs.Bases.{base_of_pairing, only}
+use Rattle.roster_bases.specs.Homes.{EachHomeRoster, IsHome, IsHomeBound}
+use Rattle.roster_bases.proofs.Homes.{open_elsewhere}
 use Rattle.roster_plan_bound.specs.declared.parts.TheConstants.{MOST_LEAST, PARTS}
-use Rattle.roster_plan_bound.specs.Homes.{EachHomeRoster, IsHome, IsHomeBound}
 use Rattle.roster_plan_bound.specs.Reduced.{price_at, reduced, reduced_costs, shares_behind, IsTermOf}
-use Rattle.roster_plan_bound.proofs.HomeLemmas.{open_elsewhere}
 
 -- a pairing of no list
 none : Pairing
@@ -47,7 +48,7 @@ own_share n x penalty price term flown unflown =
     ]
 
 pub one_more : (problem : Problem) (prices : List ℤ) (base p : ℕ) (term sum : ℤ) (places : List ℕ)
-    → IsLegalRoster problem places → IsHome problem base places → p < length problem.pairings
+    → IsLegalRoster problem places → IsHome problem (only base) places → p < length problem.pairings
     → IsTermOf problem base p (price_at prices p) term → sum ≤ℤ shares_behind problem prices (p + 1) places
     → (sum +ℤ term) ≤ℤ shares_behind problem prices p places
 one_more problem prices base p term sum places roster home inside is below =
@@ -61,9 +62,9 @@ one_more problem prices base p term sum places roster home inside is below =
     behind problem prices p pairing (drop (p + 1) problem.pairings) x (drop (p + 1) places) places e
     (drop_more places p 0 there) in
     let flown : x ≢ open_number problem → term ≤ℤ price_at prices p = λ someone.
-    elim (cases_eq pairing.base base) [
-      | inl own ↦ is.flown pairing at own
-      | inr other ↦ absurd (someone (open_elsewhere problem base places p pairing roster home at other))
+    elim (cases_Bool (only base (base_of_pairing problem p))) [
+      | inl own ↦ is.flown own
+      | inr other ↦ absurd (someone (open_elsewhere problem (only base) places p roster home inside other))
     ] in
     let own =
     own_share (open_number problem) x pairing.penalty (price_at prices p) term flown
@@ -135,10 +136,10 @@ parts_of_cost problem prices places shared priced =
 pub bound_below : (problem : Problem) (prices : List ℤ) (base : ℕ) (leasts terms units : ℤ)
     → ((places : List ℕ) → IsLegalRoster problem places → IsShared problem places)
     → ((places : List ℕ) → IsLegalRoster problem places → IsPriced problem prices places)
-    → EachHomeRoster problem base (λ places. leasts ≤ℤ reduced_costs problem prices (length problem.persons) places)
-    → EachHomeRoster problem base (λ places. terms ≤ℤ shares_behind problem prices 0 places)
+    → EachHomeRoster problem (only base) (λ places. leasts ≤ℤ reduced_costs problem prices (length problem.persons) places)
+    → EachHomeRoster problem (only base) (λ places. terms ≤ℤ shares_behind problem prices 0 places)
     → ((more : ℤ) → (leasts +ℤ terms) ≤ℤ (pos PARTS *ℤ more) → units ≤ℤ more)
-    → IsHomeBound problem base (cost_without_pairings problem +ℤ units)
+    → IsHomeBound problem (only base) (cost_without_pairings problem +ℤ units)
 bound_below problem prices base leasts terms units shared priced persons pairings least places roster home =
     let whole = parts_of_cost problem prices places (shared places roster) (priced places roster) in
     let first = persons places roster home in

@@ -1,10 +1,10 @@
 -- Lines of a person whose reduced costs are low.
-use Rattle.std.specs.Prelude.{◌≡◌, ◌≢◌, ℕ, ◌<◌, List, [], ◌++◌, ◌∷◌, length, Some, slice_get, ℤ, ◌+ℤ◌, ◌≤ℤ◌}
+use Rattle.std.specs.Prelude.{◌≡◌, ℕ, ◌<◌, true, false, List, [], ◌++◌, ◌∷◌, length, Some, slice_get, ℤ, ◌+ℤ◌, ◌≤ℤ◌}
 use Rattle.roster_model.specs.Lines.{IsLine}
 use Rattle.roster_model.specs.Problem.{Problem}
-use Rattle.roster_model.specs.records.Crew.{Person}
 use Rattle.roster_lines_table.specs.Entries.{Entry, sets_of}
 use Rattle.roster_lines_table.specs.Person.{AreListedOf}
+use Rattle.roster_bases.specs.Bases.{base_of_person, only}
 use Rattle.roster_plan_bound.specs.declared.network.Network.{Network}
 use Rattle.roster_plan_bound.specs.Chains.{chain_value, IsChain}
 use Rattle.roster_plan_bound.specs.Networks.{AreRows, AreValues, IsNetwork}
@@ -55,8 +55,7 @@ IsLeastBehind network values set p least =
 pub record AreCheapOf (problem : Problem) (prices : List ℤ) (base k : ℕ) (limit : ℤ)
     (lines : List Entry) : Type 0 where
   pub listed : AreListedOf problem k lines
-  pub every : (person : Person) → slice_get problem.persons k ≡ Some person → person.base ≡ base
+  pub every : only base (base_of_person problem k) ≡ true
       → (set : List ℕ) → IsLine problem k set → reduced problem prices k set ≤ℤ limit
       → (i : ℕ) × (slice_get (sets_of lines) i ≡ Some set)
-  pub none : (person : Person) → slice_get problem.persons k ≡ Some person → person.base ≢ base
-      → sets_of lines ≡ [] ∷ []
+  pub none : only base (base_of_person problem k) ≡ false → sets_of lines ≡ [] ∷ []

@@ -1,6 +1,5 @@
 pub mod Reduced
 pub mod Chains
 pub mod Networks
-pub mod Homes
 pub mod Looks
 pub mod Gaps

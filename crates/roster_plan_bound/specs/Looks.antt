@@ -1,31 +1,15 @@
 -- What prices say of the rosters of one base.
-use Rattle.std.specs.Prelude.{◌≡◌, ℕ, zero, suc, ◌+◌, ◌*◌, ◌<◌, ◌==◌, if◌then◌else◌, List, length, ℤ, pos, ◌+ℤ◌, ◌-ℤ◌, ◌*ℤ◌, ◌≤ℤ◌, All, IfOk, Some, option_map, slice_get, unwrap_or}
+use Rattle.std.specs.Prelude.{◌≡◌, ℕ, ◌*◌, ◌<◌, List, length, ℤ, pos, ◌+ℤ◌, ◌-ℤ◌, ◌*ℤ◌, ◌≤ℤ◌, All, IfOk, Some, slice_get}
 use Rattle.roster_model.specs.Costs.{cost_of}
 use Rattle.roster_model.specs.Places.{set_of}
 use Rattle.roster_model.specs.Problem.{Problem}
-use Rattle.roster_model.specs.records.Crew.{Person}
 use Rattle.roster_cost.specs.Amounts.{IsWithin}
+use Rattle.roster_bases.specs.Bases.{only, persons_of}
+use Rattle.roster_bases.specs.Homes.{EachHomeRoster, IsHomeBound}
 use Rattle.roster_plan_bound.specs.declared.parts.TheConstants.{MOST_LEAST, PARTS}
 use Rattle.roster_plan_bound.specs.Chains.{value_at}
 use Rattle.roster_plan_bound.specs.declared.persons.Seen.{Seen}
-use Rattle.roster_plan_bound.specs.Homes.{EachHomeRoster, IsHomeBound}
 use Rattle.roster_plan_bound.specs.Reduced.{reduced, reduced_costs, ArePrices, IsLeastOf}
-
--- the place of a person's base
-abbrev pub base_of_person : Problem → ℕ → ℕ
-base_of_person problem k = unwrap_or (option_map (λ person. person.base) (slice_get problem.persons k)) 0
-
--- how many of the first persons are of the base
-unfoldable pub homes_before : Problem → ℕ → ℕ → ℕ
-homes_before problem base zero = 0
-homes_before problem base (suc k) =
-    homes_before problem base k + (if base_of_person problem k == base then 1 else 0)
-
--- the persons of the base, by their places, in book order
-pub record ArePersonsOf (problem : Problem) (base : ℕ) (persons : List ℕ) : Type 0 where
-  pub inside : All (λ k. k < length problem.persons) persons
-  pub each : (k : ℕ) (person : Person) → slice_get problem.persons k ≡ Some person → person.base ≡ base
-      → slice_get persons (homes_before problem base k) ≡ Some k
 
 -- What the reduced costs of the first persons are at least in rosters of the base, and the sum. In such a
 -- roster no person's is further above its least than all of them are above the sum.
@@ -34,8 +18,8 @@ pub record AreLeasts (problem : Problem) (prices : List ℤ) (base count : ℕ) 
   pub covers : length each ≡ count
   pub small : All (IsWithin MOST_LEAST) each
   pub within : IsWithin (count * MOST_LEAST) sum
-  pub below : EachHomeRoster problem base (λ places. sum ≤ℤ reduced_costs problem prices count places)
-  pub near : EachHomeRoster problem base (λ places. (k : ℕ) → k < count
+  pub below : EachHomeRoster problem (only base) (λ places. sum ≤ℤ reduced_costs problem prices count places)
+  pub near : EachHomeRoster problem (only base) (λ places. (k : ℕ) → k < count
       → (reduced problem prices k (set_of k places) -ℤ value_at each k)
       ≤ℤ (reduced_costs problem prices count places -ℤ sum))
 
@@ -53,10 +37,10 @@ pub record AreSeen (problem : Problem) (prices : List ℤ) (persons : List ℕ) 
 -- reduced cost is further above its least than that, rounded up.
 pub record IsLook (problem : Problem) (prices : List ℤ) (base : ℕ) (bound : ℤ)
     (leasts : List ℤ) : Type 0 where
-  pub bounded : IsHomeBound problem base bound
+  pub bounded : IsHomeBound problem (only base) bound
   pub covers : length leasts ≡ length problem.persons
   pub small : All (IsWithin MOST_LEAST) leasts
-  pub near : EachHomeRoster problem base (λ places. (k : ℕ) → k < length problem.persons
+  pub near : EachHomeRoster problem (only base) (λ places. (k : ℕ) → k < length problem.persons
       → (reduced problem prices k (set_of k places) -ℤ value_at leasts k)
       ≤ℤ (pos PARTS *ℤ ((cost_of problem places -ℤ bound) +ℤ pos 1)))
 
@@ -69,7 +53,7 @@ pub record Bounded : Type 0 where
 -- the persons of the base, as many as were seen, prices within their limits, and what these say
 pub record IsPricedBound (problem : Problem) (base : ℕ) (persons : List ℕ) (seen : ℕ) (prices leasts : List ℤ)
     (bound : ℤ) : Type 0 where
-  pub home : ArePersonsOf problem base persons
+  pub home : persons ≡ persons_of problem base
   pub all : seen ≡ length persons
   pub priced : ArePrices problem prices
   pub look : IsLook problem prices base bound leasts

@@ -1,5 +1,5 @@
 -- Reduced costs: what the sets of a person cost beyond the prices of their pairings, in parts of a cost unit.
-use Rattle.std.specs.Prelude.{◌≡◌, ℕ, ◌-◌, ◌*◌, List, [], drop, length, slice_get, slice_index_or, Some, ℤ, pos, ◌+ℤ◌, ◌-ℤ◌, ◌*ℤ◌, ◌≤ℤ◌, All}
+use Rattle.std.specs.Prelude.{◌≡◌, ℕ, ◌-◌, ◌*◌, List, [], drop, length, slice_get, slice_index_or, true, Some, ℤ, pos, ◌+ℤ◌, ◌-ℤ◌, ◌*ℤ◌, ◌≤ℤ◌, All}
 use Rattle.std.specs.List.{range_with_len}
 use Rattle.roster_model.specs.records.Pairing.{Pairing}
 use Rattle.roster_model.specs.Costs.{line_cost, open_penalties, total}
@@ -8,6 +8,7 @@ use Rattle.roster_model.specs.Places.{open_number, set_of}
 use Rattle.roster_model.specs.Problem.{Problem}
 use Rattle.roster_cost.specs.Amounts.{IsWithin}
 use Rattle.roster_cost.specs.Priced.{penalties_and_prices}
+use Rattle.roster_bases.specs.Bases.{base_of_pairing, only}
 use Rattle.roster_plan_bound.specs.declared.parts.TheConstants.{MOST_LEAST, MOST_PLAN_PRICE, PARTS}
 
 -- the price of the pairing at place p, or nothing past the last
@@ -51,7 +52,6 @@ shares_behind problem prices p places =
 -- No more than the penalty of the pairing at place p, nor than its price, if it is of the base. One of another
 -- base has no price in a roster of the base: nobody flies it.
 pub record IsTermOf (problem : Problem) (base p : ℕ) (price term : ℤ) : Type 0 where
-  pub flown : (pairing : Pairing) → slice_get problem.pairings p ≡ Some pairing → pairing.base ≡ base
-      → term ≤ℤ price
+  pub flown : only base (base_of_pairing problem p) ≡ true → term ≤ℤ price
   pub unflown : (pairing : Pairing) → slice_get problem.pairings p ≡ Some pairing
       → term ≤ℤ pos (PARTS * pairing.penalty)

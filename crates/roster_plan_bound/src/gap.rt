@@ -8,8 +8,9 @@ ghost use Rattle.std.specs.Prelude.{◌≡◌, ◌<◌, ◌≤◌, ◌*◌, ◌+
 ghost use Rattle.roster_model.specs.Costs.{cost_of};
 ghost use Rattle.roster_cost.specs.Amounts.{IsWithin};
 ghost use Rattle.roster_lines_table.specs.Person.{AreListed, IsOfTable};
+ghost use Rattle.roster_bases.specs.Bases.{only};
+ghost use Rattle.roster_bases.specs.Homes.{EachHomeRoster, IsHome};
 ghost use Rattle.roster_plan_bound.specs.Gaps.{AreCheapOf, IsAlong, IsLeastBehind, IsTabled};
-ghost use Rattle.roster_plan_bound.specs.Homes.{EachHomeRoster, IsHome};
 ghost use Rattle.roster_plan_bound.specs.Looks.{IsLook};
 ghost use Rattle.roster_plan_bound.specs.Networks.{AreRows, IsNetwork};
 ghost use Rattle.roster_plan_bound.specs.Reduced.{ArePrices};
@@ -18,6 +19,7 @@ use crate::network::Network;
 use crate::parts::{MOST_CHAIN_VALUE, MOST_LEAST, PARTS};
 use crate::pricing::{Pricing, values_of};
 use crate::rows::{ChainRow, led, next_state, rows_of};
+use roster_bases::is_person_of;
 use roster_cumulative::flight_of_set;
 use roster_legal::part_of_legal_is_legal;
 use roster_lines::{Between, LinesFault, TableFault, Wanted, lines_of_pairs};
@@ -45,10 +47,10 @@ pub(crate) fn lines_of_gap(
     requires look { IsLook pricing.now prices.now base bound leasts.now }
     requires limit { (0 < most) × (most ≤ MOST_LINES) }
     ensures listed { IfOk result (AreListed pricing.now) }
-    ensures all { IfOk result (λ table. EachHomeRoster pricing.now base (λ places.
+    ensures all { IfOk result (λ table. EachHomeRoster pricing.now (only base) (λ places.
         cost_of pricing.now places ≤ℤ (bound +ℤ pos gap) → IsOfTable table places)) }
     ensures home { IfOk result (λ table. (places : List ℕ)
-        → IsOfTable table places → IsHome pricing.now base places) }
+        → IsOfTable table places → IsHome pricing.now (only base) places) }
 {
     let problem = pricing.problem();
     let mut table = Table::empty(alloc);
@@ -81,7 +83,7 @@ fn lines_of_person(
 {
     let problem = pricing.problem();
     let pairs = pricing.pairs(k);
-    if problem.person(k).base != base {
+    if !is_person_of(problem, k, base) {
         let none = Between {
             must: Set::empty(),
             may: Set::empty(),

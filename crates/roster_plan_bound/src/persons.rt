@@ -1,13 +1,12 @@
-//! The persons of a base, and looks at each of them, shared among threads.
+//! Looks at each person of a base, shared among threads.
 
 ghost use Rattle.std.specs.Prelude.{◌≡◌, ◌<◌, All, IfOk, length, slice_index, vec_len};
-ghost use Rattle.roster_plan_bound.specs.Looks.{ArePersonsOf, AreSeen, IsSeen};
+ghost use Rattle.roster_plan_bound.specs.Looks.{AreSeen, IsSeen};
 ghost use Rattle.roster_plan_bound.specs.Reduced.{ArePrices};
 
 use crate::columns::Columns;
 use crate::pricing::Pricing;
 use crate::tuning::FIRST_REACH;
-use roster_problem::Problem;
 use std::alloc::{AllocError, Global};
 use std::thread::{Threads, for_each_mut};
 
@@ -18,23 +17,6 @@ pub(crate) struct Seen {
     pub(crate) columns: Columns,
     /// What the last look says that reduced costs are at least, in parts of a cost unit.
     pub(crate) least: Result<i64, AllocError>,
-}
-
-/// The persons of the base, by their places.
-pub(crate) fn persons_of(
-    alloc: Global,
-    problem: &Problem,
-    base: usize,
-) -> Result<Vec<usize>, AllocError>
-    ensures { IfOk result (λ persons. ArePersonsOf problem.now base persons.items) }
-{
-    let mut persons = Vec::new(alloc);
-    for k in 0..problem.persons().len() {
-        if problem.person(k).base == base {
-            persons.push(k)?;
-        }
-    }
-    Ok(persons)
 }
 
 /// Of so many persons, before the first look.

@@ -6,9 +6,10 @@ ghost use Rattle.roster_lines.specs.Listing.{AreAllPairs, ArePairs};
 ghost use Rattle.roster_model.specs.Problem.{units_of};
 ghost use Rattle.roster_model.specs.records.Pairing.{Pairing};
 ghost use Rattle.roster_cost.specs.Amounts.{IsWithin};
+ghost use Rattle.roster_bases.specs.Bases.{only, persons_of};
+ghost use Rattle.roster_bases.specs.Homes.{EachHomeRoster};
 ghost use Rattle.roster_plan_bound.specs.Networks.{AreRows, AreValues, IsNetwork};
-ghost use Rattle.roster_plan_bound.specs.Homes.{EachHomeRoster};
-ghost use Rattle.roster_plan_bound.specs.Looks.{AreLeasts, ArePersonsOf, IsLook};
+ghost use Rattle.roster_plan_bound.specs.Looks.{AreLeasts, IsLook};
 ghost use Rattle.roster_plan_bound.specs.Reduced.{shares_behind, ArePrices, IsLeastOf, IsTermOf};
 
 use crate::columns::Columns;
@@ -19,6 +20,7 @@ use crate::parts::{MOST_CHAIN_VALUE, MOST_LEAST, MOST_PLAN_PRICE, MOST_SUM, PART
 use crate::persons::{Seen, look_at_all};
 use crate::rows::{ChainRow, end_of_all, row_behind, rows_of};
 use crate::sets::least_set;
+use roster_bases::{is_pairing_of, is_person_of};
 use roster_cost::{cost_without_pairings, priced_shares_add_up, shares_add_up};
 use roster_cumulative::flight_of_set;
 use roster_legal::part_of_legal_is_legal;
@@ -58,6 +60,8 @@ pub struct Pricing<'a> {
 
 impl<'a> Model for Pricing<'a> {
     ghost use Rattle.roster_model.specs.Problem.{Problem};
+    ghost use Rattle.roster_bases.specs.Bases.{only, persons_of};
+    ghost use Rattle.roster_bases.specs.Homes.{EachHomeRoster};
     ghost use Rattle.roster_plan_bound.specs.Networks.{IsPricing};
 
     ghost Value = { Problem };
@@ -108,7 +112,7 @@ impl<'a> Pricing<'a> {
         seen: &mut [Seen],
     ) -> Result<Priced, AllocError>
         requires threads { 0 < threads }
-        requires persons { ArePersonsOf self.now base persons.now }
+        requires persons { persons.now ≡ persons_of self.now base }
         requires prices { ArePrices self.now prices.now }
         requires covers { length seen.old ≡ length persons.now }
         ensures look { IfOk result
@@ -181,7 +185,7 @@ impl<'a> Pricing<'a> {
         seen: &mut [Seen],
     ) -> Result<Leasts, AllocError>
         requires threads { 0 < threads }
-        requires persons { ArePersonsOf self.now base persons.now }
+        requires persons { persons.now ≡ persons_of self.now base }
         requires prices { ArePrices self.now prices.now }
         requires covers { length seen.old ≡ length persons.now }
         ensures are { IfOk result (λ leasts. AreLeasts self.now prices.now base
@@ -195,7 +199,7 @@ impl<'a> Pricing<'a> {
         let mut each = Vec::new(alloc);
         let mut i = 0;
         for k in 0..self.problem.persons().len() {
-            if self.problem.person(k).base != base {
+            if !is_person_of(self.problem, k, base) {
                 each.push(0)?;
                 continue;
             }
@@ -302,7 +306,7 @@ fn value_of(problem: &Problem, k: usize, p: usize, price: i64) -> i64
 /// What all pairings bring at least to a roster of the base.
 fn sum_of_terms(problem: &Problem, base: usize, prices: &[i64]) -> i64
     requires { ArePrices problem.now prices.now }
-    ensures least { EachHomeRoster problem.now base (λ places.
+    ensures least { EachHomeRoster problem.now (only base) (λ places.
         result ≤ℤ shares_behind problem.now prices.now 0 places) }
     ensures within { IsWithin (MOST_PAIRINGS * MOST_PLAN_PRICE) result }
 {
@@ -327,7 +331,7 @@ fn term_of(problem: &Problem, base: usize, p: usize, price: i64) -> i64
     problem.is_sound();
     let pairing = problem.pairing(p);
     let penalty = (PARTS * u64::from(pairing.penalty)) as i64;
-    if pairing.base != base {
+    if !is_pairing_of(problem, p, base) {
         return penalty;
     }
     if price < penalty { price } else { penalty }

@@ -4,7 +4,8 @@ ghost use Rattle.std.specs.Prelude.{◌≡◌, ◌<◌, ◌≤◌, ◌≤ℤ◌,
 ghost use Rattle.roster_model.specs.Costs.{cost_of};
 ghost use Rattle.roster_cost.specs.Amounts.{IsWithin};
 ghost use Rattle.roster_lines_table.specs.Person.{AreListed, IsOfTable};
-ghost use Rattle.roster_plan_bound.specs.Homes.{EachHomeRoster, IsHome, IsHomeBound};
+ghost use Rattle.roster_bases.specs.Bases.{only};
+ghost use Rattle.roster_bases.specs.Homes.{EachHomeRoster, IsHome, IsHomeBound};
 ghost use Rattle.roster_plan_bound.specs.Looks.{IsLook};
 ghost use Rattle.roster_plan_bound.specs.Reduced.{ArePrices};
 
@@ -12,10 +13,11 @@ use crate::gap::lines_of_gap;
 use crate::lists::amount_at;
 use crate::master::{Covered, ascend};
 use crate::parts::{MOST_PLAN_PRICE, PARTS};
-use crate::persons::{Seen, persons_of, unseen};
+use crate::persons::{Seen, unseen};
 use crate::pricing::{Priced, Pricing};
 use crate::sets::turn_to_sets;
 use crate::tuning::{FIRST_STRIDE, LEAST_STRIDE, MOST_IDLE, MOST_STRIDE};
+use roster_bases::{is_pairing_of, persons_of};
 use roster_lines::TableFault;
 use roster_lines_table::Table;
 use roster_model::limits::MOST_LINES;
@@ -99,7 +101,7 @@ impl<'a> PricedBound<'a> {
     /// No legal roster in which only persons of the base fly costs less, in cost units.
     pub fn bound(&self) -> i64
         ensures value { result ≡ self.now.bound }
-        ensures bound { IsHomeBound self.now.problem self.now.base result }
+        ensures bound { IsHomeBound self.now.problem (only self.now.base) result }
     {
         self.bound
     }
@@ -143,11 +145,11 @@ impl<'a> PricedBound<'a> {
     pub fn lines_within(&self, alloc: Global, gap: u32, most: usize) -> Result<Table, TableFault>
         requires { (0 < most) × (most ≤ MOST_LINES) }
         ensures listed { IfOk result (AreListed self.now.problem) }
-        ensures all { IfOk result (λ table. EachHomeRoster self.now.problem self.now.base (λ places.
+        ensures all { IfOk result (λ table. EachHomeRoster self.now.problem (only self.now.base) (λ places.
             cost_of self.now.problem places ≤ℤ (self.now.bound +ℤ pos gap)
             → IsOfTable table places)) }
         ensures home { IfOk result (λ table. (places : List ℕ)
-            → IsOfTable table places → IsHome self.now.problem self.now.base places) }
+            → IsOfTable table places → IsHome self.now.problem (only self.now.base) places) }
     {
         lines_of_gap(
             alloc,
@@ -305,7 +307,7 @@ fn no_prices(alloc: Global, problem: &Problem) -> Result<Vec<i64>, AllocError>
 fn covered_of(alloc: Global, problem: &Problem, base: usize) -> Result<Vec<Covered>, AllocError> {
     let mut covered = Vec::new(alloc);
     for (place, pairing) in problem.pairings().iter().enumerate() {
-        if pairing.base == base {
+        if is_pairing_of(problem, place, base) {
             let penalty = i64::from(pairing.penalty).wrapping_mul(PARTS as i64);
             covered.push(Covered { place, penalty })?;
         }

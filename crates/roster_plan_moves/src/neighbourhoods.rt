@@ -6,6 +6,7 @@ use crate::random::Random;
 use crate::search::set_of;
 use crate::sets::{add, amount_at, is_sought, without};
 use crate::tables::times;
+use roster_bases::{base_of_person, is_pairing_of, persons_of};
 use roster_lines::Between;
 use roster_problem::{Problem, open_number};
 use roster_values::Set;
@@ -69,7 +70,7 @@ impl Neighbourhoods {
         problem: &Problem,
         sought: &[bool],
     ) -> Result<Neighbourhoods, AllocError> {
-        let persons = persons_of(alloc, problem, sought)?;
+        let persons = persons_sought(alloc, problem, sought)?;
         let begins = times(alloc, problem, false)?;
         let sizes = first_sizes(alloc)?;
         Ok(Neighbourhoods {
@@ -152,7 +153,10 @@ impl Neighbourhoods {
     // The pairings that these persons have or that are open, all of them or those of some days.
     fn free(&mut self, problem: &Problem, places: &[u16], persons: &[usize]) -> Set {
         let mut free = Set::empty();
-        let Some(base) = base_of(problem, persons) else {
+        let Some(k) = persons.first() else {
+            return free;
+        };
+        let Some(base) = base_of(problem, *k) else {
             return free;
         };
         let (first, last) = self.days();
@@ -187,10 +191,14 @@ impl Neighbourhoods {
 }
 
 // Who is of a base that is sought.
-fn persons_of(alloc: Global, problem: &Problem, sought: &[bool]) -> Result<Vec<usize>, AllocError> {
+fn persons_sought(
+    alloc: Global,
+    problem: &Problem,
+    sought: &[bool],
+) -> Result<Vec<usize>, AllocError> {
     let mut persons = Vec::new(alloc);
-    for (k, person) in problem.persons().iter().enumerate() {
-        if is_sought(sought, person.base) {
+    for k in 0..problem.persons().len() {
+        if is_sought(sought, base_of_person(problem, k)) {
             persons.push(k)?;
         }
     }
@@ -208,30 +216,23 @@ fn first_sizes(alloc: Global) -> Result<Vec<u32>, AllocError> {
 
 // All who are of the same base as person `k`.
 fn mates_of(alloc: Global, problem: &Problem, k: usize) -> Result<Vec<usize>, AllocError> {
-    let mut mates = Vec::new(alloc);
-    if let Some(first) = problem.persons().get(k) {
-        for (k, person) in problem.persons().iter().enumerate() {
-            if person.base == first.base {
-                mates.push(k)?;
-            }
-        }
+    match base_of(problem, k) {
+        Some(base) => persons_of(alloc, problem, base),
+        None => Ok(Vec::new(alloc)),
     }
-    Ok(mates)
 }
 
-// The base of the first of the persons.
-fn base_of(problem: &Problem, persons: &[usize]) -> Option<usize> {
-    let k = persons.first()?;
-    let person = problem.persons().get(*k)?;
-    Some(person.base)
+// The base of person `k`, if there is one.
+fn base_of(problem: &Problem, k: usize) -> Option<usize> {
+    if k >= problem.persons().len() {
+        return None;
+    }
+    Some(base_of_person(problem, k))
 }
 
 // Whether the pairing at place `p` is of the base.
 fn is_of_base(problem: &Problem, p: usize, base: usize) -> bool {
-    match problem.pairings().get(p) {
-        Some(pairing) => pairing.base == base,
-        None => false,
-    }
+    p < problem.pairings().len() && is_pairing_of(problem, p, base)
 }
 
 // How many pairings of the base are open.

@@ -4,6 +4,7 @@ use crate::changes::Changes;
 use crate::random::Random;
 use crate::sets::{add, amount_at, is_sought, set_at, without};
 use crate::tables::Tables;
+use roster_bases::base_of_pairing;
 use roster_problem::{Problem, open_number};
 use roster_values::Set;
 use std::alloc::{AllocError, Global};
@@ -161,8 +162,8 @@ fn pairings_of(
     sought: &[bool],
 ) -> Result<Vec<usize>, AllocError> {
     let mut pairings = Vec::new(alloc);
-    for (p, pairing) in problem.pairings().iter().enumerate() {
-        if is_sought(sought, pairing.base) {
+    for p in 0..problem.pairings().len() {
+        if is_sought(sought, base_of_pairing(problem, p)) {
             pairings.push(p)?;
         }
     }

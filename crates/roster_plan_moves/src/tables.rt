@@ -4,6 +4,7 @@
 ghost use Rattle.std.specs.Prelude.{◌≡◌, ◌<◌, length};
 
 use crate::sets::{add, amount_at, is_within, only, set_at};
+use roster_bases::{base_of_pairing, is_person_of};
 use roster_cost::{fixed_flight, pairing_flight};
 use roster_legal::Judge;
 use roster_problem::Problem;
@@ -334,9 +335,9 @@ fn minutes(alloc: Global, problem: &Problem) -> Result<Vec<i64>, AllocError> {
 fn minutes_of(problem: &Problem, p: usize) -> i64
     requires { p < length problem.now.pairings }
 {
-    let base = problem.pairing(p).base;
+    let base = base_of_pairing(problem, p);
     for k in 0..problem.persons().len() {
-        if problem.person(k).base == base {
+        if is_person_of(problem, k, base) {
             return signed(pairing_flight(problem, k, p));
         }
     }

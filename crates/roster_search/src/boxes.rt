@@ -2,18 +2,19 @@
 
 ghost use Rattle.std.specs.Prelude.{◌≡◌, ◌+◌, IfOk, MatchOption, Some, length, unwrap_or};
 ghost use Rattle.roster_search_least.specs.Least.{IsBefore, IsLeast};
-ghost use Rattle.roster_search_least.specs.Parts.{before, AreBaseParts, IsInPart, IsWithoutPart};
+ghost use Rattle.roster_bases.specs.Bases.{before};
+ghost use Rattle.roster_search_least.specs.Parts.{AreBaseParts, IsInPart, IsWithoutPart};
 ghost use Rattle.roster_lines_table.specs.Person.{AreListed};
 ghost use Rattle.roster_model.specs.Rosters.{key_of};
 ghost use Rattle.roster_model.specs.Settled.{IsHeld, Settles};
 ghost use Rattle.roster_search_regions.specs.Regions.{IsInRanges};
 
 use crate::parts::least_at;
-use roster_cost::shares_add_up;
+use roster_bases::{all_open, united};
 use roster_lines_table::Table;
 use roster_model::limits::MOST_BASES;
 use roster_problem::Problem;
-use roster_search_least::{Finder, LeastOfBase, all_open, costs_fit, if_before, merged};
+use roster_search_least::{Finder, LeastOfBase, costs_fit, if_before};
 use roster_values::Roster;
 use std::alloc::{AllocError, Global};
 
@@ -21,7 +22,7 @@ use std::alloc::{AllocError, Global};
 /// the legal rosters in which each person has a line of the table, whose number is in the person's range:
 /// from its first number up to the second, which isn't in it. The table may have some lines only.
 ///
-/// No line has another base's pairing, so each base is searched apart, and the answers are merged. Two
+/// No line has another base's pairing, so each base is searched apart, and the answers are united. Two
 /// problems that share nothing take as long as one after the other.
 pub fn least_of_box<F: Finder>(
     alloc: Global,
@@ -67,15 +68,15 @@ pub fn least_with<F: Finder>(
 {
     costs_fit(problem);
     problem.is_sound();
-    match merged_bases(alloc, problem, table, ranges, parts, finder)? {
+    match united_bases(alloc, problem, table, ranges, parts, finder)? {
         Some(places) => Ok(if_before(problem, known, places)),
         None => Ok(None),
     }
 }
 
-/// The places of the least roster of the box, merged from those of all bases; or none, and then some base has
+/// The places of the least roster of the box, united from those of all bases; or none, and then some base has
 /// no roster.
-fn merged_bases<F: Finder>(
+fn united_bases<F: Finder>(
     alloc: Global,
     problem: &Problem,
     table: &Table,
@@ -128,9 +129,8 @@ fn with_base<F: Finder>(
         (key_of problem.now more.items))) }
     ensures goes_on { F.goes_on finder.old finder.new }
 {
-    shares_add_up();
     match least_at(alloc, problem, table, ranges, parts, base, finder)? {
-        Some(part) => Ok(Some(merged(alloc, problem, base, &part, &places)?)),
+        Some(part) => Ok(Some(united(alloc, problem, base, &part, &places)?)),
         None => Ok(None),
     }
 }

@@ -5,7 +5,7 @@
 //! is searched apart; `roster_search_threads` has several threads do so, by the parts that are public here. In
 //! reading order:
 //!
-//! - `boxes`: the least roster of a box, merged from those of its bases
+//! - `boxes`: the least roster of a box, united from those of its bases
 //! - `limited`: a search that is given up once it has done so much work
 //! - `parts`: the least roster of one base
 //! - `root`: prices to begin with

@@ -1,6 +1,7 @@
 //! The least roster of one base of a box.
 
-ghost use Rattle.std.specs.Prelude.{◌≡◌, ◌^◌, ◌-◌, ◌==◌, IfOk, length, pos};
+ghost use Rattle.std.specs.Prelude.{◌≡◌, ◌^◌, ◌-◌, IfOk, length, pos};
+ghost use Rattle.roster_bases.specs.Bases.{only};
 ghost use Rattle.roster_search_least.specs.Least.{IsLeastBelow};
 ghost use Rattle.roster_search_least.specs.Parts.{AreBaseParts, IsInPart};
 ghost use Rattle.roster_lines_table.specs.Person.{AreListed};
@@ -28,7 +29,7 @@ pub(crate) fn least_at<F: Finder>(
     requires ranges { length ranges.now ≡ length table.now }
     requires parts { AreBaseParts problem.now table.now ranges.now parts.now }
     ensures least { IfOk result (IsLeastBelow problem.now
-        (IsInPart problem.now table.now ranges.now (λ b. b == base)) (pos (2 ^ 63 - 1))) }
+        (IsInPart problem.now table.now ranges.now (only base)) (pos (2 ^ 63 - 1))) }
     ensures goes_on { F.goes_on finder.old finder.new }
 {
     for i in 0..parts.len() {
@@ -64,7 +65,7 @@ fn least_of_base<F: Finder>(
     requires table { AreListed problem.now table.now }
     requires ranges { length ranges.now ≡ length table.now }
     ensures least { IfOk result (IsLeastBelow problem.now
-        (IsInPart problem.now table.now ranges.now (λ b. b == base)) (pos (2 ^ 63 - 1))) }
+        (IsInPart problem.now table.now ranges.now (only base)) (pos (2 ^ 63 - 1))) }
     ensures goes_on { F.goes_on finder.old finder.new }
 {
     let region = region_of_base(alloc, problem, table, ranges, base)?;

@@ -1,10 +1,7 @@
 pub mod CheapestLemmas
 pub mod Fronts
 pub mod FirstLemmas
-pub mod Bases
 pub mod Keys
-pub mod Picks
-pub mod Merges
 pub mod LeastParts
 pub mod Limits
 pub mod RangeParts

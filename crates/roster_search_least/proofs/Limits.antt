@@ -15,7 +15,6 @@ use Rattle.roster_model.proofs.CostLemmas.{total-nil, total-cons, total-both}
 use Rattle.roster_model.proofs.LineLemmas.{given_line}
 use Rattle.roster_problem.specs.Sound.{IsSound}
 use Rattle.roster_cost.specs.Amounts.{cost_without_pairings, most_extra, most_missed, IsWithin}
-use Rattle.roster_search_least.proofs.Merges.{SharesAddUp}
 
 -- ---- open pairings
 
@@ -52,6 +51,12 @@ total-range_within cost most first (suc n) each =
     (omega (arith, ints, split, here.0, rest.0), omega (arith, ints, split, here.1, rest.1))
 
 -- ---- rosters
+
+-- what a roster costs is what its open pairings cost, and each person's line
+abbrev pub SharesAddUp : Type 0
+SharesAddUp =
+    (problem : Problem) (places : List ℕ)
+    → cost_of problem places ≡ pos (open_penalties (open_number problem) problem.pairings places) +ℤ total (λ k. line_cost problem k (set_of k places)) (range_with_len 0 (length problem.persons))
 
 abbrev pub LinesAreNear : Type 0
 LinesAreNear =

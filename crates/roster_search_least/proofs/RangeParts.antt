@@ -13,10 +13,11 @@ use Rattle.roster_model.proofs.LineLemmas.{given_line}
 use Rattle.roster_lines_table.specs.Entries.{Entry, sets_of}
 use Rattle.roster_lines_table.specs.Person.{IsOfTable, lines_at, AreListed, IsTableOf}
 use Rattle.roster_lines_table.proofs.TableLemmas.{all_lines_in_table, first_line}
+use Rattle.roster_bases.specs.Bases.{base_of_person, only}
+use Rattle.roster_bases.proofs.BaseLemmas.{found_at}
 use Rattle.roster_search_regions.specs.Regions.{IsInRanges}
 use Rattle.roster_search_least.specs.Least.{IsLeastBelow}
-use Rattle.roster_search_least.specs.Parts.{base_of_person, AreOwnRanges, AreWhole, IsInPart, IsNumbered}
-use Rattle.roster_search_least.proofs.Bases.{found_at}
+use Rattle.roster_search_least.specs.Parts.{AreOwnRanges, AreWhole, IsInPart, IsNumbered}
 
 -- ---- the ranges of a base
 
@@ -43,7 +44,7 @@ module _ (problem : Problem) (table : List (List Entry)) (ranges own : List (ℕ
       same_Some _ _ (sym there ∙ first_line problem table k is person)
 
   pub in_part_from_ranges : (places : List ℕ) → IsLegalRoster problem places → IsInRanges table own places
-      → IsInPart problem table ranges (λ b. eqb b base) places
+      → IsInPart problem table ranges (only base) places
   in_part_from_ranges places legal inside = record {
     legal = legal;
     numbered = λ k range at here. inside k range (own_here k range at here);
@@ -52,7 +53,7 @@ module _ (problem : Problem) (table : List (List Entry)) (ranges own : List (ℕ
         empty_from_number k (set_of k places) person (inside k (0, 1) (own_elsewhere k range.0 range.1 none));
   }
 
-  pub in_ranges_from_part : (places : List ℕ) → IsInPart problem table ranges (λ b. eqb b base) places
+  pub in_ranges_from_part : (places : List ℕ) → IsInPart problem table ranges (only base) places
       → IsInRanges table own places
   in_ranges_from_part places part k mine at =
       let person : k < length problem.persons = omega (arith, slice_get_within own k mine at, are.covers) in

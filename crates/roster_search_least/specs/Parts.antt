@@ -1,5 +1,5 @@
--- Parts of a problem: the persons and the pairings of some bases. No line has another base's pairing, so
--- parts share neither persons nor pairings.
+-- Parts of a box: the rosters of some bases. No line has another base's pairing, so parts share neither persons
+-- nor pairings.
 use Rattle.std.specs.Prelude.{◌≡◌, ℕ, ◌+◌, ◌-◌, ◌^◌, ◌<◌, ◌≤◌, All, Bool, true, false, nat_lt, ◌==◌, if◌then◌else◌, List, [], ◌∷◌, Option, Some, None, length, option_map, pos, slice_get, unwrap_or}
 use Rattle.roster_model.specs.Places.{set_of}
 use Rattle.roster_model.specs.Problem.{Problem}
@@ -7,29 +7,9 @@ use Rattle.roster_model.specs.Rosters.{IsLegalRoster, Key}
 use Rattle.roster_lines_table.specs.Entries.{Entry, sets_of}
 use Rattle.roster_lines_table.specs.Person.{lines_at}
 use Rattle.roster_search_regions.specs.Regions.{IsIn, IsRegion, Region}
+use Rattle.roster_bases.specs.Bases.{base_of_person, only}
+use Rattle.roster_bases.specs.Homes.{IsHome}
 use Rattle.roster_search_least.specs.Least.{IsLeastBelow}
-
--- the base of the person at place k, and that of the pairing at place p
-abbrev pub base_of_person : Problem → ℕ → ℕ
-base_of_person problem k = unwrap_or (option_map (λ person. person.base) (slice_get problem.persons k)) 0
-
-abbrev pub base_of_pairing : Problem → ℕ → ℕ
-base_of_pairing problem p = unwrap_or (option_map (λ pairing. pairing.base) (slice_get problem.pairings p)) 0
-
--- If the test says yes of a place, the number that the first list has there, and elsewhere the one that
--- the second has. The first number is that of place p.
-abbrev pub pick : (ℕ → Bool) → ℕ → List ℕ → List ℕ → List ℕ
-pick test p [] ys = []
-pick test p (x ∷ xs) [] = []
-pick test p (x ∷ xs) (y ∷ ys) = (if test p then x else y) ∷ pick test (p + 1) xs ys
-
--- what the first list has at the pairings of some bases, and the second at the others
-abbrev pub merge : Problem → (ℕ → Bool) → List ℕ → List ℕ → List ℕ
-merge problem part xs ys = pick (λ p. part (base_of_pairing problem p)) 0 xs ys
-
--- the bases before a number
-abbrev pub before : ℕ → ℕ → Bool
-before n base = nat_lt base n
 
 -- the set is a line of person k whose number is in the range
 abbrev pub IsNumbered : List (List Entry) → ℕ → ℕ × ℕ → List ℕ → Type 0
@@ -42,8 +22,7 @@ pub record IsInPart (problem : Problem) (table : List (List Entry)) (ranges : Li
   pub legal : IsLegalRoster problem places
   pub numbered : (k : ℕ) (range : ℕ × ℕ) → slice_get ranges k ≡ Some range
       → part (base_of_person problem k) ≡ true → IsNumbered table k range (set_of k places)
-  pub home : (k : ℕ) → k < length problem.persons
-      → part (base_of_person problem k) ≡ false → set_of k places ≡ []
+  pub home : IsHome problem part places
 
 -- the ranges of the persons of the base, and of everybody else the one of the empty line
 pub record AreOwnRanges (problem : Problem) (base : ℕ) (ranges own : List (ℕ × ℕ)) : Type 0 where
@@ -56,14 +35,14 @@ pub record IsRegionOfPart (problem : Problem) (table : List (List Entry)) (range
     (region : Region) : Type 0 where
   pub is_region : IsRegion problem region
   pub inside : (places : List ℕ) → IsIn problem region places
-      → IsInPart problem table ranges (λ b. b == base) places
-  pub all : (places : List ℕ) → IsInPart problem table ranges (λ b. b == base) places
+      → IsInPart problem table ranges (only base) places
+  pub all : (places : List ℕ) → IsInPart problem table ranges (only base) places
       → IsIn problem region places
 
 -- a base, and the least roster in which only its persons fly, if there is one
 abbrev pub IsBasePart : Problem → List (List Entry) → List (ℕ × ℕ) → ℕ × Option Key → Type 0
 IsBasePart problem table ranges found =
-    IsLeastBelow problem (IsInPart problem table ranges (λ b. b == found.0)) (pos (2 ^ 63 - 1)) found.1
+    IsLeastBelow problem (IsInPart problem table ranges (only found.0)) (pos (2 ^ 63 - 1)) found.1
 
 abbrev pub AreBaseParts : Problem → List (List Entry) → List (ℕ × ℕ) → List (ℕ × Option Key) → Type 0
 AreBaseParts problem table ranges parts = All (IsBasePart problem table ranges) parts
@@ -71,7 +50,7 @@ AreBaseParts problem table ranges parts = All (IsBasePart problem table ranges) 
 -- some base has no roster with lines in the ranges
 abbrev pub IsWithoutPart : Problem → List (List Entry) → List (ℕ × ℕ) → Type 0
 IsWithoutPart problem table ranges =
-    (base : ℕ) × IsLeastBelow problem (IsInPart problem table ranges (λ b. b == base)) (pos (2 ^ 63 - 1)) None
+    (base : ℕ) × IsLeastBelow problem (IsInPart problem table ranges (only base)) (pos (2 ^ 63 - 1)) None
 
 -- for each of so many persons the range of all lines
 pub record AreWhole (table : List (List Entry)) (count : ℕ) (ranges : List (ℕ × ℕ)) : Type 0 where

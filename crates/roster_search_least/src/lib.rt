@@ -3,7 +3,7 @@
 //! All searches ask one thing again and again: whether a region has a roster that costs at most so much
 //! (`Finder`). Least cost and ties are loops round that (`least_of_region`), so nothing that prunes knows of
 //! ties, and how a roster is found isn't known here. Bases share neither persons nor pairings, so each has a
-//! region of its own (`region_of_base`), and `merged` puts rosters of bases together. In reading order:
+//! region of its own (`region_of_base`). In reading order:
 //!
 //! - `boxes`: the box of all lines, and what is answered of a box
 //! - `parts`: the rosters of one base
@@ -25,4 +25,4 @@ mod tuning;
 pub use boxes::{if_before, whole};
 pub use finder::Finder;
 pub use least::{RootPrices, costs_fit, least_of_region, roster_in};
-pub use parts::{LeastOfBase, all_open, least_in, merged, region_of_base};
+pub use parts::{LeastOfBase, least_in, region_of_base};

@@ -1,14 +1,16 @@
 //! The parts of a box: the persons of one base each.
 
-ghost use Rattle.std.specs.Prelude.{◌≡◌, ◌^◌, ◌-◌, ◌==◌, IfOk, length, pos, replicate};
+ghost use Rattle.std.specs.Prelude.{◌≡◌, ◌^◌, ◌-◌, IfOk, length, pos};
+ghost use Rattle.roster_bases.specs.Bases.{only};
 ghost use Rattle.roster_lines_table.specs.Person.{AreListed};
 ghost use Rattle.roster_search_least.specs.Least.{IsLeastBelow};
-ghost use Rattle.roster_search_least.specs.Parts.{merge, AreOwnRanges, IsInPart, IsRegionOfPart};
+ghost use Rattle.roster_search_least.specs.Parts.{AreOwnRanges, IsInPart, IsRegionOfPart};
 
 use crate::finder::Finder;
 use crate::least::{RootPrices, least_of_region};
+use roster_bases::is_person_of;
 use roster_lines_table::Table;
-use roster_problem::{Problem, open_number};
+use roster_problem::Problem;
 use roster_search_regions::Region;
 use roster_values::Roster;
 use std::alloc::{AllocError, Global};
@@ -48,7 +50,7 @@ pub fn least_in<F: Finder>(
     requires finder { F.may_find }
     requires part { IsRegionOfPart problem.now table.now ranges.now base region }
     ensures least { IfOk result (IsLeastBelow problem.now
-        (IsInPart problem.now table.now ranges.now (λ b. b == base)) (pos (2 ^ 63 - 1))) }
+        (IsInPart problem.now table.now ranges.now (only base)) (pos (2 ^ 63 - 1))) }
     ensures goes_on { F.goes_on finder.old finder.new }
 {
     least_of_region(alloc, problem, region, root, i64::MAX, finder)
@@ -66,45 +68,11 @@ fn own_ranges(
 {
     let mut own = Vec::new(alloc);
     for (k, range) in ranges.iter().enumerate() {
-        own.push(if problem.person(k).base == base {
+        own.push(if is_person_of(problem, k, base) {
             *range
         } else {
             (0, 1)
         })?;
     }
     Ok(own)
-}
-
-/// The places of the roster that leaves all open.
-pub fn all_open(alloc: Global, problem: &Problem) -> Result<Vec<u16>, AllocError>
-    ensures { IfOk result (λ places. places.items
-        ≡ replicate (length problem.now.pairings) (length problem.now.persons)) }
-{
-    let places = vec![in alloc; open_number(problem); problem.pairings().len()]?;
-    Ok(places)
-}
-
-/// The places with the numbers of the part at the pairings of the base.
-pub fn merged(
-    alloc: Global,
-    problem: &Problem,
-    base: usize,
-    part: &Roster,
-    places: &[u16],
-) -> Result<Vec<u16>, AllocError>
-    requires part { length part.now.places ≡ length problem.now.pairings }
-    requires places { length places.now ≡ length problem.now.pairings }
-    ensures { IfOk result (λ merged. merged.items
-        ≡ merge problem.now (λ b. b == base) part.now.places places.now) }
-{
-    let own = part.places.as_slice();
-    let mut merged = Vec::new(alloc);
-    for (p, number) in places.iter().enumerate() {
-        merged.push(if problem.pairing(p).base == base {
-            own[p]
-        } else {
-            *number
-        })?;
-    }
-    Ok(merged)
 }

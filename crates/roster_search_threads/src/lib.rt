@@ -4,7 +4,7 @@
 //! have nothing left to do help the others to search. Nothing that they find rests on who searched what. In
 //! reading order:
 //!
-//! - `bases`: the least roster of all, merged from those of the bases
+//! - `bases`: the least roster of all, united from those of the bases
 //! - `shared`: bases that several threads search
 //! - `crew`: threads that find one roster together, in rounds
 //! - `exploring`: one round

@@ -1,12 +1,14 @@
 //! The least rosters of single bases, which several threads find.
 
-ghost use Rattle.std.specs.Prelude.{◌≡◌, ◌<◌, ◌^◌, ◌-◌, ◌==◌, All, IfOk, length, pos};
+ghost use Rattle.std.specs.Prelude.{◌≡◌, ◌<◌, ◌^◌, ◌-◌, All, IfOk, length, pos};
 ghost use Rattle.std.specs.Thread.{IsSync};
+ghost use Rattle.roster_bases.specs.Bases.{only};
 ghost use Rattle.roster_search_least.specs.Least.{IsLeastBelow};
 ghost use Rattle.roster_search_least.specs.Parts.{AreBaseParts, IsInPart};
 ghost use Rattle.roster_lines_table.specs.Person.{AreListed};
 
 use crate::crew::Crew;
+use roster_bases::{has_crew, is_person_of};
 use roster_lines_table::Table;
 use roster_model::limits::MOST_BASES;
 use roster_problem::Problem;
@@ -69,7 +71,7 @@ fn lines_of_base(problem: &Problem, table: &Table, base: usize) -> usize
 {
     let mut lines: usize = 0;
     for k in 0..problem.persons().len() {
-        if problem.person(k).base == base {
+        if is_person_of(problem, k, base) {
             lines = lines.wrapping_add(table.width(k));
         }
     }
@@ -82,7 +84,7 @@ fn threads_a_base(problem: &Problem, threads: usize) -> usize
 {
     let mut bases: usize = 0;
     for base in 0..MOST_BASES {
-        if problem.persons().iter().any(|person| person.base == base) {
+        if has_crew(problem, base) {
             bases = bases.wrapping_add(1);
         }
     }
@@ -141,7 +143,7 @@ fn least_of_base_by_threads<R: Threads + Sync>(
     requires ranges { length ranges.now ≡ length table.now }
     requires threads { 0 < threads }
     ensures { IfOk result (IsLeastBelow problem.now
-        (IsInPart problem.now table.now ranges.now (λ b. b == base)) (pos (2 ^ 63 - 1))) }
+        (IsInPart problem.now table.now ranges.now (only base)) (pos (2 ^ 63 - 1))) }
 {
     let region = region_of_base(alloc, problem, table, ranges, base)?;
     let first = DualPrices::of_penalties(alloc, problem, &region)?;

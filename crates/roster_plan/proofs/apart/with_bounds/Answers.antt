@@ -1,6 +1,7 @@
 use Rattle.std.proofs.Common.{ℤ, sym, subst, w64, FitsSigned, rules}
 use Rattle.std.proofs.lemmas.Int.{to_z-of_z}
-use Rattle.roster_plan_bound.specs.Homes.{IsHomeBound}
+use Rattle.roster_bases.specs.Bases.{only}
+use Rattle.roster_bases.specs.Homes.{IsHomeBound}
 use Rattle.roster_plan.specs.Bases.{IsGap}
 use Rattle.roster_plan.proofs.MonthLemmas.{month_on}
 use Rattle.roster_plan.proofs.PartLemmas.{same_home_bound}
@@ -14,7 +15,7 @@ raised-requires-clause-bound g c =
     let is = subst (IsGap problem) (sym c.gap-item.is) known in
     let bound : ℤ = c.bound-bound.result in
     let fits : FitsSigned w64 bound = search rules in
-    subst (IsHomeBound problem gap.base) (sym (to_z-of_z w64 bound fits))
+    subst (IsHomeBound problem (only gap.base)) (sym (to_z-of_z w64 bound fits))
     (same_home_bound gap.priced.problem problem gap.priced.base gap.base bound is.same is.of
     c.bound-bound.ensures.bound)
 

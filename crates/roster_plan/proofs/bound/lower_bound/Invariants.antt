@@ -2,7 +2,8 @@ use Rattle.std.proofs.Common.{◌+◌, ◌-◌, ◌*◌, ◌^◌, ◌≤◌, len
 use Rattle.roster_model.specs.declared.limits.TheConstants.{MOST_UNITS}
 use Rattle.roster_model.specs.Costs.{missed_targets}
 use Rattle.roster_cost.specs.Amounts.{IsWithin}
-use Rattle.roster_plan_bound.specs.Homes.{EachHomeRoster}
+use Rattle.roster_bases.specs.Bases.{only}
+use Rattle.roster_bases.specs.Homes.{EachHomeRoster}
 use Rattle.roster_plan.proofs.FloorLemmas.{cost_behind}
 use Rattle.roster_plan.proofs.bound.lower_bound.Given as goal
 
@@ -11,7 +12,7 @@ abbrev pub invariant-loop-p : goal.invariant-loop-p
 invariant-loop-p l = record {
   inside : l.p ≤ length l.problem.pairings;
   within : IsWithin (2 ^ 60 + (length l.problem.pairings - l.p) * MOST_UNITS) l.bound;
-  below : EachHomeRoster l.problem l.base (λ places.
+  below : EachHomeRoster l.problem (only l.base) (λ places.
       l.bound ≤ℤ (cost_behind l.problem l.p places +ℤ missed_targets l.problem places));
 }
 

@@ -1,4 +1,4 @@
-use Rattle.std.proofs.Common.{◌≡◌, ◌≢◌, ℤ, [], pos, ap, ◌∙◌, w64, to_z, of_z, FitsSigned, rules, arith}
+use Rattle.std.proofs.Common.{◌≡◌, ℤ, [], pos, ap, sym, ◌∙◌, w64, to_z, of_z, FitsSigned, rules, arith}
 use Rattle.std.proofs.lemmas.Int.{to_z-of_z, ints}
 use Rattle.roster_model.specs.Costs.{line_cost, missed_target}
 use Rattle.roster_model.specs.Places.{set_of}
@@ -20,9 +20,7 @@ idle c =
 
 pub returns-clause-below : goal.returns-clause-below
 returns-clause-below c places home =
-    let other : c.person.result.now.base ≢ c.args.base =
-    λ same. c.if-person-base.false (ap (λ v. v.base) c.behind-problem.view_is ∙ same) in
-    let none : set_of c.args.k places ≡ [] = home c.args.k c.person.result.now c.person.ensures other in
+    let none : set_of c.args.k places ≡ [] = home c.args.k c.requires (sym c.if-is_person_of.ensures) in
     let misses : missed_target c.args.problem.now c.args.k (set_of c.args.k places)
     ≡ missed_target c.args.problem.now c.args.k [] =
     ap (missed_target c.args.problem.now c.args.k) none in

@@ -1,12 +1,13 @@
-use Rattle.std.proofs.Common.{◌≡◌, ℕ, ◌+◌, true, List, eqb, Some, refl, sym, ap, ◌∙◌, subst, inl, inr, arith, ℤ, ◌+ℤ◌, ◌-ℤ◌, ◌&&◌, w64, to_z, of_z, FitsSigned, rules}
+use Rattle.std.proofs.Common.{◌≡◌, ℕ, ◌+◌, true, List, Some, refl, sym, ap, ◌∙◌, subst, inl, inr, arith, ℤ, ◌+ℤ◌, ◌-ℤ◌, ◌&&◌, w64, to_z, of_z, FitsSigned, rules}
 use Rattle.std.specs.Int.{w128}
 use Rattle.std.proofs.lemmas.Bool.{false≢true}
 use Rattle.std.proofs.lemmas.Int.{ints, to_z-of_z}
 use Rattle.std.proofs.lemmas.Option.{slice_get-get_or}
 use Rattle.roster_model.specs.Costs.{cost_of}
+use Rattle.roster_model.specs.Plans.{all_open}
 use Rattle.roster_model.specs.Settled.{Anywhere, IsHeld, IsNotAfter}
-use Rattle.roster_search_least.specs.Parts.{merge}
-use Rattle.roster_search_least.proofs.BoxLemmas.{all_open}
+use Rattle.roster_bases.specs.Bases.{only}
+use Rattle.roster_bases.specs.United.{unite}
 use Rattle.roster_plan.specs.declared.parts.BasePlan.{BasePlan}
 use Rattle.roster_plan.specs.Parts.{AreTogether, IsPart}
 use Rattle.roster_plan.proofs.PartLemmas.{all_best, all_bounded, next_together, nothing_together}
@@ -37,8 +38,8 @@ here : (c : goal.After-deref-in-loop-base)
 here c = c.requires.each c.loop-base.base c.index-parts-base.result
     (slice_get-get_or c.args.parts.now c.loop-base.base c.index-parts-base.result c.loop-base-test.true ∙ ap (λ (part : BasePlan). Some part) (sym c.index-parts-base.is))
 
-pub merged-requires-clause-part : goal.merged-requires-clause-part
-merged-requires-clause-part c = (here c).held.legal.covers
+pub united-requires-clause-part : goal.united-requires-clause-part
+united-requires-clause-part c = (here c).held.legal.covers
 
 pub loop-base-preserved : goal.loop-base-preserved
 loop-base-preserved c =
@@ -63,10 +64,10 @@ loop-base-preserved c =
     let sum_fits : FitsSigned w128 sum = search rules in
     let sum_told : to_z w128 (of_z w128 sum) ≡ sum = to_z-of_z w128 sum sum_fits in
     let value : to_z w128 (of_z w128 sum) ≡ bound +ℤ (part.bound -ℤ cost) = omega (arith, ints, sum_told, c.with_more-bound.ensures.value, more_told, c.above.ensures.value, own_told, cost_told) in
-    let merged : c.in_ok-places-2.places.items ≡ merge problem (λ b. eqb b base) part.roster.places old =
+    let united : c.in_ok-places-2.places.items ≡ unite problem (only base) part.roster.places old =
     c.in_ok-places-2.ensures
-    ∙ ap (merge problem (λ b. eqb b base) part.roster.places) c.deref-in-loop-base.ensures.value in
-    let next = next_together c.shares_add_up.ensures problem base part old bound cost c.loop-base.is_best is c.loop-base.invariant.together idle in
+    ∙ ap (unite problem (only base) part.roster.places) c.deref-in-loop-base.ensures.value in
+    let next = next_together problem base part old bound cost c.loop-base.is_best is c.loop-base.invariant.together idle in
     let low = c.with_more-bound.ensures.within.0 in
     let high = c.with_more-bound.ensures.within.1 in
     record {
@@ -75,7 +76,7 @@ loop-base-preserved c =
           (λ b. AreTogether problem (base + 1) c.in_ok-places-2.places.items (to_z w128 (of_z w128 sum)) b)
           (sym c.are_both-is_best.ensures)
           (subst (λ z. AreTogether problem (base + 1) c.in_ok-places-2.places.items z (c.loop-base.is_best && part.is_best)) (sym value)
-          (subst (λ places. AreTogether problem (base + 1) places (bound +ℤ (part.bound -ℤ cost)) (c.loop-base.is_best && part.is_best)) (sym merged) next));
+          (subst (λ places. AreTogether problem (base + 1) places (bound +ℤ (part.bound -ℤ cost)) (c.loop-base.is_best && part.is_best)) (sym united) next));
       within = (omega (arith, ints, low, sum_told), omega (arith, ints, high, sum_told));
       best = λ all.
           let this : part.is_best ≡ true =

@@ -1,6 +1,7 @@
 use Rattle.std.proofs.Common.{◌≡◌, ℤ, ap, ◌∙◌, subst, sym, w64, to_z, of_z, FitsSigned, rules}
 use Rattle.std.proofs.lemmas.Int.{to_z-of_z}
-use Rattle.roster_plan_bound.specs.Homes.{IsHomeBound}
+use Rattle.roster_bases.specs.Bases.{only}
+use Rattle.roster_bases.specs.Homes.{IsHomeBound}
 use Rattle.roster_plan.proofs.ExactLemmas.{best_is_home_bound}
 use Rattle.roster_plan.proofs.PartLemmas.{nobody_part}
 use Rattle.roster_plan.proofs.parts.part_of_nobody.Goals as goal
@@ -18,6 +19,6 @@ returns c =
     record {
       held = is.0;
       home = is.1.0;
-      bounded = subst (IsHomeBound problem base) (sym told) (best_is_home_bound problem base key is.1.1);
+      bounded = subst (IsHomeBound problem (only base)) (sym told) (best_is_home_bound problem base key is.1.1);
       best = λ _. is.1.1;
     }

@@ -1,18 +1,18 @@
 use Rattle.std.proofs.Common.{◌≡◌, ℕ, ◌+◌, ◌<◌, [], ◌∷◌, ◌++◌, length, Some, refl, ap, subst, sym, ◌∙◌, arith, ℤ, ◌+ℤ◌, ◌*ℤ◌, ◌≤ℤ◌, pos, w64, to_z, of_z, FitsSigned, rules}
 use Rattle.std.proofs.lemmas.Int.{to_z-of_z}
 use Rattle.std.proofs.lemmas.List.{length_push}
-use Rattle.std.specs.Prelude.{◌≢◌, slice_get}
+use Rattle.std.specs.Prelude.{false, slice_get}
 use Rattle.roster_model.specs.Costs.{cost_of}
 use Rattle.roster_model.specs.Places.{set_of}
-use Rattle.roster_model.specs.records.Crew.{Person}
 use Rattle.roster_model.proofs.PushLemmas.{each-push}
 use Rattle.roster_cost.specs.Amounts.{IsWithin}
 use Rattle.roster_lines_table.specs.Entries.{sets_of}
 use Rattle.roster_lines_table.specs.Person.{AreListedOf}
 use Rattle.roster_lines.specs.WantedTables.{AreListedSoFar}
+use Rattle.roster_bases.specs.Bases.{base_of_person, only}
+use Rattle.roster_bases.specs.Homes.{EachHomeRoster}
 use Rattle.roster_plan_bound.specs.declared.parts.TheConstants.{MOST_LEAST, PARTS}
 use Rattle.roster_plan_bound.specs.Chains.{value_at}
-use Rattle.roster_plan_bound.specs.Homes.{EachHomeRoster}
 use Rattle.roster_plan_bound.specs.Reduced.{reduced}
 use Rattle.roster_plan_bound.proofs.GapLemmas.{cheap_enough, cheap_given, cheap_more, none_flies, HasCheap, HasNone}
 use Rattle.roster_plan_bound.proofs.gap.lines_of_gap.Goals as goal
@@ -30,8 +30,8 @@ loop-k-preserved c =
     let listed =
     each-push (AreListedOf problem) c.loop-k.table lines inv.listed
     (subst (λ j. AreListedOf problem j lines) (sym inv.count) are.listed) in
-    let nobody = each-push (λ j ls. (who : Person) → slice_get problem.persons j ≡ Some who → who.base ≢ base → sets_of ls ≡ [] ∷ []) c.loop-k.table lines inv.none
-    (subst (λ j. (who : Person) → slice_get problem.persons j ≡ Some who → who.base ≢ base → sets_of lines ≡ [] ∷ []) (sym inv.count) are.none) in
+    let nobody = each-push (λ j ls. only base (base_of_person problem j) ≡ false → sets_of ls ≡ [] ∷ []) c.loop-k.table lines inv.none
+    (subst (λ j. only base (base_of_person problem j) ≡ false → sets_of lines ≡ [] ∷ []) (sym inv.count) are.none) in
     let bound : ℤ = c.args.bound in
     let bound_told : to_z w64 (of_z w64 bound) ≡ bound = to_z-of_z w64 bound c.ranges.bound in
     let least : ℤ = value_at c.args.leasts.now k in
@@ -42,7 +42,7 @@ loop-k-preserved c =
     let limit_fits : FitsSigned w64 c.limit_of-limit.result = search rules in
     let limit_told : to_z w64 (of_z w64 c.limit_of-limit.result) ≡ c.limit_of-limit.result =
     to_z-of_z w64 c.limit_of-limit.result limit_fits in
-    let here : EachHomeRoster problem base (λ places. cost_of problem places ≤ℤ (to_z w64 (of_z w64 bound) +ℤ pos c.args.gap)
+    let here : EachHomeRoster problem (only base) (λ places. cost_of problem places ≤ℤ (to_z w64 (of_z w64 bound) +ℤ pos c.args.gap)
     → (i : ℕ) × (slice_get (sets_of lines) i ≡ Some (set_of k places))) = λ places roster home cost.
     let limit : reduced problem c.args.prices.now k (set_of k places) ≤ℤ to_z w64 (of_z w64 c.limit_of-limit.result) =
     cheap_enough problem c.args.prices.now c.args.leasts.now base bound least

@@ -1,6 +1,8 @@
-use Rattle.std.proofs.Common.{◌≡◌, ◌-◌, ◌^◌, ℕ, List, length, eqb, pos, ap, subst, ◌∙◌, arith}
+use Rattle.std.proofs.Common.{◌≡◌, ◌-◌, ◌^◌, ℕ, List, length, pos, ap, subst, ◌∙◌, arith}
+use Rattle.roster_bases.specs.Bases.{only}
+use Rattle.roster_bases.specs.United.{unite}
 use Rattle.roster_search_least.specs.Least.{IsLeastBelow}
-use Rattle.roster_search_least.specs.Parts.{merge, IsInPart}
+use Rattle.roster_search_least.specs.Parts.{IsInPart}
 use Rattle.roster_search_least.proofs.BoxLemmas.{least_of_next}
 use Rattle.roster_search.proofs.boxes.with_base.Goals as goal
 
@@ -8,7 +10,7 @@ pub returns-clause-least : goal.returns-clause-least
 returns-clause-least g c =
     let problem = c.args.problem.now in
     let base : ℕ = c.args.base in
-    (base, subst (λ found. IsLeastBelow problem (IsInPart problem c.args.table.now c.args.ranges.now (λ b. eqb b base)) (pos (2 ^ 63 - 1)) found) c.in-None.is c.in_ok-part.ensures.least)
+    (base, subst (λ found. IsLeastBelow problem (IsInPart problem c.args.table.now c.args.ranges.now (only base)) (pos (2 ^ 63 - 1)) found) c.in-None.is c.in_ok-part.ensures.least)
 
 pub returns-in-Some-clause-least : goal.returns-in-Some-clause-least
 returns-in-Some-clause-least g c =
@@ -18,11 +20,11 @@ returns-in-Some-clause-least g c =
     let covers : length ranges ≡ length problem.persons =
     omega (arith, c.requires.ranges, c.requires.table.covers) in
     let base : ℕ = c.args.base in
-    let part = subst (λ found. IsLeastBelow problem (IsInPart problem table ranges (λ b. eqb b base)) (pos (2 ^ 63 - 1)) found) c.in-Some.is c.in_ok-part.ensures.least in
+    let part = subst (λ found. IsLeastBelow problem (IsInPart problem table ranges (only base)) (pos (2 ^ 63 - 1)) found) c.in-Some.is c.in_ok-part.ensures.least in
     let old : List ℕ = c.args.places.items in
-    let new : List ℕ = c.in_ok-merged-in-Some.field-0.items in
-    let seen : new ≡ merge problem (λ b. eqb b base) c.in-Some.part.places c.deref.result.now =
-    c.in_ok-merged-in-Some.ensures in
-    let same : new ≡ merge problem (λ b. eqb b base) c.in-Some.part.places old =
-    seen ∙ ap (merge problem (λ b. eqb b base) c.in-Some.part.places) c.deref.ensures.value in
-    least_of_next c.shares_add_up.ensures problem table ranges base c.in-Some.part old new covers part.0 c.requires.least same
+    let new : List ℕ = c.in_ok-united-in-Some.field-0.items in
+    let seen : new ≡ unite problem (only base) c.in-Some.part.places c.deref.result.now =
+    c.in_ok-united-in-Some.ensures in
+    let same : new ≡ unite problem (only base) c.in-Some.part.places old =
+    seen ∙ ap (unite problem (only base) c.in-Some.part.places) c.deref.ensures.value in
+    least_of_next problem table ranges base c.in-Some.part old new covers part.0 c.requires.least same

@@ -1,6 +1,7 @@
-use Rattle.std.proofs.Common.{◌≡◌, ◌-◌, ◌^◌, ℕ, Option, eqb, pos, sym, subst}
+use Rattle.std.proofs.Common.{◌≡◌, ◌-◌, ◌^◌, ℕ, Option, pos, sym, subst}
 use Rattle.std.proofs.lemmas.Result.{IfOk-weaker}
 use Rattle.roster_model.specs.Rosters.{Key}
+use Rattle.roster_bases.specs.Bases.{only}
 use Rattle.roster_search_least.specs.Least.{IsLeastBelow}
 use Rattle.roster_search_least.specs.Parts.{IsBasePart, IsInPart}
 use Rattle.roster_search.proofs.parts.least_at.Goals as goal
@@ -12,7 +13,7 @@ returns-then-part-base-clause-least g c =
     let ranges = c.args.ranges.now in
     let found = c.index-parts-i.result in
     let least : ℕ → Option Key → Type 0 =
-    λ base. IsLeastBelow problem (IsInPart problem table ranges (λ b. eqb b base)) (pos (2 ^ 63 - 1)) in
+    λ base. IsLeastBelow problem (IsInPart problem table ranges (only base)) (pos (2 ^ 63 - 1)) in
     let part : IsBasePart problem table ranges found =
     subst (IsBasePart problem table ranges) (sym c.index-parts-i.is)
     (c.requires.parts c.loop-i.i found c.loop-i-test.true) in

@@ -1,5 +1,6 @@
-use Rattle.std.proofs.Common.{◌-◌, ◌^◌, eqb, pos}
+use Rattle.std.proofs.Common.{◌-◌, ◌^◌, pos}
 use Rattle.std.proofs.lemmas.Result.{IfOk-weaker}
+use Rattle.roster_bases.specs.Bases.{only}
 use Rattle.roster_search_regions.specs.Regions.{IsIn}
 use Rattle.roster_search_least.specs.Least.{IsLeastBelow}
 use Rattle.roster_search_least.specs.Parts.{IsInPart}
@@ -14,6 +15,6 @@ returns-clause-least g c =
     let base = c.args.base in
     let region = c.args.region in
     IfOk-weaker c.least_of_region.result (IsLeastBelow problem (IsIn problem region) (pos (2 ^ 63 - 1)))
-    (IsLeastBelow problem (IsInPart problem table ranges (λ b. eqb b base)) (pos (2 ^ 63 - 1)))
-    (λ found least. least_in_other problem (IsIn problem region) (IsInPart problem table ranges (λ b. eqb b base)) (pos (2 ^ 63 - 1)) found c.requires.part.inside (λ places legal part. c.requires.part.all places part) least)
+    (IsLeastBelow problem (IsInPart problem table ranges (only base)) (pos (2 ^ 63 - 1)))
+    (λ found least. least_in_other problem (IsIn problem region) (IsInPart problem table ranges (only base)) (pos (2 ^ 63 - 1)) found c.requires.part.inside (λ places legal part. c.requires.part.all places part) least)
     c.least_of_region.ensures.least

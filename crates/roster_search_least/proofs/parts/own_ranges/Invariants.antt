@@ -1,6 +1,6 @@
 use Rattle.std.proofs.Common.{◌≡◌, ℕ, ◌<◌, cond, eqb, Some, vec_len}
 use Rattle.std.specs.Prelude.{slice_get}
-use Rattle.roster_search_least.specs.Parts.{base_of_person}
+use Rattle.roster_bases.specs.Bases.{base_of_person}
 use Rattle.roster_search_least.proofs.parts.own_ranges.Given as goal
 
 -- the persons so far have their own range or the one of the empty line

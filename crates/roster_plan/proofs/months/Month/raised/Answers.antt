@@ -4,7 +4,8 @@ use Rattle.std.proofs.lemmas.Option.{slice_get-get_or}
 use Rattle.std.proofs.lemmas.Result.{IfOk-weaker}
 use Rattle.roster_model.specs.Rosters.{Key}
 use Rattle.roster_model.specs.Settled.{IsHeld, IsNotAfter}
-use Rattle.roster_plan_bound.specs.Homes.{IsHome, IsHomeBound}
+use Rattle.roster_bases.specs.Bases.{only}
+use Rattle.roster_bases.specs.Homes.{IsHome, IsHomeBound}
 use Rattle.roster_plan.specs.declared.parts.BasePlan.{BasePlan}
 use Rattle.roster_plan.specs.Months.{HasBound}
 use Rattle.roster_plan.specs.Parts.{IsPart}
@@ -43,9 +44,9 @@ with-requires-clause-part g c =
     let fits : FitsSigned w64 bound = search rules in
     record {
       held = subst (IsHeld problem) is part.held;
-      home = subst (λ (key : Key). IsHome problem base key.places) is part.home;
-      bounded = subst (IsHomeBound problem base) (sym (to_z-of_z w64 bound fits)) c.requires.bound;
-      best = λ told. subst (IsNotAfter problem (IsHome problem base)) is (part.best told);
+      home = subst (λ (key : Key). IsHome problem (only base) key.places) is part.home;
+      bounded = subst (IsHomeBound problem (only base)) (sym (to_z-of_z w64 bound fits)) c.requires.bound;
+      best = λ told. subst (IsNotAfter problem (IsHome problem (only base))) is (part.best told);
     }
 
 pub returns-clause-raised : goal.returns-clause-raised

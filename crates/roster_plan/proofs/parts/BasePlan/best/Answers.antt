@@ -1,6 +1,7 @@
 use Rattle.std.proofs.Common.{◌≡◌, ℤ, ap, ◌∙◌, subst, sym, w64, to_z, of_z, FitsSigned, rules}
 use Rattle.std.proofs.lemmas.Int.{to_z-of_z}
-use Rattle.roster_plan_bound.specs.Homes.{IsHomeBound}
+use Rattle.roster_bases.specs.Bases.{only}
+use Rattle.roster_bases.specs.Homes.{IsHomeBound}
 use Rattle.roster_plan.proofs.PartLemmas.{best_of_found}
 use Rattle.roster_plan.proofs.ExactLemmas.{best_is_home_bound}
 use Rattle.roster_plan.proofs.parts.BasePlan.best.Goals as goal
@@ -18,7 +19,7 @@ returns-clause-part c =
       held = c.in_ok-own.ensures.held;
       home = c.in_ok-own.ensures.home;
       bounded =
-          subst (IsHomeBound problem c.args.base) (sym told)
+          subst (IsHomeBound problem (only c.args.base)) (sym told)
           (best_is_home_bound problem c.args.base own best);
       best = λ _. best;
     }

@@ -3,7 +3,8 @@ use Rattle.std.proofs.lemmas.Int.{to_z-of_z}
 use Rattle.roster_model.specs.Rosters.{Key, key_le, key_of}
 use Rattle.roster_model.specs.Settled.{IsHeld}
 use Rattle.roster_model.proofs.KeyLemmas.{key_le-trans}
-use Rattle.roster_plan_bound.specs.Homes.{IsHome, IsHomeBound}
+use Rattle.roster_bases.specs.Bases.{only}
+use Rattle.roster_bases.specs.Homes.{IsHome, IsHomeBound}
 use Rattle.roster_plan.proofs.PartLemmas.{either_part}
 use Rattle.roster_plan.proofs.parts.BasePlan.renewed.Goals as goal
 
@@ -18,12 +19,12 @@ returns-clause-part c =
     let part = c.requires.part in
     let key = c.earlier-roster.result in
     let own = either_part problem base c.in_ok-own.own c.in_ok-copy.field-0 key c.in_ok-own.ensures.held c.in_ok-own.ensures.home
-    (subst (IsHeld problem) (sym is) part.held) (subst (λ (k : Key). IsHome problem base k.places) (sym is) part.home) c.earlier-roster.ensures.from in
+    (subst (IsHeld problem) (sym is) part.held) (subst (λ (k : Key). IsHome problem (only base) k.places) (sym is) part.home) c.earlier-roster.ensures.from in
     let kept : key_le key c.args.self.now.roster ≡ true =
     subst (λ k. key_le key k ≡ true) is c.earlier-roster.ensures.second in
     record {
       held = own.0;
       home = own.1;
-      bounded = subst (IsHomeBound problem base) (sym told) part.bounded;
+      bounded = subst (IsHomeBound problem (only base)) (sym told) part.bounded;
       best = λ best others legal home. key_le-trans key c.args.self.now.roster (key_of problem others) kept (part.best best others legal home);
     }

@@ -1,24 +1,32 @@
-use Rattle.std.proofs.Common.{◌≡◌, ℕ, List, Some, ◌+◌, ◌*◌, ◌<◌, ◌≤◌, ◌∷◌, [], ◌++◌, length, get_or, ℤ, pos, ◌+ℤ◌, ap, subst, sym, ◌∙◌, arith, w64, to_z, of_z, FitsSigned, rules}
-use Rattle.std.specs.Prelude.{◌≢◌, IfOk, slice_get}
+use Rattle.std.proofs.Common.{◌≡◌, ℕ, List, Some, ◌+◌, ◌*◌, ◌<◌, ◌≤◌, ◌∷◌, [], ◌++◌, length, get_or, ℤ, pos, ◌+ℤ◌, refl, ap, subst, sym, ◌∙◌, arith, w64, to_z, of_z, FitsSigned, rules}
+use Rattle.std.specs.Prelude.{All, true, false, IfOk, slice_get}
+use Rattle.std.proofs.lemmas.List.{length_push}
 use Rattle.std.proofs.lemmas.Int.{ints, to_z-of_z}
 use Rattle.std.proofs.lemmas.Option.{slice_get-get_or, slice_get_within}
 use Rattle.roster_model.specs.declared.limits.TheConstants.{MOST_PERSONS}
 use Rattle.roster_model.specs.Problem.{Problem}
-use Rattle.roster_model.specs.records.Crew.{Person}
+use Rattle.roster_bases.specs.Bases.{base_of_person, only, persons_before, persons_of}
+use Rattle.roster_bases.proofs.BaseLemmas.{passing_at, passing_inside, passing-next, passing-same}
 use Rattle.roster_plan_bound.specs.declared.parts.TheConstants.{MOST_LEAST}
-use Rattle.roster_plan_bound.specs.Looks.{homes_before, AreLeasts, ArePersonsOf}
+use Rattle.roster_plan_bound.specs.Looks.{AreLeasts}
 use Rattle.roster_plan_bound.specs.Reduced.{IsLeastOf}
 use Rattle.roster_plan_bound.proofs.GapLemmas.{least_away, least_home, leasts_more, leasts_none}
-use Rattle.roster_plan_bound.proofs.HomeLemmas.{no_home, no_persons, one_home}
 use Rattle.roster_plan_bound.proofs.RowLemmas.{within-more}
 use Rattle.roster_plan_bound.proofs.ShareLemmas.{sum_fits}
 use Rattle.roster_plan_bound.proofs.pricing.Pricing.leasts.Given as given
 use Rattle.roster_plan_bound.proofs.pricing.Pricing.leasts.Goals as goal
 
+-- the persons of the base are inside
+pub look_at_all-requires-clause-persons : goal.look_at_all-requires-clause-persons
+look_at_all-requires-clause-persons g c lifetimes lives =
+    let problem = c.args.self.now in
+    subst (All (λ k. k < length problem.persons)) (sym c.requires.persons)
+    (passing_inside (λ k. only c.args.base (base_of_person problem k)) (length problem.persons))
+
 pub loop-k-init : goal.loop-k-init
 loop-k-init g c = record {
   few = omega arith;
-  seen = sym (no_persons c.args.self.now c.args.base);
+  seen = refl;
   behind = omega arith;
   are =
       subst (AreLeasts c.args.self.now c.args.prices.now c.args.base 0 _) (sym c.new-each.ensures.items)
@@ -27,8 +35,8 @@ loop-k-init g c = record {
 
 -- ---- one of another base
 
-pub loop-k-preserved-then-person-base : goal.loop-k-preserved-then-person-base
-loop-k-preserved-then-person-base g c =
+pub loop-k-preserved-then-not-is_person_of : goal.loop-k-preserved-then-not-is_person_of
+loop-k-preserved-then-not-is_person_of g c =
     let problem = c.args.self.now in
     let prices = c.args.prices.now in
     let base = c.args.base in
@@ -36,19 +44,17 @@ loop-k-preserved-then-person-base g c =
     let inv = c.loop-k.invariant in
     let sum : ℤ = to_z w64 c.loop-k.sum-bits in
     let inside : k < length problem.persons = omega (arith, c.loop-k-test.true, ap length c.persons-k-end.ensures.value, ap (λ p. length p.persons) c.self.view_is) in
-    let at : slice_get problem.persons k ≡ Some c.person.result.now =
-    ap (λ p. slice_get p.persons k) (sym c.self.view_is) ∙ c.person.ensures in
-    let other : c.person.result.now.base ≢ base =
-    λ same. c.if-person-base.true (ap (λ (x : Person). x.base) c.behind-self.view_is ∙ same) in
+    let other : only base (base_of_person problem k) ≡ false =
+    ap (λ p. only base (base_of_person p k)) (sym c.self.view_is) ∙ sym c.if-not-is_person_of.ensures in
     let pushed : c.push.new.self.items ≡ c.loop-k.each.items ++ pos 0 ∷ [] = c.in_ok-push.ensures.items in
     let more =
     leasts_more problem prices base k sum (pos 0) c.loop-k.each.items inv.are
-    (least_away problem prices base k c.person.result.now at other) in
+    (least_away problem prices base k inside other) in
     let same : sum +ℤ pos 0 ≡ sum = omega (arith, ints) in
     let behind = inv.behind in
     record {
       few = omega (arith, inside);
-      seen = inv.seen ∙ sym (no_home problem base k c.person.result.now at other);
+      seen = inv.seen ∙ sym (ap length (passing-same (λ i. only base (base_of_person problem i)) k other));
       behind = omega (arith, behind);
       are =
           subst (λ z. AreLeasts problem prices base (k + 1) z c.push.new.self.items) same
@@ -65,33 +71,39 @@ offset_bounds-seen-i g c =
     omega (arith, few, behind, inside, c.loop-k-test.true)
 
 -- their number among those of the base
-place : (problem : Problem) (base : ℕ) (persons : List ℕ) (k i : ℕ) (person : Person)
-    → ArePersonsOf problem base persons → slice_get problem.persons k ≡ Some person → person.base ≡ base
-    → i ≡ homes_before problem base k → slice_get persons i ≡ Some k
-place problem base persons k i person are at own seen = ap (slice_get persons) seen ∙ are.each k person at own
+place : (problem : Problem) (base : ℕ) (persons : List ℕ) (k i : ℕ) → persons ≡ persons_of problem base
+    → k < length problem.persons → only base (base_of_person problem k) ≡ true
+    → i ≡ length (persons_before problem base k) → slice_get persons i ≡ Some k
+place problem base persons k i are inside own seen =
+    ap (λ ps. slice_get ps i) are ∙ ap (slice_get (persons_of problem base)) seen
+    ∙ passing_at (λ j. only base (base_of_person problem j)) (length problem.persons) k inside own
 
 pub bounds-seen-i : goal.bounds-seen-i
 bounds-seen-i g c =
-    let at : slice_get c.args.self.now.persons c.loop-k.k ≡ Some c.person.result.now =
-    ap (λ p. slice_get p.persons c.loop-k.k) (sym c.self.view_is) ∙ c.person.ensures in
-    let own = sym (ap (λ (x : Person). x.base) c.behind-self.view_is) ∙ c.if-person-base.false in
-    let there = place c.args.self.now c.args.base c.args.persons.now c.loop-k.k c.loop-k.i c.person.result.now c.requires.persons at own c.loop-k.invariant.seen in
+    let problem = c.args.self.now in
+    let inside : c.loop-k.k < length problem.persons = omega (arith, c.loop-k-test.true, ap length c.persons-k-end.ensures.value, ap (λ p. length p.persons) c.self.view_is) in
+    let own : only c.args.base (base_of_person problem c.loop-k.k) ≡ true =
+    ap (λ p. only c.args.base (base_of_person p c.loop-k.k)) (sym c.self.view_is)
+    ∙ sym c.if-not-is_person_of.ensures in
+    let there = place problem c.args.base c.args.persons.now c.loop-k.k c.loop-k.i c.requires.persons inside own c.loop-k.invariant.seen in
     omega
     (arith, slice_get_within c.args.persons.now c.loop-k.i c.loop-k.k there, c.look_at_all.ensures.covers)
 
-pub bounds-seen-i-else-person-base : goal.bounds-seen-i-else-person-base
-bounds-seen-i-else-person-base g c = bounds-seen-i g c
-
-own_place : (g : given.Over) (c : goal.In_ok-push-2 g)
-    → slice_get c.args.persons.now c.loop-k.i ≡ Some c.loop-k.k
-own_place g c =
-    let at : slice_get c.args.self.now.persons c.loop-k.k ≡ Some c.person.result.now =
-    ap (λ p. slice_get p.persons c.loop-k.k) (sym c.self.view_is) ∙ c.person.ensures in
-    let own = sym (ap (λ (x : Person). x.base) c.behind-self.view_is) ∙ c.if-person-base.false in
-    place c.args.self.now c.args.base c.args.persons.now c.loop-k.k c.loop-k.i c.person.result.now c.requires.persons at own c.loop-k.invariant.seen
+pub bounds-seen-i-else-not-is_person_of : goal.bounds-seen-i-else-not-is_person_of
+bounds-seen-i-else-not-is_person_of g c = bounds-seen-i g c
 
 person : (g : given.Over) (c : goal.In_ok-push-2 g) → c.loop-k.k < length c.args.self.now.persons
 person g c = omega (arith, c.loop-k-test.true, ap length c.persons-k-end.ensures.value, ap (λ p. length p.persons) c.self.view_is)
+
+of_base : (g : given.Over) (c : goal.In_ok-push-2 g)
+    → only c.args.base (base_of_person c.args.self.now c.loop-k.k) ≡ true
+of_base g c =
+    ap (λ p. only c.args.base (base_of_person p c.loop-k.k)) (sym c.self.view_is)
+    ∙ sym c.if-not-is_person_of.ensures
+
+own_place : (g : given.Over) (c : goal.In_ok-push-2 g)
+    → slice_get c.args.persons.now c.loop-k.i ≡ Some c.loop-k.k
+own_place g c = place c.args.self.now c.args.base c.args.persons.now c.loop-k.k c.loop-k.i c.requires.persons (person g c) (of_base g c) c.loop-k.invariant.seen
 
 -- what the look at the person told
 own : (g : given.Over) (c : goal.In_ok-push-2 g)
@@ -141,9 +153,6 @@ loop-k-preserved g c =
     let inv = c.loop-k.invariant in
     let sum : ℤ = to_z w64 c.loop-k.sum-bits in
     let least : ℤ = c.in_ok-least.least in
-    let at : slice_get problem.persons k ≡ Some c.person.result.now =
-    ap (λ p. slice_get p.persons k) (sym c.self.view_is) ∙ c.person.ensures in
-    let of_base = sym (ap (λ (x : Person). x.base) c.behind-self.view_is) ∙ c.if-person-base.false in
     let whole : to_z w64 (of_z w64 (sum +ℤ to_z w64 (of_z w64 least))) ≡ sum +ℤ least =
     to_z-of_z w64 (sum +ℤ to_z w64 (of_z w64 least)) (fits g c) ∙ ap (λ z. sum +ℤ z) (told g c) in
     let pushed : c.push-in-loop-k.new.self.items ≡ c.loop-k.each.items ++ least ∷ [] =
@@ -154,7 +163,9 @@ loop-k-preserved g c =
     let behind = inv.behind in
     record {
       few = omega (arith, person g c);
-      seen = ap (λ n. n + 1) inv.seen ∙ sym (one_home problem base k c.person.result.now at of_base);
+      seen =
+          ap (λ n. n + 1) inv.seen
+          ∙ sym (ap length (passing-next (λ i. only base (base_of_person problem i)) k (of_base g c)) ∙ length_push (persons_before problem base k) k);
       behind = omega (arith, behind);
       are =
           subst (λ z. AreLeasts problem prices base (k + 1) z c.push-in-loop-k.new.self.items) (sym whole)

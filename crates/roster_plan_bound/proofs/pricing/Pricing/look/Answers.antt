@@ -1,7 +1,8 @@
 use Rattle.std.proofs.Common.{◌≡◌, subst, ap, ◌∙◌, arith, ℤ, ◌+ℤ◌, ◌≤ℤ◌, w64, to_z, of_z, FitsSigned, rules}
 use Rattle.std.proofs.lemmas.Int.{ints, to_z-of_z}
 use Rattle.roster_cost.specs.Amounts.{cost_without_pairings}
-use Rattle.roster_plan_bound.specs.Homes.{EachHomeRoster}
+use Rattle.roster_bases.specs.Bases.{only}
+use Rattle.roster_bases.specs.Homes.{EachHomeRoster}
 use Rattle.roster_plan_bound.specs.Looks.{IsLook}
 use Rattle.roster_plan_bound.specs.Reduced.{price_at, shares_behind}
 use Rattle.roster_plan_bound.proofs.GapLemmas.{look_is}
@@ -35,8 +36,8 @@ returns-clause-look g c =
     let whole : ℤ = to_z w64 (of_z w64 idle) +ℤ to_z w64 (of_z w64 units) in
     let whole_fits : FitsSigned w64 whole = search rules in
     let whole_told : to_z w64 (of_z w64 whole) ≡ whole = to_z-of_z w64 whole whole_fits in
-    let below : EachHomeRoster problem c.args.base (λ places. terms ≤ℤ shares_behind problem prices 0 places) =
-    subst (λ p. EachHomeRoster p c.args.base (λ places. terms ≤ℤ shares_behind p prices 0 places)) same c.sum_of_terms-terms.ensures.least in
+    let below : EachHomeRoster problem (only c.args.base) (λ places. terms ≤ℤ shares_behind problem prices 0 places) =
+    subst (λ p. EachHomeRoster p (only c.args.base) (λ places. terms ≤ℤ shares_behind p prices 0 places)) same c.sum_of_terms-terms.ensures.least in
     let idle_is : idle ≡ cost_without_pairings problem =
     c.cost_without_pairings.ensures.value ∙ ap cost_without_pairings same in
     let near = c.in_units.ensures.near in

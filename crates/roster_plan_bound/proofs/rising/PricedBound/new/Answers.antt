@@ -1,6 +1,7 @@
 use Rattle.std.proofs.Common.{◌≡◌, ℤ, length, subst, arith, sym, w64, to_z, of_z, FitsSigned, rules}
 use Rattle.std.proofs.lemmas.Int.{to_z-of_z}
-use Rattle.roster_plan_bound.specs.Looks.{ArePersonsOf, IsLook}
+use Rattle.roster_bases.specs.Bases.{persons_of}
+use Rattle.roster_plan_bound.specs.Looks.{IsLook}
 use Rattle.roster_plan_bound.specs.Reduced.{ArePrices}
 use Rattle.roster_plan_bound.proofs.rising.PricedBound.new.Goals as goal
 
@@ -19,7 +20,7 @@ invariant_of-result g c =
     let all : c.in_ok-seen.seen.len ≡ length c.in_ok-persons.persons.items =
     omega (arith, c.in_ok-seen.ensures, c.len.ensures, c.in_ok-persons.persons.ok.0) in
     record {
-      home = subst (λ p. ArePersonsOf p base c.in_ok-persons.persons.items) same c.in_ok-persons.ensures;
+      home = subst (λ p. c.in_ok-persons.persons.items ≡ persons_of p base) same c.in_ok-persons.ensures;
       all = all;
       priced = subst (λ p. ArePrices p prices) same c.in_ok-prices.ensures;
       look = subst (λ z. IsLook problem prices base z leasts) (sym told) own;

@@ -1,9 +1,10 @@
 use Rattle.roster_model.specs.Rosters.{key_of}
+use Rattle.roster_bases.specs.Bases.{before}
 use Rattle.roster_search_least.specs.Least.{IsLeast}
-use Rattle.roster_search_least.specs.Parts.{before, IsInPart}
-use Rattle.roster_search.proofs.boxes.merged_bases.Given as goal
+use Rattle.roster_search_least.specs.Parts.{IsInPart}
+use Rattle.roster_search.proofs.boxes.united_bases.Given as goal
 
--- the bases so far are merged
+-- the bases so far are united
 abbrev pub invariant-loop-base : goal.invariant-loop-base
 invariant-loop-base g l = record {
   least : IsLeast l.problem (IsInPart l.problem l.table l.ranges (before l.base))

@@ -1,7 +1,7 @@
 use Rattle.std.proofs.Common.{◌≡◌, length, arith}
 use Rattle.roster_model.specs.Rosters.{key_of}
 use Rattle.roster_search_least.proofs.BoxLemmas.{least_of_all, least_of_none}
-use Rattle.roster_search.proofs.boxes.merged_bases.Goals as goal
+use Rattle.roster_search.proofs.boxes.united_bases.Goals as goal
 
 pub loop-base-init : goal.loop-base-init
 loop-base-init g c = record {
