@@ -16,9 +16,22 @@ pub(crate) enum Kind {
     Line(usize),
     /// The pairing at this place is left open.
     Open(usize),
+    /// Fewer pairings are open than a row counts.
+    Fewer(Count),
+    /// More pairings are open than a row counts.
+    More(Count),
 }
 
-/// A column of ones.
+/// Which count of open pairings a row has.
+#[derive(Clone, Copy)]
+pub(crate) enum Count {
+    /// How many are open at least.
+    Least,
+    /// How many are open at most.
+    Most,
+}
+
+/// A column of ones, or of minus ones.
 #[derive(Clone, Copy)]
 pub(crate) struct Column {
     pub(crate) kind: Kind,
@@ -30,6 +43,8 @@ pub(crate) struct Column {
     pub(crate) row: usize,
     /// Whether it may not be used.
     pub(crate) is_forbidden: bool,
+    // Whether it has minus ones.
+    is_negative: bool,
     // Where its rows stand in the list of all columns' rows.
     first: usize,
     end: usize,
@@ -40,7 +55,7 @@ impl Column {
     pub(crate) fn person(&self) -> Option<usize> {
         match self.kind {
             Kind::Line(k) => Some(k),
-            Kind::Open(_) => None,
+            _ => None,
         }
     }
 
@@ -48,7 +63,7 @@ impl Column {
     pub(crate) fn is_line_of(&self, k: usize) -> bool {
         match self.kind {
             Kind::Line(person) => person == k,
-            Kind::Open(_) => false,
+            _ => false,
         }
     }
 }
@@ -63,13 +78,37 @@ pub(crate) struct Columns {
 }
 
 impl Columns {
-    /// No columns.
-    pub(crate) fn new(alloc: Global) -> Columns {
+    // No columns.
+    fn new(alloc: Global) -> Columns {
         Columns {
             list: Vec::new(alloc),
             ones: Vec::new(alloc),
             greatest: 1,
         }
+    }
+
+    /// Those of empty lines, of open pairings, and of fewer and of more open ones than the two counts.
+    pub(crate) fn first(
+        alloc: Global,
+        idle: &[i64],
+        penalties: &[i64],
+    ) -> Result<Columns, AllocError> {
+        let mut columns = Columns::new(alloc);
+        let empty = Set::empty();
+        for (k, cost) in idle.iter().enumerate() {
+            columns.add_line(k, &empty, idle.len(), *cost)?;
+        }
+        let least = idle.len().saturating_add(penalties.len());
+        let most = least.saturating_add(1);
+        for (p, penalty) in penalties.iter().enumerate() {
+            let rows = [idle.len().saturating_add(p), least, most];
+            columns.add_open(p, rows, *penalty)?;
+        }
+        for is_more in [false, true] {
+            columns.add_slack(Count::Least, least, is_more)?;
+            columns.add_slack(Count::Most, most, is_more)?;
+        }
+        Ok(columns)
     }
 
     /// Adds the column of a line of person `k`. Rows of pairings stand behind those of so many persons.
@@ -90,18 +129,37 @@ impl Columns {
             self.ones.push(persons.saturating_add(p))?;
             from = p + 1;
         }
-        self.add(Kind::Line(k), *set, first, cost)
+        self.add(Kind::Line(k), *set, first, cost, false)
     }
 
-    /// Adds the column of an open pairing, which has its one in a row.
-    pub(crate) fn add_open(&mut self, p: usize, row: usize, penalty: i64) -> Result<(), AllocError> {
+    // Adds the column of an open pairing, which has ones in these rows.
+    fn add_open(&mut self, p: usize, rows: [usize; 3], penalty: i64) -> Result<(), AllocError> {
+        let first = self.ones.len();
+        self.ones.extend_from_slice(&rows)?;
+        self.add(Kind::Open(p), Set::empty(), first, penalty, false)
+    }
+
+    // Adds the column of fewer open pairings than a row counts, or that of more.
+    fn add_slack(&mut self, count: Count, row: usize, is_more: bool) -> Result<(), AllocError> {
         let first = self.ones.len();
         self.ones.push(row)?;
-        self.add(Kind::Open(p), Set::empty(), first, penalty)
+        let kind = if is_more {
+            Kind::More(count)
+        } else {
+            Kind::Fewer(count)
+        };
+        self.add(kind, Set::empty(), first, 0, is_more)
     }
 
     // Adds a column whose ones are the last ones from a place on.
-    fn add(&mut self, kind: Kind, set: Set, first: usize, cost: i64) -> Result<(), AllocError> {
+    fn add(
+        &mut self,
+        kind: Kind,
+        set: Set,
+        first: usize,
+        cost: i64,
+        is_negative: bool,
+    ) -> Result<(), AllocError> {
         self.greatest = self.greatest.max(cost.unsigned_abs());
         self.list.push(Column {
             kind,
@@ -109,6 +167,7 @@ impl Columns {
             cost,
             row: NOWHERE,
             is_forbidden: false,
+            is_negative,
             first,
             end: self.ones.len(),
         })?;
@@ -153,6 +212,19 @@ impl Columns {
         }
     }
 
+    /// Whether column `c` has just a one in a row.
+    pub(crate) fn is_unit(&self, c: usize) -> bool {
+        self.ones(c).len() == 1 && !self.is_negative(c)
+    }
+
+    /// Whether column `c` has minus ones there.
+    pub(crate) fn is_negative(&self, c: usize) -> bool {
+        match self.list.get(c) {
+            Some(column) => column.is_negative,
+            None => false,
+        }
+    }
+
     /// The rows in which a column has ones.
     pub(crate) fn ones_of(&self, column: &Column) -> &[usize] {
         self.ones.get(column.first..column.end).unwrap_or(&[])
@@ -161,7 +233,7 @@ impl Columns {
     /// What column `c` costs more than the duals pay for it.
     pub(crate) fn reduced(&self, c: usize, duals: &[i64]) -> i64 {
         match self.list.get(c) {
-            Some(column) => reduced(column.cost, self.ones_of(column), duals),
+            Some(column) => reduced(column, self.ones_of(column), duals),
             None => 0,
         }
     }
@@ -176,7 +248,7 @@ impl Columns {
         cheap.clear();
         for (c, column) in self.list.iter().enumerate() {
             if column.row == NOWHERE && !column.is_forbidden {
-                let value = reduced(column.cost, self.ones_of(column), duals);
+                let value = reduced(column, self.ones_of(column), duals);
                 if value < tolerance.wrapping_neg() {
                     cheap.push((value, c))?;
                 }
@@ -218,19 +290,33 @@ impl Columns {
         }
     }
 
-    /// Allows the columns that these sets allow, and forbids the others.
+    /// Allows the columns that these sets allow, and forbids the others, but for those of counts.
     pub(crate) fn mark(&mut self, allowed: &[Allowed], flown: &Set, left_open: &Set) {
         for column in self.list.iter_mut() {
-            column.is_forbidden = !is_allowed(column, allowed, flown, left_open);
+            if let Some(is_allowed) = is_allowed(column, allowed, flown, left_open) {
+                column.is_forbidden = !is_allowed;
+            }
+        }
+    }
+
+    /// Says whether column `c` may not be used.
+    pub(crate) fn forbid(&mut self, c: usize, is_forbidden: bool) {
+        if c < self.list.len() {
+            let column = &mut self.list[c];
+            column.is_forbidden = is_forbidden;
         }
     }
 }
 
-/// A cost less the duals of these rows.
-fn reduced(cost: i64, ones: &[usize], duals: &[i64]) -> i64 {
-    let mut value = cost;
+/// What a column with ones in these rows costs more than the duals pay for it.
+fn reduced(column: &Column, ones: &[usize], duals: &[i64]) -> i64 {
+    let mut paid: i64 = 0;
     for i in ones {
-        value = value.wrapping_sub(number_at(duals, *i));
+        paid = paid.wrapping_add(number_at(duals, *i));
     }
-    value
+    if column.is_negative {
+        column.cost.wrapping_add(paid)
+    } else {
+        column.cost.wrapping_sub(paid)
+    }
 }

@@ -10,7 +10,7 @@ impl Simplex {
     pub(crate) fn forget(&mut self, alloc: Global, most: usize) -> Result<(), AllocError> {
         let mut kept = vec![in alloc; true; self.columns.len()]?;
         self.candidates.clear();
-        for c in self.basis.len()..self.columns.len() {
+        for c in self.basis.len().saturating_add(2)..self.columns.len() {
             if !self.is_basic(c) {
                 let value = self.columns.reduced(c, &self.duals);
                 self.candidates.push((value, c))?;

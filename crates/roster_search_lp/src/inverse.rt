@@ -71,12 +71,24 @@ impl Inverse {
         least
     }
 
-    /// Looks at a column that has ones in these rows.
-    pub(crate) fn look(&mut self, ones: &[usize]) {
+    /// Looks at a column that has ones in these rows, or minus ones.
+    pub(crate) fn look(&mut self, ones: &[usize], is_negative: bool) {
         for (i, row) in self.rows.iter().enumerate() {
+            let entry = entry(row, ones);
             if i < self.image.len() {
-                self.image[i] = entry(row, ones);
+                self.image[i] = if is_negative {
+                    entry.wrapping_neg()
+                } else {
+                    entry
+                };
             }
+        }
+    }
+
+    /// Adds so much to how much is used of the column that is basic in a row.
+    pub(crate) fn add_amount(&mut self, row: usize, more: i64) {
+        if row < self.rows.len() {
+            add_to_last(&mut self.rows[row], more);
         }
     }
 
@@ -171,6 +183,13 @@ fn last(row: &[i64]) -> i64 {
     match row.last() {
         Some(number) => *number,
         None => 0,
+    }
+}
+
+/// Adds so much to the last number.
+fn add_to_last(row: &mut [i64], more: i64) {
+    if let Some(end) = row.last_mut() {
+        *end = end.wrapping_add(more);
     }
 }
 

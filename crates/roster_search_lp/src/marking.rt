@@ -41,27 +41,27 @@ impl Master {
     }
 }
 
-/// Whether a column may be used.
+/// Whether a column may be used, if that is for sets to say.
 pub(crate) fn is_allowed(
     column: &Column,
     allowed: &[Allowed],
     flown: &Set,
     left_open: &Set,
-) -> bool {
+) -> Option<bool> {
     match column.kind {
-        Kind::Open(p) => !flown.has(p),
+        Kind::Open(p) => Some(!flown.has(p)),
         Kind::Line(k) => {
-            if column.set.meets(left_open) {
-                return false;
-            }
-            match allowed.get(k) {
-                Some(allowed) => {
-                    is_within(&column.set, &allowed.possible)
-                        && is_within(&allowed.certain, &column.set)
-                }
-                None => true,
-            }
+            Some(!column.set.meets(left_open) && is_line_allowed(&column.set, allowed.get(k)))
         }
+        Kind::Fewer(_) | Kind::More(_) => None,
+    }
+}
+
+/// Whether a person may have the line of these pairings.
+fn is_line_allowed(set: &Set, allowed: Option<&Allowed>) -> bool {
+    match allowed {
+        Some(allowed) => is_within(set, &allowed.possible) && is_within(&allowed.certain, set),
+        None => true,
     }
 }
 

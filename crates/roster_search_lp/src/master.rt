@@ -108,6 +108,11 @@ impl Master {
         self.simplex.columns().len()
     }
 
+    /// How many columns have entered the basis so far: how much work it was.
+    pub fn steps(&self) -> u64 {
+        self.simplex.steps()
+    }
+
     /// Begins with a roster: adds this line of person `k`, and has it used as far as it can be, whatever it
     /// costs. With a good roster that saves a third of the steps to the first prices.
     pub fn enter(&mut self, k: usize, set: &Set, cost: i64) -> Result<(), AllocError>
@@ -173,6 +178,31 @@ impl Master {
             return 0;
         }
         thousandths(self.simplex.amount(self.simplex.row_of(p)))
+    }
+
+    /// How many pairings the last solution leaves open, in thousandths; it may be a part of one.
+    pub fn open_count(&self) -> u64 {
+        let mut amount: i64 = 0;
+        for p in 0..self.prices.len() {
+            amount = amount.saturating_add(self.simplex.amount(self.simplex.row_of(p)));
+        }
+        times(amount, i64::from(MOST_SHARE)).max(0).unsigned_abs()
+    }
+
+    /// Has at least so many pairings open, and at most so many, from the next solution on. At first any number
+    /// may be open.
+    pub fn count_open(&mut self, least: usize, most: usize) -> Result<(), AllocError>
+        ensures { self.new ≡ self.old }
+    {
+        self.simplex.put_counts(least, most)
+    }
+
+    /// What one open pairing more is paid by the last solution, since so many must be open, or costs, since no
+    /// more may be: in parts of a cost unit.
+    pub fn count_dual(&self) -> i64
+        ensures { IsDual result }
+    {
+        limited(self.simplex.count_dual())
     }
 
     /// How large a part of person `k`'s lines in the last solution has each pairing, in thousandths.

@@ -1,9 +1,9 @@
 //! The simplex method, from one basis to the next.
 
-use crate::columns::{Columns, NOWHERE};
-use crate::marking::Allowed;
+use crate::columns::{Columns, Count, NOWHERE};
 use crate::inverse::{Inverse, number_at};
-use crate::right::right_sides;
+use crate::marking::Allowed;
+use crate::right::{right_sides, signed};
 use crate::tuning::{
     COLUMNS_A_ROUND, FORBIDDEN_FACTOR, LEAST_USED, MOST_RAISES, PIVOTS_AN_INVERSE, TOLERANCE_PART,
 };
@@ -12,16 +12,18 @@ use std::alloc::{AllocError, Global};
 
 /// A linear program, with a basis that its columns can be used by, and its dual prices.
 ///
-/// The first columns are those of empty lines, then those of open pairings: that of row `i` is column `i`,
-/// and has its only one there.
+/// The rows are those of persons, of pairings, and two that count open pairings: how many are open at least,
+/// and at most. The first columns are those of empty lines, then of open pairings, and of fewer open pairings
+/// than each of the two counts: column `i` has a one in row `i`. Then come those of more open pairings than
+/// each counts, and behind them the lines.
 #[derive(Drop)]
 pub(crate) struct Simplex {
     persons: usize,
-    pairings: usize,
+    pub(crate) pairings: usize,
     pub(crate) columns: Columns,
     // How much each row needs, in parts of a whole.
-    right: Vec<i64>,
-    inverse: Inverse,
+    pub(crate) right: Vec<i64>,
+    pub(crate) inverse: Inverse,
     // By row: the column that is basic, and what it costs.
     pub(crate) basis: Vec<usize>,
     costs: Vec<i64>,
@@ -29,14 +31,17 @@ pub(crate) struct Simplex {
     pub(crate) duals: Vec<i64>,
     // Columns that may enter, by how much they cost more than is paid for them.
     pub(crate) candidates: Vec<(i64, usize)>,
-    taken: Vec<bool>,
-    before: Vec<usize>,
+    pub(crate) taken: Vec<bool>,
+    pub(crate) before: Vec<usize>,
     // How many parts a cost unit has.
     scale: u32,
+    // How many pairings are open at least, and at most, as the last two rows count them.
+    pub(crate) counts: [usize; 2],
     // How often it has become dearer to use what is forbidden.
     raises: u32,
-    // How many pivots there were since the inverse was made.
-    pivots: usize,
+    // How many pivots there were since the inverse was made, and in all.
+    pub(crate) pivots: usize,
+    steps: u64,
 }
 
 impl Simplex {
@@ -48,9 +53,10 @@ impl Simplex {
         penalties: &[i64],
         scale: u32,
     ) -> Result<Simplex, AllocError> {
-        let columns = first_columns(alloc, idle, penalties)?;
-        let size = columns.len();
-        let right = right_sides(alloc, size)?;
+        let columns = Columns::first(alloc, idle, penalties)?;
+        let size = columns.len().saturating_sub(2);
+        let counts = [0, penalties.len()];
+        let right = right_sides(alloc, size, counts)?;
         let inverse = Inverse::new(alloc, &right)?;
         let mut simplex = Simplex {
             persons: idle.len(),
@@ -65,10 +71,12 @@ impl Simplex {
             taken: vec![in alloc; false; size]?,
             before: vec![in alloc; 0; size]?,
             scale,
+            counts,
             raises: 0,
             pivots: 0,
+            steps: 0,
         };
-        simplex.go_home();
+        simplex.go_home()?;
         simplex.pay();
         Ok(simplex)
     }
@@ -89,6 +97,11 @@ impl Simplex {
         self.columns.mark(allowed, flown, left_open);
     }
 
+    /// How many columns have entered so far.
+    pub(crate) fn steps(&self) -> u64 {
+        self.steps
+    }
+
     /// Adds a column of a line.
     pub(crate) fn add_line(&mut self, k: usize, set: &Set, cost: i64) -> Result<(), AllocError> {
         self.columns.add_line(k, set, self.persons, cost)
@@ -99,6 +112,12 @@ impl Simplex {
         number_at(&self.duals, row)
     }
 
+    /// The dual prices of both counts together, in parts of a cost unit.
+    pub(crate) fn count_dual(&self) -> i64 {
+        let least = self.dual(self.count_row(Count::Least));
+        least.wrapping_add(self.dual(self.count_row(Count::Most)))
+    }
+
     /// The row of a pairing.
     pub(crate) fn row_of(&self, p: usize) -> usize {
         self.persons.saturating_add(p)
@@ -106,9 +125,14 @@ impl Simplex {
 
     /// What all rows pay, in parts of a cost unit.
     pub(crate) fn value(&self) -> i64 {
-        let mut value: i64 = 0;
-        for dual in &self.duals {
-            value = value.wrapping_add(*dual);
+        let [least, most] = self.counts;
+        let counts = self.row_of(self.pairings);
+        let (at_least, at_most) = (self.dual(counts), self.dual(counts.saturating_add(1)));
+        let mut value = at_least
+            .wrapping_mul(signed(least))
+            .wrapping_add(at_most.wrapping_mul(signed(most)));
+        for row in 0..counts {
+            value = value.wrapping_add(self.dual(row));
         }
         value
     }
@@ -192,7 +216,10 @@ impl Simplex {
             self.choose()?;
             let more = self.enter_candidates(most.saturating_sub(made))?;
             made = made.saturating_add(more);
-            if more == 0 || made >= most {
+            if more == 0 {
+                return Ok(());
+            }
+            if made >= most {
                 break;
             }
         }
@@ -246,11 +273,12 @@ impl Simplex {
             Some(column) if column.row == NOWHERE => {}
             _ => return Ok(false),
         }
-        self.inverse.look(self.columns.ones(c));
+        self.look(c);
         let Some(row) = self.inverse.leaving() else {
             return Ok(false);
         };
         self.exchange(row, c)?;
+        self.steps = self.steps.saturating_add(1);
         self.pivots = self.pivots.saturating_add(1);
         if self.pivots >= PIVOTS_AN_INVERSE {
             self.renew()?;
@@ -258,8 +286,8 @@ impl Simplex {
         Ok(true)
     }
 
-    // Column `c`, which was looked at, takes the place of the one that is basic in a row.
-    fn exchange(&mut self, row: usize, c: usize) -> Result<(), AllocError> {
+    /// Column `c`, which was looked at, takes the place of the one that is basic in a row.
+    pub(crate) fn exchange(&mut self, row: usize, c: usize) -> Result<(), AllocError> {
         self.inverse.pivot(row)?;
         if row < self.basis.len() {
             self.columns.put_row(self.basis[row], NOWHERE);
@@ -269,60 +297,20 @@ impl Simplex {
         Ok(())
     }
 
-    /// Makes the inverse anew, since each pivot spoils it a little. A basis that can't be used any more gives
-    /// way to the first one.
-    pub(crate) fn renew(&mut self) -> Result<(), AllocError> {
-        for (before, now) in self.before.iter_mut().zip(&self.basis) {
-            *before = *now;
-        }
-        self.go_home();
-        self.taken.fill(false);
-        for c in &self.before {
-            if *c < self.taken.len() {
-                self.taken[*c] = true;
-            }
-        }
-        for i in 0..self.basis.len() {
-            let c = place_at(&self.before, i);
-            if c >= self.taken.len() {
-                self.put_back(c)?;
-            }
-        }
-        if self.inverse.least_amount() < -LEAST_USED {
-            self.go_home();
-        }
-        Ok(())
-    }
-
-    // Makes column `c` basic in a row that isn't taken.
-    fn put_back(&mut self, c: usize) -> Result<(), AllocError> {
-        self.inverse.look(self.columns.ones(c));
-        let Some(row) = self.inverse.strongest(&self.taken) else {
-            return Ok(());
-        };
-        if row < self.taken.len() {
-            self.taken[row] = true;
-        }
-        self.exchange(row, c)
-    }
-
-    // Goes to the first basis: empty lines and open pairings.
-    fn go_home(&mut self) {
-        self.inverse.begin(&self.right);
-        self.pivots = 0;
-        for row in 0..self.basis.len() {
-            self.columns.put_row(self.basis[row], NOWHERE);
-        }
-        for row in 0..self.basis.len() {
-            self.basis[row] = row;
-            self.columns.put_row(row, row);
-        }
+    /// Looks at column `c`.
+    pub(crate) fn look(&mut self, c: usize) {
+        let is_negative = self.columns.is_negative(c);
+        self.inverse.look(self.columns.ones(c), is_negative);
     }
 }
 
 /// The column at place `i`, or one that there isn't.
-fn place_at(columns: &[usize], i: usize) -> usize {
-    if i < columns.len() { columns[i] } else { NOWHERE }
+pub(crate) fn place_at(columns: &[usize], i: usize) -> usize {
+    if i < columns.len() {
+        columns[i]
+    } else {
+        NOWHERE
+    }
 }
 
 /// Candidate `i`, or one that there isn't.
@@ -340,21 +328,4 @@ fn cost_of(columns: &Columns, c: usize, more: i64) -> i64 {
         Some(column) => column.cost,
         None => 0,
     }
-}
-
-/// The columns of empty lines, and of open pairings.
-fn first_columns(
-    alloc: Global,
-    idle: &[i64],
-    penalties: &[i64],
-) -> Result<Columns, AllocError> {
-    let mut columns = Columns::new(alloc);
-    let empty = Set::empty();
-    for (k, cost) in idle.iter().enumerate() {
-        columns.add_line(k, &empty, idle.len(), *cost)?;
-    }
-    for (p, penalty) in penalties.iter().enumerate() {
-        columns.add_open(p, idle.len().saturating_add(p), *penalty)?;
-    }
-    Ok(columns)
 }

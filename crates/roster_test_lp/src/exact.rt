@@ -3,8 +3,8 @@
 
 use std::alloc::{AllocError, Global};
 
-/// A program whose rows each need one of its columns of ones; the last number of a row is what it needs. The
-/// row behind the others has costs.
+/// A program whose last number of a row is what the row needs of its columns. What columns cost beside what
+/// the rows pay stands apart.
 #[derive(Drop)]
 pub(crate) struct Exact {
     rows: Vec<Vec<i128>>,
@@ -25,23 +25,20 @@ pub(crate) struct Fraction {
 const MOST_STEPS: usize = 10_000;
 
 impl Exact {
-    /// A program of these columns: where each has ones, and what it costs. The first ones have just a one in
-    /// their own row.
+    /// A program of these rows, each with what it needs behind its entries, and of columns that cost so much.
+    /// The first columns have just a one in their own row.
     pub(crate) fn new(
         alloc: Global,
-        rows: usize,
-        ones: &[Vec<usize>],
+        rows: Vec<Vec<i128>>,
         costs: &[i64],
     ) -> Result<Exact, AllocError> {
         let mut exact = Exact {
-            rows: Vec::new(alloc),
+            rows,
             costs: Vec::new(alloc),
             basis: Vec::new(alloc),
             denominator: 1,
         };
-        for row in 0..rows {
-            let entries = entries_of(alloc, row, ones)?;
-            exact.rows.push(entries)?;
+        for row in 0..exact.rows.len() {
             exact.basis.push(row)?;
         }
         for cost in costs {
@@ -119,16 +116,6 @@ impl Exact {
         self.basis[row] = column;
         Ok(())
     }
-}
-
-/// The entries of a row, and behind them the one that it needs.
-fn entries_of(alloc: Global, row: usize, ones: &[Vec<usize>]) -> Result<Vec<i128>, AllocError> {
-    let mut entries = Vec::new(alloc);
-    for column in ones {
-        entries.push(i128::from(column.contains(&row)))?;
-    }
-    entries.push(1)?;
-    Ok(entries)
 }
 
 /// Subtracts a row so many times.

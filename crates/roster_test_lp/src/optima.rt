@@ -1,6 +1,6 @@
 //! Programs whose least cost is that in fractions.
 
-use crate::programs::{Chance, Marks, Shape, are_limited, is_near, small};
+use crate::programs::{Chance, Marks, Shape, are_limited, is_near, made};
 use std::alloc::{AllocError, Global};
 use std::process::Abort;
 use std::test::Fail;
@@ -16,7 +16,7 @@ fn compare(
     let mut chance = Chance(seed);
     let marks = Marks::nothing(alloc);
     for _ in 0..programs {
-        let program = small(alloc, &mut chance, shape)?;
+        let program = made(alloc, &mut chance, shape)?;
         let mut master = program.master(alloc)?;
         master.solve()?;
         let least = program.least(alloc, &marks, 0)?;
@@ -30,13 +30,121 @@ fn compare(
 }
 
 #[test]
-fn small_programs(rt: HostRuntime) -> Result<(), Fail> {
+fn three_persons(rt: HostRuntime) -> Result<(), Fail> {
     let shape = Shape {
         persons: 3,
         pairings: 4,
         lines: 10,
         units: 30,
     };
-    compare(&rt, rt.alloc(), 1, 1000, shape)?;
+    compare(&rt, rt.alloc(), 1, 1500, shape)?;
+    Ok(())
+}
+
+#[test]
+fn four_persons(rt: HostRuntime) -> Result<(), Fail> {
+    let shape = Shape {
+        persons: 4,
+        pairings: 5,
+        lines: 14,
+        units: 30,
+    };
+    compare(&rt, rt.alloc(), 2, 1500, shape)?;
+    Ok(())
+}
+
+#[test]
+fn five_persons(rt: HostRuntime) -> Result<(), Fail> {
+    let shape = Shape {
+        persons: 5,
+        pairings: 7,
+        lines: 20,
+        units: 50,
+    };
+    compare(&rt, rt.alloc(), 3, 1000, shape)?;
+    Ok(())
+}
+
+#[test]
+fn one_person(rt: HostRuntime) -> Result<(), Fail> {
+    let shape = Shape {
+        persons: 1,
+        pairings: 6,
+        lines: 14,
+        units: 30,
+    };
+    compare(&rt, rt.alloc(), 4, 1500, shape)?;
+    Ok(())
+}
+
+#[test]
+fn alike_costs(rt: HostRuntime) -> Result<(), Fail> {
+    let shape = Shape {
+        persons: 4,
+        pairings: 5,
+        lines: 16,
+        units: 3,
+    };
+    compare(&rt, rt.alloc(), 5, 1000, shape)?;
+    Ok(())
+}
+
+#[test]
+fn costs_of_nothing(rt: HostRuntime) -> Result<(), Fail> {
+    let shape = Shape {
+        persons: 4,
+        pairings: 6,
+        lines: 18,
+        units: 1,
+    };
+    compare(&rt, rt.alloc(), 6, 1000, shape)?;
+    Ok(())
+}
+
+#[test]
+fn few_pairings(rt: HostRuntime) -> Result<(), Fail> {
+    let shape = Shape {
+        persons: 5,
+        pairings: 2,
+        lines: 10,
+        units: 20,
+    };
+    compare(&rt, rt.alloc(), 7, 1500, shape)?;
+    Ok(())
+}
+
+#[test]
+fn many_lines(rt: HostRuntime) -> Result<(), Fail> {
+    let shape = Shape {
+        persons: 3,
+        pairings: 6,
+        lines: 40,
+        units: 100,
+    };
+    compare(&rt, rt.alloc(), 8, 300, shape)?;
+    Ok(())
+}
+
+#[test]
+fn far_costs(rt: HostRuntime) -> Result<(), Fail> {
+    let shape = Shape {
+        persons: 4,
+        pairings: 5,
+        lines: 14,
+        units: 100000,
+    };
+    compare(&rt, rt.alloc(), 9, 1000, shape)?;
+    Ok(())
+}
+
+#[test]
+fn six_persons(rt: HostRuntime) -> Result<(), Fail> {
+    let shape = Shape {
+        persons: 6,
+        pairings: 8,
+        lines: 30,
+        units: 20,
+    };
+    compare(&rt, rt.alloc(), 10, 200, shape)?;
     Ok(())
 }

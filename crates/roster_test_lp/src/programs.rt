@@ -38,13 +38,13 @@ pub(crate) struct Small {
     pub(crate) lines: Vec<Line>,
 }
 
-/// How a program is made.
+/// How many of what a program has at most, and one person at least.
 #[derive(Clone, Copy)]
 pub(crate) struct Shape {
     pub(crate) persons: u64,
     pub(crate) pairings: u64,
     pub(crate) lines: u64,
-    // Costs are below so many units, and at least as far below 0; 1 has them all 0.
+    /// Costs are below so many units, and at least as far below 0; 1 has them all 0.
     pub(crate) units: u64,
 }
 
@@ -68,7 +68,7 @@ fn set_of(chance: &mut Chance, pairings: usize) -> Set {
 }
 
 /// A program with so many persons, pairings and lines, or fewer.
-pub(crate) fn small(alloc: Global, chance: &mut Chance, shape: Shape) -> Result<Small, AllocError> {
+pub(crate) fn made(alloc: Global, chance: &mut Chance, shape: Shape) -> Result<Small, AllocError> {
     let persons = chance.below(shape.persons).saturating_add(1) as usize;
     let pairings = chance.below(shape.pairings.saturating_add(1)) as usize;
     let mut program = Small {
@@ -109,9 +109,12 @@ impl Small {
         Ok(master)
     }
 
-    /// How many rows it has.
+    /// How many rows it has: those of persons, of pairings and of two counts.
     pub(crate) fn rows(&self) -> usize {
-        self.idle.len().saturating_add(self.penalties.len())
+        self.idle
+            .len()
+            .saturating_add(self.penalties.len())
+            .saturating_add(2)
     }
 
     /// Its least cost in fractions, if what is marked costs so much more.
@@ -121,23 +124,67 @@ impl Small {
         marks: &Marks,
         more: i64,
     ) -> Result<Fraction, AllocError> {
-        let mut ones = Vec::new(alloc);
+        let mut columns = Vec::new(alloc);
         let mut costs = Vec::new(alloc);
-        let persons = self.idle.len();
+        let rows = self.rows();
         let empty = Set::empty();
         for (k, cost) in self.idle.iter().enumerate() {
-            ones.push(ones_of(alloc, k, &empty, persons)?)?;
+            columns.push(unit(alloc, rows, k, 1)?)?;
             costs.push(with(*cost, marks.allows(k, &empty), more))?;
         }
         for (p, penalty) in self.penalties.iter().enumerate() {
-            ones.push(Vec::from_slice(alloc, &[persons.saturating_add(p)])?)?;
+            columns.push(unit(alloc, rows, self.idle.len().saturating_add(p), 1)?)?;
             costs.push(with(*penalty, !marks.flown.has(p), more))?;
         }
+        // More open pairings than at least, and than at most.
+        let counts = rows.saturating_sub(2);
+        columns.push(unit(alloc, rows, counts, 1)?)?;
+        costs.push(0)?;
+        columns.push(unit(alloc, rows, counts.saturating_add(1), 1)?)?;
+        costs.push(with(0, marks.most >= self.penalties.len(), more))?;
         for line in &self.lines {
-            ones.push(ones_of(alloc, line.k, &line.set, persons)?)?;
+            columns.push(self.line(alloc, line)?)?;
             costs.push(with(line.cost, marks.allows(line.k, &line.set), more))?;
         }
-        Exact::new(alloc, self.rows(), &ones, &costs)?.least(alloc)
+        // And fewer.
+        columns.push(unit(alloc, rows, counts, -1)?)?;
+        costs.push(with(0, marks.least == 0, more))?;
+        columns.push(unit(alloc, rows, counts.saturating_add(1), -1)?)?;
+        costs.push(0)?;
+        let right = self.right(alloc, marks)?;
+        Exact::new(alloc, by_row(alloc, &columns, &right)?, &costs)?.least(alloc)
+    }
+
+    // The column of a line: ones in the rows of its person and its pairings. The rows of counts say that so
+    // many aren't open as are flown and as are missing from the count.
+    fn line(&self, alloc: Global, line: &Line) -> Result<Vec<i128>, AllocError> {
+        let mut column = unit(alloc, self.rows(), line.k, 1)?;
+        let mut flown: i128 = 0;
+        for p in 0..self.penalties.len() {
+            if line.set.has(p) {
+                put(&mut column, self.idle.len().saturating_add(p), 1);
+                flown = flown.wrapping_add(1);
+            }
+        }
+        let counts = self.rows().saturating_sub(2);
+        put(&mut column, counts, flown);
+        put(&mut column, counts.saturating_add(1), flown);
+        Ok(column)
+    }
+
+    // What the rows need.
+    fn right(&self, alloc: Global, marks: &Marks) -> Result<Vec<i128>, AllocError> {
+        let pairings = self.penalties.len();
+        let mut right = vec![in alloc; 1; self.rows()]?;
+        let counts = self.rows().saturating_sub(2);
+        let (least, most) = (marks.least.min(pairings), marks.most.min(pairings));
+        put(&mut right, counts, pairings.saturating_sub(least) as i128);
+        put(
+            &mut right,
+            counts.saturating_add(1),
+            pairings.saturating_sub(most) as i128,
+        );
+        Ok(right)
     }
 
     /// Whether the duals pay no line and no open pairing much more than it costs: by more than the tolerance
@@ -173,15 +220,74 @@ fn with(cost: i64, is_allowed: bool, more: i64) -> i64 {
     }
 }
 
-/// The rows of a line: that of its person, and those of its pairings.
-fn ones_of(alloc: Global, k: usize, set: &Set, persons: usize) -> Result<Vec<usize>, AllocError> {
-    let mut ones = Vec::from_slice(alloc, &[k])?;
-    for p in 0..512 {
-        if set.has(p) {
-            ones.push(persons.saturating_add(p))?;
+/// A column with just one entry.
+fn unit(alloc: Global, rows: usize, row: usize, entry: i128) -> Result<Vec<i128>, AllocError> {
+    let mut column = vec![in alloc; 0; rows]?;
+    put(&mut column, row, entry);
+    Ok(column)
+}
+
+/// Puts an entry into a row.
+fn put(column: &mut [i128], row: usize, entry: i128) {
+    if row < column.len() {
+        column[row] = entry;
+    }
+}
+
+/// The rows of columns, each with what it needs.
+fn by_row(
+    alloc: Global,
+    columns: &[Vec<i128>],
+    right: &[i128],
+) -> Result<Vec<Vec<i128>>, AllocError> {
+    let mut rows = Vec::new(alloc);
+    for (row, needs) in right.iter().enumerate() {
+        let mut entries = Vec::new(alloc);
+        for column in columns {
+            entries.push(column.get(row).copied().unwrap_or(0))?;
+        }
+        entries.push(*needs)?;
+        rows.push(entries)?;
+    }
+    Ok(rows)
+}
+
+/// Some marks for a program, in which about one pairing in six must be flown or left open.
+pub(crate) fn made_marks(
+    alloc: Global,
+    chance: &mut Chance,
+    program: &Small,
+) -> Result<Marks, AllocError> {
+    let mut marks = Marks::nothing(alloc);
+    if chance.below(2) == 1 {
+        let pairings = program.penalties.len().saturating_add(1);
+        marks.least = chance.below(pairings as u64) as usize;
+        marks.most = marks.least.saturating_add(chance.below(2) as usize);
+    }
+    for p in 0..program.penalties.len().min(512) {
+        match chance.below(12) {
+            0 => marks.flown.put(p),
+            1 => marks.left_open.put(p),
+            _ => {}
         }
     }
-    Ok(ones)
+    for _ in 0..program.idle.len() {
+        let mut allowed = Allowed {
+            possible: Set::empty(),
+            certain: Set::empty(),
+        };
+        for p in 0..program.penalties.len().min(512) {
+            let turn = chance.below(10);
+            if turn > 1 {
+                allowed.possible.put(p);
+            }
+            if turn == 9 {
+                allowed.certain.put(p);
+            }
+        }
+        marks.allowed.push(allowed)?;
+    }
+    Ok(marks)
 }
 
 /// What is forbidden in a program.
@@ -190,6 +296,9 @@ pub(crate) struct Marks {
     pub(crate) allowed: Vec<Allowed>,
     pub(crate) flown: Set,
     pub(crate) left_open: Set,
+    // How many pairings are open, at least and at most.
+    pub(crate) least: usize,
+    pub(crate) most: usize,
 }
 
 impl Marks {
@@ -199,6 +308,8 @@ impl Marks {
             allowed: Vec::new(alloc),
             flown: Set::empty(),
             left_open: Set::empty(),
+            least: 0,
+            most: usize::MAX,
         }
     }
 
@@ -226,7 +337,10 @@ pub(crate) fn is_near(value: i64, least: Fraction, rows: usize) -> bool {
     let off = i128::from(value)
         .wrapping_mul(least.denominator)
         .wrapping_sub(least.numerator);
-    off.unsigned_abs() <= (rows as i128).wrapping_mul(least.denominator).unsigned_abs()
+    off.unsigned_abs()
+        <= (rows as i128)
+            .wrapping_mul(least.denominator)
+            .unsigned_abs()
 }
 
 /// Whether no dual is beyond its limit; clauses say so too.
