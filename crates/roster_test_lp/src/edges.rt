@@ -98,8 +98,9 @@ fn far(alloc: Global, cost: i64) -> Result<Small, AllocError> {
 
 #[test]
 fn costs_far_out(rt: HostRuntime) -> Result<(), Fail> {
-    for bits in 30..52 {
-        for cost in [1_i64 << (bits % 64), -(1_i64 << (bits % 60))] {
+    for bits in 30..52_u32 {
+        let far_out = 1_i64.wrapping_shl(bits);
+        for cost in [far_out, far_out.wrapping_neg()] {
             let program = far(rt.alloc(), cost)?;
             let mut master = program.master(rt.alloc())?;
             master.solve()?;

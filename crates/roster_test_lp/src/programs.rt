@@ -51,8 +51,8 @@ pub(crate) struct Shape {
 /// A cost of less than so many units, or as far below 0.
 fn cost_of(chance: &mut Chance, units: u64) -> i64 {
     let far = units.min(1 << 20);
-    let cost = chance.below(far.saturating_mul(2)) as i64;
-    cost.saturating_sub(far.saturating_sub(1) as i64)
+    let cost = chance.below(far.saturating_mul(2)).cast_signed();
+    cost.saturating_sub(far.saturating_sub(1).cast_signed())
         .saturating_mul(i64::from(SCALE))
 }
 
