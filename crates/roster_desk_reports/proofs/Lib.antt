@@ -1,1 +1,3 @@
 pub mod Growth
+mod Taken
+mod Lines

@@ -1,5 +1,7 @@
 -- Who has which pairing by a report, and what a roster has of it.
-use Rattle.std.specs.Prelude.{ℕ, List, Some, length, All, slice_get, ◌≡◌, ◌<◌, ◌≤◌, ◌⊎◌}
+use Rattle.std.specs.Prelude.{ℕ, List, Some, true, length, All, slice_get, ◌≡◌, ◌<◌, ◌≤◌, ◌⊎◌}
+use Rattle.std.specs.List.{list_any}
+use Rattle.std.specs.Str.{bytes_eq}
 use Rattle.roster_model.specs.Problem.{Problem}
 use Rattle.roster_model.specs.Record.{place_named}
 use Rattle.roster_desk_reports.specs.Text.{Given}
@@ -71,3 +73,10 @@ pub record Grows (problem : Problem) (Gives : ℕ → ℕ → Type 0) (old new :
   pub keeps : (p k : ℕ) → k < length problem.persons → slice_get old p ≡ Some k → slice_get new p ≡ Some k
   pub only : (p k : ℕ) → k < length problem.persons → slice_get new p ≡ Some k
       → (slice_get old p ≡ Some k) ⊎ Gives p k
+
+-- the pairings that persons have are those of the names
+pub record AreTaken (problem : Problem) (places : List ℕ) (names : List (List ℕ)) : Type 0 where
+  pub from : (p k : ℕ) (name : List ℕ) → k < length problem.persons → slice_get places p ≡ Some k
+      → IsPairing problem name p → list_any (bytes_eq name) names ≡ true
+  pub to : (p : ℕ) (name : List ℕ) → IsPairing problem name p → list_any (bytes_eq name) names ≡ true
+      → (k : ℕ) × (k < length problem.persons) × (slice_get places p ≡ Some k)

@@ -1,5 +1,5 @@
 -- What the text of a report says of who has what.
-use Rattle.std.specs.Prelude.{ℕ, Bool, List, [], ◌∷◌, if◌then◌else◌, not, length, codes, take, drop, nat_eq, slice_index_or}
+use Rattle.std.specs.Prelude.{ℕ, Bool, List, [], ◌∷◌, ◌++◌, ◌+◌, if◌then◌else◌, not, length, map, codes, take, drop, nat_eq, slice_index_or}
 use Rattle.std.specs.Char.{is_ascii_whitespace}
 use Rattle.std.specs.List.{filter, flat_map, slice_split}
 use Rattle.std.specs.Str.{bytes_eq}
@@ -39,13 +39,24 @@ is_crew words = bytes_eq (word_at words 0) (codes "CREW")
 abbrev pub given_by : List (List ℕ) → List Given
 given_by words = if is_crew words then (word_at words 1, names_of (drop 7 words)) ∷ [] else []
 
--- what a text gives, line by line
-abbrev pub given_by_lines : List (List ℕ) → List Given
-given_by_lines lines = flat_map (λ line. given_by (words_of line)) lines
+-- ---- line by line, each with its number
 
+-- the lines from this number on
+abbrev pub given_from : ℕ → List (List ℕ) → List (ℕ × Given)
+given_from number [] = []
+given_from number (line ∷ rest) =
+    map (λ given. (number, given)) (given_by (words_of line)) ++ given_from (number + 1) rest
+
+abbrev pub numbered_by_text : List ℕ → List (ℕ × Given)
+numbered_by_text text = given_from 1 (lines_of (text_of text))
+
+-- what a text gives, in its order
 abbrev pub given_by_text : List ℕ → List Given
-given_by_text text = given_by_lines (lines_of (text_of text))
+given_by_text text = map (λ numbered. numbered.1) (numbered_by_text text)
 
 -- the same of lines that were read
 abbrev pub given_by_line : CrewLine → Given
 given_by_line crew = (crew.person, crew.pairings.items)
+
+abbrev pub numbered_by_line : CrewLine → ℕ × Given
+numbered_by_line crew = (crew.line, given_by_line crew)

@@ -49,12 +49,22 @@ pub enum ReportFault {
 }
 
 impl From<AllocError> for ReportFault {
+    ghost use Rattle.std.specs.Prelude.{◌≡◌};
+    ghost use Rattle.roster_desk_reports.specs.declared.fault.ReportFault.TheVariants.{Memory};
+
+    ghost from_gives = { λ _ e. e ≡ Memory };
+
     fn from(_error: AllocError) -> ReportFault {
         ReportFault::Memory
     }
 }
 
 impl<T: Drop> From<AllocFailed<T>> for ReportFault {
+    ghost use Rattle.std.specs.Prelude.{◌≡◌};
+    ghost use Rattle.roster_desk_reports.specs.declared.fault.ReportFault.TheVariants.{Memory};
+
+    ghost from_gives = { λ _ e. e ≡ Memory };
+
     fn from(_error: AllocFailed<T>) -> ReportFault {
         ReportFault::Memory
     }

@@ -1,9 +1,14 @@
 //! The roster that a report gives of a book.
 
-ghost use Rattle.std.specs.Prelude.{◌≡◌, ◌<◌, ◌≤◌, ◌↔◌, true, ℕ, All, IfOk, OnOk, Some, length, map, slice_get};
-ghost use Rattle.roster_desk_reports.specs.Given.{GivesPairing, Grows, HasAll, HasFirst, HasGiven, HasNames};
-ghost use Rattle.roster_desk_reports.specs.Given.{HasPairing, IsAmongNames, IsGiven, IsGivenFirst, IsPairing};
-ghost use Rattle.roster_desk_reports.specs.Text.{given_by_line, given_by_text};
+ghost use Rattle.std.specs.Prelude.{◌≡◌, ◌<◌, ◌≤◌, ◌++◌, ℕ, List, [], All, IfErr, IfOk, None, OnOk, Some};
+ghost use Rattle.std.specs.Prelude.{length, map, slice_get};
+ghost use Rattle.std.specs.Option.{option_or};
+ghost use Rattle.roster_desk_reports.specs.Faults.{IsTold, fault_of_report, given_fault, is_month_of, month_fault};
+ghost use Rattle.roster_desk_reports.specs.Faults.{name_fault, names_fault, placing_fault};
+ghost use Rattle.roster_desk_reports.specs.Given.{AreTaken, GivesPairing, Grows, HasAll, HasFirst, HasGiven};
+ghost use Rattle.roster_desk_reports.specs.Given.{HasNames, HasPairing, IsAmongNames, IsGiven, IsGivenFirst};
+ghost use Rattle.roster_desk_reports.specs.Given.{IsPairing};
+ghost use Rattle.roster_desk_reports.specs.Text.{given_by_line, given_by_text, numbered_by_line};
 
 use crate::fault::{ReportFault, Wrong};
 use crate::named::{pairing_named, person_named};
@@ -13,11 +18,12 @@ use roster_problem::{Problem, open_number};
 use roster_values::{Name, Places};
 use std::alloc::{AllocError, Global};
 
-/// Whether the months are the same.
-fn is_same(month: Period, other: Period) -> bool
-    ensures { (result ≡ true) ↔ (month ≡ other) }
+/// Whether the month is the book's.
+fn is_month_of(problem: &Problem, month: Period) -> bool
+    ensures { result ≡ is_month_of problem.now month }
 {
-    month.year() == other.year() && month.month() == other.month()
+    let own = problem.period();
+    month.year() == own.year() && month.month() == own.month()
 }
 
 /// Puts the pairing of the name at the number of a person.
@@ -28,6 +34,12 @@ fn put_pairing(problem: &Problem, places: &mut [u16], number: u16, name: &Name) 
     ensures has { OnOk result (HasPairing problem.now places.new number name.now) }
     ensures grows { OnOk result (Grows problem.now
         (λ p k. (k ≡ number) × IsPairing problem.now name.now p) places.old places.new) }
+    // What is wrong with the name behind those of the pairings that are given.
+    ensures sound { OnOk result ((before : List (List ℕ)) → AreTaken problem.now places.old before
+        → name_fault problem.now before name.now ≡ None) }
+    ensures fault { IfErr result (λ wrong. (before : List (List ℕ))
+        → AreTaken problem.now places.old before
+        → name_fault problem.now before name.now ≡ Some wrong) }
 {
     let Some(p) = pairing_named(problem, name.as_bytes()) else {
         return Err(Wrong::UnknownPairing);
@@ -53,9 +65,17 @@ fn put_names(
         (HasNames problem.now places.new number names.now (length names.now)) }
     ensures grows { OnOk result (Grows problem.now (λ p k. (k ≡ number)
         × IsAmongNames problem.now names.now (length names.now) p) places.old places.new) }
+    ensures taken { OnOk result ((before : List (List ℕ)) → AreTaken problem.now places.old before
+        → (names_fault problem.now before names.now ≡ None)
+        × AreTaken problem.now places.new (before ++ names.now)) }
+    ensures fault { IfErr result (λ wrong. (before : List (List ℕ))
+        → AreTaken problem.now places.old before
+        → names_fault problem.now before names.now ≡ Some wrong) }
 {
     for i in 0..names.len() {
-        put_pairing(problem, places, number, &names[i])?;
+        if let Err(wrong) = put_pairing(problem, places, number, &names[i]) {
+            return Err(wrong);
+        }
     }
     Ok(())
 }
@@ -67,6 +87,12 @@ fn put_line(problem: &Problem, places: &mut [u16], crew: &CrewLine) -> Result<()
     ensures has { OnOk result (HasGiven problem.now places.new (given_by_line crew.now)) }
     ensures grows { OnOk result (Grows problem.now
         (GivesPairing problem.now (given_by_line crew.now)) places.old places.new) }
+    ensures taken { OnOk result ((before : List (List ℕ)) → AreTaken problem.now places.old before
+        → (given_fault problem.now before (given_by_line crew.now) ≡ None)
+        × AreTaken problem.now places.new (before ++ (given_by_line crew.now).1)) }
+    ensures fault { IfErr result (λ wrong. (before : List (List ℕ))
+        → AreTaken problem.now places.old before
+        → given_fault problem.now before (given_by_line crew.now) ≡ Some wrong) }
 {
     problem.is_sound();
     let Some(k) = person_named(problem, crew.person.as_bytes()) else {
@@ -83,6 +109,11 @@ fn put_lines(problem: &Problem, places: &mut [u16], lines: &[CrewLine]) -> Resul
         (HasFirst problem.now places.new (map given_by_line lines.now) (length lines.now)) }
     ensures grows { OnOk result (Grows problem.now (IsGivenFirst problem.now
         (map given_by_line lines.now) (length lines.now)) places.old places.new) }
+    ensures sound { OnOk result ((before : List (List ℕ)) → AreTaken problem.now places.old before
+        → placing_fault problem.now before (map numbered_by_line lines.now) ≡ None) }
+    ensures fault { IfErr result (λ fault. (before : List (List ℕ))
+        → AreTaken problem.now places.old before
+        → IsTold (placing_fault problem.now before (map numbered_by_line lines.now)) fault) }
 {
     for i in 0..lines.len() {
         let crew = &lines[i];
@@ -119,18 +150,26 @@ fn places_of(alloc: Global, problem: &Problem, report: &Report) -> Result<Places
     ensures given { IfOk result (λ places. (p k : ℕ) → k < length problem.now.persons
         → slice_get places p ≡ Some k
         → IsGiven problem.now (map given_by_line report.now.crew.items) p k) }
+    ensures sound { IfOk result (λ _. option_or
+        (month_fault problem.now (Some (report.now.period, report.now.first)))
+        (placing_fault problem.now [] (map numbered_by_line report.now.crew.items)) ≡ None) }
+    ensures fault { IfErr result (IsTold (option_or
+        (month_fault problem.now (Some (report.now.period, report.now.first)))
+        (placing_fault problem.now [] (map numbered_by_line report.now.crew.items)))) }
 {
-    if !is_same(report.period, problem.period()) {
+    if !is_month_of(problem, report.period) {
         let (line, wrong) = (report.first, Wrong::OtherMonth);
         return Err(ReportFault::At { line, wrong });
     }
     let mut places = open_places(alloc, problem)?;
-    put_lines(problem, &mut places, report.crew.as_slice())?;
+    if let Err(fault) = put_lines(problem, &mut places, report.crew.as_slice()) {
+        return Err(fault);
+    }
     Ok(Places::new(places))
 }
 
 /// The roster that the text of a report gives of a book, in the same form, or what is wrong with the first
-/// line that has something wrong.
+/// line that has something wrong: of those that can't be of any report before those that aren't of the book.
 pub fn read_roster(alloc: Global, problem: &Problem, text: &[u8]) -> Result<Places, ReportFault>
     ensures covers { IfOk result (λ places. length places ≡ length problem.now.pairings) }
     ensures numbers { IfOk result
@@ -141,7 +180,12 @@ pub fn read_roster(alloc: Global, problem: &Problem, text: &[u8]) -> Result<Plac
     // Who has a pairing has it by a `CREW` line.
     ensures given { IfOk result (λ places. (p k : ℕ) → k < length problem.now.persons
         → slice_get places p ≡ Some k → IsGiven problem.now (given_by_text text.now) p k) }
+    // It is refused exactly for what is wrong, memory aside.
+    ensures sound { IfOk result (λ _. fault_of_report problem.now text.now ≡ None) }
+    ensures fault { IfErr result (IsTold (fault_of_report problem.now text.now)) }
 {
-    let report = read_report(alloc, text)?;
-    places_of(alloc, problem, &report)
+    match read_report(alloc, text) {
+        Ok(report) => places_of(alloc, problem, &report),
+        Err(fault) => Err(fault),
+    }
 }

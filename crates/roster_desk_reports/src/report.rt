@@ -1,12 +1,20 @@
 //! What a report says, and how it is read.
 
-ghost use Rattle.std.specs.Prelude.{◌≡◌, ◌<◌, ◌++◌, IfOk, OnOk, IsTrue, true, drop, length, map};
+ghost use Rattle.std.specs.Prelude.{◌≡◌, ◌<◌, ◌+◌, ◌++◌, ◌∷◌, ◌||◌, [], IfErr, IfOk, OnOk, IsTrue, Option, None, Some};
+ghost use Rattle.std.specs.Prelude.{true, false, drop, is_some, length, map, not, option_map};
+ghost use Rattle.std.specs.List.{list_all};
+ghost use Rattle.std.specs.Option.{option_or};
+ghost use Rattle.roster_model.specs.Form.{is_identifier};
+ghost use Rattle.roster_desk_reports.specs.Faults as faults;
+ghost use Rattle.roster_desk_reports.specs.Faults.{Heading, IsTold, IsWrongAt, fault_of_text, first_fault, form_fault};
+ghost use Rattle.roster_desk_reports.specs.Faults.{heading_at, heading_from, heading_of, is_blank, is_crew_form};
+ghost use Rattle.roster_desk_reports.specs.Faults.{line_fault, month_in, other_fault, pairings_in};
 ghost use Rattle.roster_desk_reports.specs.Text as spec;
-ghost use Rattle.roster_desk_reports.specs.Text.{given_by, is_crew, given_by_line, given_by_lines, given_by_text};
-ghost use Rattle.roster_desk_reports.specs.Text.{name_of, names_of, word_at};
+ghost use Rattle.roster_desk_reports.specs.Text.{given_by, given_from, is_crew, name_of, names_of, numbered_by_line};
+ghost use Rattle.roster_desk_reports.specs.Text.{numbered_by_text, word_at};
 
 use crate::fault::{ReportFault, Wrong};
-use crate::words::{is_crew, is_number, lines_of, without_mark, words_of};
+use crate::words::{are_numbers, is_crew, lines_of, without_mark, words_of};
 use roster_instants::Period;
 use roster_model::limits::MOST_PAIRINGS;
 use roster_values::Name;
@@ -54,39 +62,50 @@ struct ReportDraft {
 }
 
 /// The month of a report's first line, if it is one.
-fn heading(words: &[&[u8]]) -> Option<Period> {
+fn heading(words: &[&[u8]]) -> Option<Period>
+    ensures { result ≡ month_in (map (λ word. word.now) words.now) }
+{
     if words.len() != 2 {
         return None;
     }
-    match words[0] {
-        b"ROSTER" | b"PLAN" => Period::read(words[1]),
-        _ => None,
+    if words[0] == b"ROSTER".as_slice() || words[0] == b"PLAN".as_slice() {
+        Period::read(words[1])
+    } else {
+        None
     }
 }
 
 /// Whether a report may have a line with this first word that isn't a person's.
-fn is_known(word: &[u8]) -> bool {
-    matches!(word, b"COST" | b"BOUND" | b"LOCKED" | b"OPEN")
+fn is_known(word: &[u8]) -> bool
+    ensures { result ≡ faults.is_known word.now }
+{
+    word == b"COST".as_slice()
+        || word == b"BOUND".as_slice()
+        || word == b"LOCKED".as_slice()
+        || word == b"OPEN".as_slice()
 }
 
 /// Whether the words behind a person's name are numbers, as many as a `CREW` line has.
 fn has_numbers(words: &[&[u8]]) -> bool
-    ensures { IsTrue result → 7 < length words.now }
+    ensures value { result ≡ faults.has_numbers (map (λ word. word.now) words.now) }
+    ensures long { IsTrue result → 7 < length words.now }
 {
-    words.len() > FIRST_NAME
-        && words[FIRST_NUMBER..FIRST_NAME]
-            .iter()
-            .all(|word| is_number(word))
+    words.len() > FIRST_NAME && are_numbers(&words[FIRST_NUMBER..FIRST_NAME])
 }
 
 /// The fault at a line.
-fn at(line: usize, wrong: Wrong) -> ReportFault {
+fn at(line: usize, wrong: Wrong) -> ReportFault
+    ensures { result ≡ ReportFault.At line wrong }
+{
     ReportFault::At { line, wrong }
 }
 
 /// Puts the word behind the names, if it is one; `-` is none.
 fn push_name(names: &mut Vec<Name>, line: usize, word: &[u8]) -> Result<(), ReportFault>
-    ensures { OnOk result (names.new.items ≡ names.old.items ++ name_of word.now) }
+    ensures given { OnOk result (names.new.items ≡ names.old.items ++ name_of word.now) }
+    ensures form { OnOk result (list_all is_identifier (name_of word.now) ≡ true) }
+    ensures fault { IfErr result
+        (IsWrongAt line (form_fault (list_all is_identifier (name_of word.now)))) }
 {
     if word == NOBODY {
         return Ok(());
@@ -100,11 +119,17 @@ fn push_name(names: &mut Vec<Name>, line: usize, word: &[u8]) -> Result<(), Repo
 
 /// The names among the words, or what is wrong with the line at this number.
 fn names(alloc: Global, line: usize, words: &[&[u8]]) -> Result<Vec<Name>, ReportFault>
-    ensures { IfOk result (λ names. names.items ≡ names_of (map (λ word. word.now) words.now)) }
+    ensures given { IfOk result
+        (λ names. names.items ≡ names_of (map (λ word. word.now) words.now)) }
+    ensures form { IfOk result (λ _. list_all is_identifier (names_of (map (λ word. word.now) words.now)) ≡ true) }
+    ensures fault { IfErr result (IsWrongAt line (form_fault
+        (list_all is_identifier (names_of (map (λ word. word.now) words.now))))) }
 {
     let mut names = Vec::new(alloc);
     for word in words {
-        push_name(&mut names, line, word)?;
+        if let Err(fault) = push_name(&mut names, line, word) {
+            return Err(fault);
+        }
     }
     Ok(names)
 }
@@ -115,6 +140,9 @@ fn crew_line(alloc: Global, line: usize, words: &[&[u8]]) -> Result<CrewLine, Re
         (λ crew. crew.person ≡ word_at (map (λ word. word.now) words.now) 1) }
     ensures pairings { IfOk result (λ crew. crew.pairings.items
         ≡ names_of (drop 7 (map (λ word. word.now) words.now))) }
+    ensures number { IfOk result (λ crew. crew.line ≡ line) }
+    ensures form { IfOk result (λ _. is_crew_form (map (λ word. word.now) words.now) ≡ true) }
+    ensures fault { IfErr result (IsWrongAt line (form_fault (is_crew_form (map (λ word. word.now) words.now)))) }
 {
     if !has_numbers(words) {
         return Err(at(line, Wrong::CrewForm));
@@ -133,7 +161,13 @@ fn crew_line(alloc: Global, line: usize, words: &[&[u8]]) -> Result<CrewLine, Re
 impl ReportDraft {
     /// Takes the words of the first line that isn't blank, which is no `CREW` line.
     fn begin(&mut self, line: usize, words: &[&[u8]]) -> Result<(), ReportFault>
-        ensures { OnOk result (self.new.crew ≡ self.old.crew) }
+        ensures same { OnOk result ((self.new.crew ≡ self.old.crew) × (self.new.pairings ≡ self.old.pairings)) }
+        ensures heading { OnOk result (self.new.heading
+            ≡ option_map (λ month. (month, line)) (month_in (map (λ word. word.now) words.now))) }
+        ensures begun { OnOk result (is_some self.new.heading ≡ true) }
+        ensures sound { OnOk result (faults.fault_in false self.old.pairings
+            (map (λ word. word.now) words.now) ≡ None) }
+        ensures fault { IfErr result (IsWrongAt line (faults.fault_in false self.old.pairings (map (λ word. word.now) words.now))) }
     {
         match heading(words) {
             Some(period) => {
@@ -147,9 +181,13 @@ impl ReportDraft {
     /// Takes the words of a `CREW` line.
     fn take_crew(&mut self, alloc: Global, line: usize, words: &[&[u8]]) -> Result<(), ReportFault>
         requires { is_crew (map (λ word. word.now) words.now) ≡ true }
-        ensures { OnOk result (map given_by_line self.new.crew.items
-            ≡ map given_by_line self.old.crew.items
-            ++ given_by (map (λ word. word.now) words.now)) }
+        ensures given { OnOk result (map numbered_by_line self.new.crew.items
+            ≡ map numbered_by_line self.old.crew.items
+            ++ map (λ given. (line, given)) (given_by (map (λ word. word.now) words.now))) }
+        ensures same { OnOk result ((self.new.heading ≡ self.old.heading) × (is_some self.old.heading ≡ true)) }
+        ensures count { OnOk result (self.new.pairings ≡ self.old.pairings + pairings_in (map (λ word. word.now) words.now)) }
+        ensures sound { OnOk result (faults.fault_in (is_some self.old.heading) self.old.pairings (map (λ word. word.now) words.now) ≡ None) }
+        ensures fault { IfErr result (IsWrongAt line (faults.fault_in (is_some self.old.heading) self.old.pairings (map (λ word. word.now) words.now))) }
     {
         if self.heading.is_none() {
             return Err(at(line, Wrong::NoReport));
@@ -165,8 +203,14 @@ impl ReportDraft {
 
     /// Takes the words of a line that is no `CREW` line, and not blank.
     fn take_other(&mut self, line: usize, words: &[&[u8]]) -> Result<(), ReportFault>
-        requires { 0 < length words.now }
-        ensures { OnOk result (self.new.crew ≡ self.old.crew) }
+        requires some { 0 < length words.now }
+        requires other { is_crew (map (λ word. word.now) words.now) ≡ false }
+        ensures same { OnOk result ((self.new.crew ≡ self.old.crew) × (self.new.pairings ≡ self.old.pairings)) }
+        ensures heading { OnOk result ((later : Option Heading) → option_or self.new.heading later
+            ≡ option_or self.old.heading (option_map (λ month. (month, line)) (month_in (map (λ word. word.now) words.now)))) }
+        ensures begun { OnOk result (is_some self.new.heading ≡ true) }
+        ensures sound { OnOk result (faults.fault_in (is_some self.old.heading) self.old.pairings (map (λ word. word.now) words.now) ≡ None) }
+        ensures fault { IfErr result (IsWrongAt line (faults.fault_in (is_some self.old.heading) self.old.pairings (map (λ word. word.now) words.now))) }
     {
         if self.heading.is_none() {
             return self.begin(line, words);
@@ -180,8 +224,19 @@ impl ReportDraft {
 
     /// Takes the line at this number.
     fn take(&mut self, alloc: Global, line: usize, text: &[u8]) -> Result<(), ReportFault>
-        ensures { OnOk result (map given_by_line self.new.crew.items
-            ≡ map given_by_line self.old.crew.items ++ given_by (spec.words_of text.now)) }
+        ensures given { OnOk result (map numbered_by_line self.new.crew.items
+            ≡ map numbered_by_line self.old.crew.items
+            ++ map (λ given. (line, given)) (given_by (spec.words_of text.now))) }
+        ensures heading { OnOk result ((later : Option Heading) → option_or self.new.heading later
+            ≡ option_or self.old.heading (heading_at (spec.words_of text.now) line later)) }
+        ensures begun { OnOk result (is_some self.new.heading
+            ≡ (is_some self.old.heading || not (is_blank (spec.words_of text.now)))) }
+        ensures count { OnOk result (self.new.pairings
+            ≡ self.old.pairings + pairings_in (spec.words_of text.now)) }
+        ensures sound { OnOk result (line_fault (is_some self.old.heading) self.old.pairings
+            (spec.words_of text.now) ≡ None) }
+        ensures fault { IfErr result (IsWrongAt line (line_fault (is_some self.old.heading)
+            self.old.pairings (spec.words_of text.now))) }
     {
         let words = words_of(alloc, text)?;
         if words.is_empty() {
@@ -196,21 +251,31 @@ impl ReportDraft {
 
     /// Takes the lines.
     fn take_all(&mut self, alloc: Global, lines: &[&[u8]]) -> Result<(), ReportFault>
-        ensures { OnOk result (map given_by_line self.new.crew.items
-            ≡ map given_by_line self.old.crew.items
-            ++ given_by_lines (map (λ line. line.now) lines.now)) }
+        ensures given { OnOk result (map numbered_by_line self.new.crew.items
+            ≡ map numbered_by_line self.old.crew.items
+            ++ given_from 1 (map (λ line. line.now) lines.now)) }
+        ensures heading { OnOk result (option_or self.new.heading None
+            ≡ option_or self.old.heading (heading_from 1 (map (λ line. line.now) lines.now))) }
+        ensures sound { OnOk result (first_fault (is_some self.new.heading) self.new.pairings
+            (length lines.now + 1) []
+            ≡ first_fault (is_some self.old.heading) self.old.pairings 1
+            (map (λ line. line.now) lines.now)) }
+        ensures fault { IfErr result (IsTold (first_fault (is_some self.old.heading)
+            self.old.pairings 1 (map (λ line. line.now) lines.now))) }
     {
-        let mut number = 0usize;
-        for line in lines {
-            number = number.saturating_add(1);
-            self.take(alloc, number, line)?;
+        for i in 0..lines.len() {
+            if let Err(fault) = self.take(alloc, i + 1, lines[i]) {
+                return Err(fault);
+            }
         }
         Ok(())
     }
 
     /// The report of the lines.
     fn finish(self) -> Result<Report, ReportFault>
-        ensures { IfOk result (λ report. report.crew ≡ self.crew) }
+        ensures crew { IfOk result (λ report. report.crew ≡ self.crew) }
+        ensures heading { IfOk result (λ report. self.heading ≡ Some (report.period, report.first)) }
+        ensures fault { IfErr result (λ fault. (self.heading ≡ None) × IsWrongAt 1 (Some Wrong.NoReport) fault) }
     {
         match self.heading {
             Some((period, first)) => Ok(Report {
@@ -225,8 +290,15 @@ impl ReportDraft {
 
 /// Reads a report, or tells what is wrong with the first line that can't be one of a report.
 pub fn read_report(alloc: Global, text: &[u8]) -> Result<Report, ReportFault>
-    ensures { IfOk result
-        (λ report. map given_by_line report.crew.items ≡ given_by_text text.now) }
+    // The `CREW` lines, with their numbers.
+    ensures given { IfOk result
+        (λ report. map numbered_by_line report.crew.items ≡ numbered_by_text text.now) }
+    // The month of the first line that isn't blank.
+    ensures month { IfOk result
+        (λ report. heading_of text.now ≡ Some (report.period, report.first)) }
+    // It is refused exactly for what is wrong, memory aside.
+    ensures sound { IfOk result (λ _. fault_of_text text.now ≡ None) }
+    ensures fault { IfErr result (IsTold (fault_of_text text.now)) }
 {
     let mut draft = ReportDraft {
         heading: None,

@@ -1,6 +1,8 @@
 //! The words of a line.
 
 ghost use Rattle.std.specs.Prelude.{◌≡◌, IfOk, map};
+ghost use Rattle.std.specs.Char.{is_ascii_digit};
+ghost use Rattle.std.specs.List.{list_all};
 ghost use Rattle.roster_desk_reports.specs.Text as spec;
 
 use std::alloc::{AllocError, Global};
@@ -42,6 +44,15 @@ pub(crate) fn is_crew(words: &[&[u8]]) -> bool
 }
 
 /// Whether the word is a number, without a sign.
-pub(crate) fn is_number(word: &[u8]) -> bool {
+fn is_number(word: &[u8]) -> bool
+    ensures { result ≡ list_all is_ascii_digit word.now }
+{
     word.iter().all(|byte| byte.is_ascii_digit())
+}
+
+/// Whether each word is one.
+pub(crate) fn are_numbers(words: &[&[u8]]) -> bool
+    ensures { result ≡ list_all (λ word. list_all is_ascii_digit word.now) words.now }
+{
+    words.iter().all(|word| is_number(word))
 }

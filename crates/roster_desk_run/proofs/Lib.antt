@@ -1,1 +1,2 @@
 mod PlanAnswers
+mod FirstWord

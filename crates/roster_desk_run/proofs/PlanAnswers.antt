@@ -12,7 +12,8 @@ use Rattle.roster_model.specs.records.Assign.{assigned_in}
 use Rattle.roster_model.specs.Settled.{IsBest}
 use Rattle.roster_model.specs.Texts.{IsPlanOf, IsReportOf}
 use Rattle.roster_plan.specs.declared.known.Planned.{Planned}
-use Rattle.roster_desk_run.specs.Run.{IsAnswerTo, IsFaultless, IsPlanFrom, IsPlanOfBook, IsRosterOf, IsTextOf}
+use Rattle.roster_desk_given.specs.declared.status.Status.{Status}
+use Rattle.roster_desk_run.specs.Run.{IsAnswerTo, IsPlanFrom, IsPlanOfBook, IsRosterOf, IsStartFault, IsTextOf, RefusesStart}
 
 pub text-weaker : (P Q Out : List ℕ → Type 0) → ((text : List ℕ) → P text → Q text)
     → (text : List ℕ) × P text × Out text → (text : List ℕ) × Q text × Out text
@@ -87,9 +88,18 @@ pub text_of_other : (problem : Problem) (planned : Planned) → planned.is_best 
 text_of_other problem planned unsaid text is =
     record { of_best = λ said. absurd (false≢true (sym unsaid ∙ said)); of_other = λ _. is }
 
--- a book that is read has no fault
-pub faultless_of_book : (book : Book) (told : Option (List ℕ))
-    → OfTold (λ records. IsBookOf Check records book) told → OfTold IsFaultless told
-faultless_of_book book None read = (read.0, λ fault first. no_fault read.0 fault read.1.faultless first)
-faultless_of_book book (Some bytes) read =
-    λ fault first. no_fault (records_of bytes) fault read.faultless first
+-- what is refused of a book's problem is refused of the book, which has no fault
+pub start_of_book : (book : Book) (told report : Option (List ℕ)) (status : Status)
+    → RefusesStart book.problem report status → OfTold (λ records. IsBookOf Check records book) told
+    → OfTold (IsStartFault report status) told
+start_of_book book None report status refuses read = (read.0, start_fault read.0 book report status refuses read.1)
+start_of_book book (Some bytes) report status refuses read =
+    start_fault (records_of bytes) book report status refuses read
+
+start_fault : (records : List Record) (book : Book) (report : Option (List ℕ)) (status : Status)
+    → RefusesStart book.problem report status → IsBookOf Check records book
+    → IsStartFault report status records
+start_fault records book report status refuses is = record {
+  faultless = λ fault first. no_fault records fault is.faultless first;
+  refuses = subst (λ tables. RefusesStart tables report status) is.problem_is refuses;
+}

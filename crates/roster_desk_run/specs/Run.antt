@@ -1,12 +1,13 @@
 -- What a plan is that may begin with a roster of a report, and how a run ends that answers a book with one.
-use Rattle.std.specs.Prelude.{◌≡◌, ◌<◌, ◌≤◌, ◌⊎◌, ℕ, true, false, Option, Some, None, List, All, length, slice_get}
-use Rattle.roster_model.specs.Answer.{IsFirstFault, IsRefusal}
+use Rattle.std.specs.Prelude.{◌≡◌, ◌<◌, ◌≤◌, ◌⊎◌, ℕ, true, false, Option, Some, None, List, All, codes, length, slice_get, take}
+use Rattle.roster_model.specs.Answer.{IsBestReport, IsFirstFault, IsRefusal}
 use Rattle.roster_model.specs.Faults.{Fault}
 use Rattle.roster_model.specs.Plans.{IsPlanAnswer, IsPlanned, IsPlanReport}
 use Rattle.roster_model.specs.Problem.{Problem, problem_of}
 use Rattle.roster_model.specs.Record.{Check, Record}
 use Rattle.roster_model.specs.Texts.{fault_text, IsPlanOf, IsReportOf}
 use Rattle.roster_plan.specs.declared.known.Planned.{Planned}
+use Rattle.roster_desk_reports.specs.Faults.{Told, fault_of_report}
 use Rattle.roster_desk_reports.specs.Given.{HasAll, IsGiven}
 use Rattle.roster_desk_reports.specs.Text.{given_by_text}
 use Rattle.roster_desk_given.specs.declared.status.Status.{Status}
@@ -21,8 +22,9 @@ pub record IsTextOf (problem : Problem) (planned : Planned) (text : List ℕ) : 
 
 -- ---- where a plan begins
 
--- the roster has what a report gives, and nothing else
+-- nothing is wrong with the report as one of the book, and the roster has what it gives, and nothing else
 pub record IsRosterOf (problem : Problem) (report places : List ℕ) : Type 0 where
+  pub faultless : fault_of_report problem report ≡ None
   pub covers : length places ≡ length problem.pairings
   pub numbers : All (λ x. x ≤ length problem.persons) places
   pub has : HasAll problem places (given_by_text report)
@@ -65,3 +67,25 @@ IsFaultLine row code text = text ≡ fault_text (record { row = row; code = code
 abbrev pub IsStartRefused : Status → Type 0
 IsStartRefused (statuses.StartRefused line wrong) = Unit {0}
 IsStartRefused _ = ⊥
+
+-- it is, for what is told
+abbrev pub IsRefusedFor : Option Told → Status → Type 0
+IsRefusedFor told (statuses.StartRefused line wrong) = told ≡ Some (line, wrong)
+IsRefusedFor told _ = ⊥
+
+-- there is a report, and it is refused for what is wrong with it as one of the book
+abbrev pub RefusesStart : Problem → Option (List ℕ) → Status → Type 0
+RefusesStart problem None status = ⊥
+RefusesStart problem (Some report) status = IsRefusedFor (fault_of_report problem report) status
+
+-- so it is, and the book has no fault
+pub record IsStartFault (report : Option (List ℕ)) (status : Status) (book : List Record) : Type 0 where
+  pub faultless : IsFaultless book
+  pub refuses : RefusesStart (problem_of book) report status
+
+-- ---- what the first word of an answer says
+
+-- an answer that begins with ROSTER is the report of the book's best roster
+abbrev pub SaysBest : Type 0
+SaysBest = (report : Option (List ℕ)) (book : List Record) (text : List ℕ) → IsAnswerTo report book text
+    → take 6 text ≡ codes "ROSTER" → IsFaultless book × IsBestReport (problem_of book) text

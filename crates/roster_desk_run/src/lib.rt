@@ -2,9 +2,12 @@
 //! writer. The plan begins with the book's assignments, or with the roster of a report.
 //!
 //! - `running`: a book is read, and its one answer written
+//! - `laws`: an answer that begins with `ROSTER` is the report of the best roster
 #![tactic(auto)]
 
+mod laws;
 mod running;
 
+pub use laws::first_word_says_best;
 pub use roster_desk_given::Status;
 pub use running::{run, write_planned};

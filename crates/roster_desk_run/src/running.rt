@@ -1,7 +1,7 @@
 //! A run: a book is read, and its one answer written.
 
 ghost use Rattle.std.specs.Prelude.{◌≡◌, ◌≢◌, ◌↔◌, ◌<◌, ◌≤◌, All, IsErrOf, OnOk, length, true, false};
-ghost use Rattle.std.specs.Prelude.{None, option_map};
+ghost use Rattle.std.specs.Prelude.{option_map};
 ghost use Rattle.roster_model.specs.Answer.{IsRefusal};
 ghost use Rattle.roster_model.specs.Plans.{IsPlanReport};
 ghost use Rattle.roster_model.specs.Record.{Check};
@@ -9,8 +9,8 @@ ghost use Rattle.roster_model.specs.Settled.{IsHeld};
 ghost use Rattle.roster_book.specs.Reading.{OfTold};
 ghost use Rattle.roster_watched.specs.Watch.{inner_of, has_failed, is_flushed};
 ghost use Rattle.roster_report.specs.Writing.{Writes, WritesPart};
-ghost use Rattle.roster_desk_run.specs.Run.{IsAnswerTo, IsFaultLine, IsFaultless};
-ghost use Rattle.roster_desk_run.specs.Run.{IsPlanFrom, IsPlanOfBook, IsStartRefused, IsTextOf};
+ghost use Rattle.roster_desk_run.specs.Run.{IsAnswerTo, IsFaultLine, IsPlanFrom, IsPlanOfBook, IsStartFault};
+ghost use Rattle.roster_desk_run.specs.Run.{IsStartRefused, IsTextOf, RefusesStart};
 
 use roster_book::{Book, BookFault, Command, Watched, read_book};
 use roster_desk_given::Status;
@@ -68,10 +68,10 @@ pub fn run<T: Threads + Sync, R: Read, W: Write, P: Watcher>(
     ensures unread_unwritten { result ≡ Status.ReadFailed → writer.new ≡ writer.old }
     ensures start_refused { IsStartRefused result → writer.new ≡ writer.old }
 
-    // Only a report is refused so, of a book without a fault.
-    ensures start_there { IsStartRefused result → report.entry ≢ None }
-    ensures start_of_book { IsStartRefused result
-        → OfTold IsFaultless (R.remaining (inner_of reader.old)) }
+    // Only a report is refused so, for what is wrong with it as one of the book, which has no fault.
+    ensures start_wrong { IsStartRefused result
+        → OfTold (IsStartFault (option_map (λ bytes. bytes.now) report.entry) result)
+        (R.remaining (inner_of reader.old)) }
 {
     match read_book(alloc, reader, Command::Check) {
         Ok(book) => answer(rt, alloc, means, report, &book, writer, watcher),
@@ -125,7 +125,8 @@ fn answer<T: Threads + Sync, W: Write, P: Watcher>(
     ensures flushed { result ≡ Status.Answered → is_flushed writer.new ≡ true }
     ensures memory { result ≡ Status.Memory → writer.new ≡ writer.old }
     ensures start_refused { IsStartRefused result → writer.new ≡ writer.old }
-    ensures start_there { IsStartRefused result → report.entry ≢ None }
+    ensures start_wrong { IsStartRefused result
+        → RefusesStart book.now.problem (option_map (λ bytes. bytes.now) report.entry) result }
     ensures others { (result ≢ Status.Refused) × (result ≢ Status.ReadFailed) }
 {
     let problem = &book.problem;

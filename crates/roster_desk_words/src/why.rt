@@ -6,8 +6,7 @@ ghost use Rattle.roster_desk_words.specs.Asked.{is_asked};
 use crate::sentences::push_reason;
 use crate::words::push_all;
 use roster_desk_given::{
-    Asked, Asked, Outcome, Zones, Zones, broken_with, broken_with, duties_with, duties_with,
-    outcome, with_pairing,
+    Asked, Outcome, Zones, broken_with, duties_with, outcome, with_pairing,
 };
 use roster_legal_reasons::Reason;
 use roster_problem::{DutyList, Problem, open_number};

@@ -10,7 +10,7 @@ use Rattle.roster_desk_reports.proofs.placing.places_of.Goals as goal
 -- at first nobody has a pairing, so who has one then has it by a line
 pub returns-clause-given : goal.returns-clause-given
 returns-clause-given c p k few at =
-    let grows = c.in_ok-put_lines.ensures.grows in
+    let grows = c.in_default.ensures.grows in
     let long : length c.put_lines.new.places ≡ c.in_ok-places.places.len =
     grows.covers ∙ c.deref_mut.ensures.len in
     let same : c.new.result ≡ c.put_lines.new.places =
@@ -25,7 +25,7 @@ returns-clause-given c p k few at =
 
 pub returns-clause-has : goal.returns-clause-has
 returns-clause-has c i given at =
-    let grows = c.in_ok-put_lines.ensures.grows in
+    let grows = c.in_default.ensures.grows in
     let long : length c.put_lines.new.places ≡ c.in_ok-places.places.len =
     grows.covers ∙ c.deref_mut.ensures.len in
     let same : c.new.result ≡ c.put_lines.new.places =
@@ -37,4 +37,4 @@ returns-clause-has c i given at =
     let inside = slice_get_within (map given_by_line c.as_slice.result.now) i given there in
     let long_lines = length-map c.as_slice.result.now given_by_line in
     subst (λ places. HasGiven c.args.problem.now places given) (sym same)
-    (c.in_ok-put_lines.ensures.has i given (omega (arith, inside, long_lines)) there)
+    (c.in_default.ensures.has i given (omega (arith, inside, long_lines)) there)

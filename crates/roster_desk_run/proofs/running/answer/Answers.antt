@@ -16,7 +16,7 @@ returns-in-Ok-clause-answered g c = λ answered.
     let old = g.W.Write.contents (inner_of c.args.writer.now) in
     let new = g.W.Write.contents (inner_of c.answer_from-in-Ok.new.writer) in
     let same : start ≡ c.in-Ok.start = search rules in
-    let is : IsRosterOf problem report start = subst (IsRosterOf problem report) (sym same) (record { covers = c.in-Ok.ensures.covers; numbers = c.in-Ok.ensures.numbers; has = c.in-Ok.ensures.has; only = c.in-Ok.ensures.given }) in
+    let is : IsRosterOf problem report start = subst (IsRosterOf problem report) (sym same) (record { faultless = c.in-Ok.ensures.sound; covers = c.in-Ok.ensures.covers; numbers = c.in-Ok.ensures.numbers; has = c.in-Ok.ensures.has; only = c.in-Ok.ensures.given }) in
     subst (λ told. Writes (IsPlanFrom (option_map (λ bytes. bytes.now) told) problem assigned) old new)
     (sym c.in-Some.is)
     (text-weaker (IsPlanReport problem start) (IsPlanFrom (Some report) problem assigned) _ (from_report report problem assigned start is) (c.answer_from-in-Ok.ensures.answered answered))
@@ -30,7 +30,7 @@ returns-in-Ok-clause-part g c = λ failed.
     let old = g.W.Write.contents (inner_of c.args.writer.now) in
     let new = g.W.Write.contents (inner_of c.answer_from-in-Ok.new.writer) in
     let same : start ≡ c.in-Ok.start = search rules in
-    let is : IsRosterOf problem report start = subst (IsRosterOf problem report) (sym same) (record { covers = c.in-Ok.ensures.covers; numbers = c.in-Ok.ensures.numbers; has = c.in-Ok.ensures.has; only = c.in-Ok.ensures.given }) in
+    let is : IsRosterOf problem report start = subst (IsRosterOf problem report) (sym same) (record { faultless = c.in-Ok.ensures.sound; covers = c.in-Ok.ensures.covers; numbers = c.in-Ok.ensures.numbers; has = c.in-Ok.ensures.has; only = c.in-Ok.ensures.given }) in
     subst (λ told. WritesPart (IsPlanFrom (option_map (λ bytes. bytes.now) told) problem assigned) old new)
     (sym c.in-Some.is)
     (text-weaker (IsPlanReport problem start) (IsPlanFrom (Some report) problem assigned) _ (from_report report problem assigned start is) (c.answer_from-in-Ok.ensures.part failed))
