@@ -18,7 +18,7 @@ mod status;
 mod zones;
 
 pub use asked::{Asked, Unknown, find};
-pub use outcome::{Outcome, outcome, with_pairing};
+pub use outcome::{Outcome, with_outcome};
 pub use persons::{broken_with, duties_with, set_with};
 pub use status::Status;
 pub use zones::{Zones, read_zones, utc};

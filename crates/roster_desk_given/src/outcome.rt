@@ -19,7 +19,7 @@ pub enum Outcome {
 }
 
 /// The places with the pairing at `p` given to person `k`, and all others as they are.
-pub fn with_pairing(
+fn with_pairing(
     alloc: Global,
     problem: &Problem,
     places: &[u16],
@@ -37,7 +37,7 @@ pub fn with_pairing(
 }
 
 /// What the places come to for person `k`.
-pub fn outcome(
+fn outcome_of(
     alloc: Global,
     problem: &Problem,
     places: &[u16],
@@ -51,4 +51,24 @@ pub fn outcome(
         Some(reason) => Ok(Outcome::Broken(reason)),
         None => Ok(Outcome::Costs(roster_cost(problem, places))),
     }
+}
+
+/// The places with the pairing at `p` given to person `k`, and all others as they are, and what these come
+/// to for the person.
+pub fn with_outcome(
+    alloc: Global,
+    problem: &Problem,
+    places: &[u16],
+    p: usize,
+    k: usize,
+) -> Result<(Vec<u16>, Outcome), AllocError>
+    requires covers { length places.now ≡ length problem.now.pairings }
+    requires pairing { p < length places.now }
+    requires person { k < length problem.now.persons }
+    ensures places { IfOk result (λ found. found.0.items ≡ slice_set places.now p k) }
+    ensures outcome { IfOk result (λ found. IsOutcome problem.now (slice_set places.now p k) k found.1) }
+{
+    let moved = with_pairing(alloc, problem, places, p, k)?;
+    let outcome = outcome_of(alloc, problem, moved.as_slice(), k)?;
+    Ok((moved, outcome))
 }

@@ -10,6 +10,9 @@ use std::str;
 /// How an instant is told: spreadsheets read such a text as a time.
 const FORMAT: &str = "%Y-%m-%d %H:%M";
 
+/// What stands in place of an instant that clocks can't show.
+const NO_INSTANT: &str = "-";
+
 /// The zones of a book's bases, in book order.
 #[derive(Drop)]
 pub struct Zones {
@@ -41,6 +44,8 @@ pub fn read_zones(alloc: Global, text: &[u8]) -> Result<Zones, AllocError> {
         .from_reader(alloc, text);
     let mut zones = Vec::new(alloc);
     for record in reader.into_byte_records() {
+        // Bytes that are in memory are read without a fault of a device, and a record may have any number
+        // of fields of any bytes: so nothing but want of memory is left.
         let Ok(fields) = record else {
             return Err(AllocError);
         };
@@ -51,11 +56,13 @@ pub fn read_zones(alloc: Global, text: &[u8]) -> Result<Zones, AllocError> {
     Ok(Zones { zones })
 }
 
-/// An instant as the clocks of a zone show it.
+/// An instant as the clocks of a zone show it; `-` if it is none of `jiff`'s, which the last hours of the
+/// year 9999 are not, and no book has.
 fn shown(alloc: Global, zone: &TimeZone<'static>, at: Minute) -> Result<String, AllocError> {
     let Ok(timestamp) = Timestamp::from_second(at.get() * 60) else {
-        return Err(AllocError);
+        return String::from_str(alloc, NO_INSTANT);
     };
+    // What a directive can't write is written as text: so nothing but want of memory is left.
     match zone.to_datetime(timestamp).strftime(alloc, FORMAT) {
         Ok(text) => Ok(text),
         Err(_) => Err(AllocError),

@@ -5,9 +5,7 @@ ghost use Rattle.roster_desk_words.specs.Asked.{is_asked};
 
 use crate::sentences::push_reason;
 use crate::words::push_all;
-use roster_desk_given::{
-    Asked, Outcome, Zones, broken_with, duties_with, outcome, with_pairing,
-};
+use roster_desk_given::{Asked, Outcome, Zones, broken_with, duties_with, with_outcome};
 use roster_legal_reasons::Reason;
 use roster_problem::{DutyList, Problem, open_number};
 use std::alloc::{AllocError, Global};
@@ -72,8 +70,8 @@ fn push_line(
     let pairing = problem.pairing(p).id.as_bytes();
     let person = problem.person(k).id.as_bytes();
     push_all(out, &[pairing, b" ", person, b" "])?;
-    let moved = with_pairing(alloc, problem, places, p, k)?;
-    match outcome(alloc, problem, moved.as_slice(), k)? {
+    let (moved, outcome) = with_outcome(alloc, problem, places, p, k)?;
+    match outcome {
         Outcome::Broken(told) => {
             let list = duties_with(alloc, problem, moved.as_slice(), k)?;
             push_told(alloc, out, problem, zones, k, &list, told)?;
