@@ -1,6 +1,6 @@
 //! What the paths of a command line hold.
 
-use roster_desk_answers::Inputs;
+use roster_desk_answers::{Inputs, ReportRead};
 use roster_desk_arguments::{Question, TellLine};
 use std::alloc::Global;
 use std::fs::File;
@@ -92,10 +92,13 @@ pub(crate) fn shares_input(line: &TellLine<'_>) -> bool {
 pub(crate) fn read_inputs<'a>(
     rt: &HostRuntime,
     line: &TellLine<'a>,
-) -> Result<Inputs, InputFault<'a>> {
+) -> Result<Inputs<'a>, InputFault<'a>> {
     let book = read_book_at(rt, line.book)?;
     let report = match line.report {
-        Some(path) => Some(read_report_at(rt, path)?),
+        Some(path) => Some(ReportRead {
+            path,
+            bytes: read_report_at(rt, path)?,
+        }),
         None => None,
     };
     let other = match other_path(line) {

@@ -10,7 +10,7 @@
 mod inputs;
 mod watching;
 
-ghost use Rattle.std.specs.Prelude.{◌≡◌, ◌<◌, false};
+ghost use Rattle.std.specs.Prelude.{◌≡◌, ◌<◌, IfSome, false};
 ghost use Rattle.roster_watched.specs.Watch.{has_failed};
 
 use inputs::{InputFault, STANDARD_INPUT, read_book_at, read_inputs, read_report_at, shares_input};
@@ -133,9 +133,12 @@ fn plan<T: Threads + Sync, R: Read>(
     ended(rt, status)
 }
 
-/// What the plan may take.
+/// What the plan may take: what the line says, one worker at least.
 fn means_of(line: &PlanLine<'_>) -> Means
-    ensures { 0 < result.workers }
+    ensures some { 0 < result.workers }
+    ensures effort { result.effort ≡ line.now.effort }
+    ensures workers { 0 < line.now.workers → result.workers ≡ line.now.workers }
+    ensures sets { IfSome line.now.sets (λ sets. result.most_sets ≡ sets) }
 {
     let usual = Means::of_effort(line.effort, line.workers.max(1));
     Means {
@@ -154,7 +157,7 @@ fn answer_tell(rt: &HostRuntime, line: &TellLine<'_>) -> ExitCode {
         Err(fault) => return unread_input(rt, fault),
     };
     let mut writer = Watched::new(io::writer(rt));
-    match tell(rt.alloc(), line, &inputs, &mut writer) {
+    match tell(rt.alloc(), line.question, &inputs, &mut writer) {
         Ok(status) => ended(rt, status),
         Err(untold) => untold_ended(rt, &untold),
     }

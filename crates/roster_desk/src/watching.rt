@@ -1,8 +1,8 @@
 //! What is told and kept of a plan while it is made.
 
-ghost use Rattle.roster_model.specs.Settled.{IsHeld};
+ghost use Rattle.roster_plan.specs.Planned.{IsKnown};
 
-use roster_desk_run::write_planned;
+use roster_desk_run::write_known;
 use roster_plan::{Phase, Planned, Watcher};
 use roster_problem::Problem;
 use roster_watched::Watched;
@@ -101,7 +101,7 @@ fn name_of(problem: &Problem, base: usize) -> Option<&str> {
 /// Writes the plan to a new file beside the one at the path, and puts it in its place. Whether that could be
 /// done; if not, the file at the path is as it was.
 fn keep(rt: &HostRuntime, path: &str, problem: &Problem, planned: &Planned) -> bool
-    requires { IsHeld problem.now planned.now.roster }
+    requires { IsKnown problem.now planned.now }
 {
     let Ok(part) = format!(in rt.alloc(); "{path}.part") else {
         return false;
@@ -110,7 +110,7 @@ fn keep(rt: &HostRuntime, path: &str, problem: &Problem, planned: &Planned) -> b
         return false;
     };
     let mut writer = Watched::new(file);
-    let is_written = write_planned(rt.alloc(), problem, planned, &mut writer).is_ok();
+    let is_written = write_known(rt.alloc(), problem, planned, &mut writer).is_ok();
     if is_written && fs::rename(rt, part.as_str(), path).is_ok() {
         return true;
     }

@@ -8,4 +8,4 @@ mod pages;
 mod telling;
 
 pub use pages::show;
-pub use telling::{Inputs, Untold, tell, tell_assigns};
+pub use telling::{Inputs, ReportRead, Untold, tell, tell_assigns};

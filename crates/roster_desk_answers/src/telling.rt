@@ -4,7 +4,7 @@ ghost use Rattle.std.specs.Prelude.{◌≡◌, IfOk, length, false};
 ghost use Rattle.roster_watched.specs.Watch.{has_failed};
 
 use roster_book::{Book, BookFault, Command, read_book};
-use roster_desk_arguments::{Question, TellLine};
+use roster_desk_arguments::Question;
 use roster_desk_chart::chart_text;
 use roster_desk_given::{Status, Unknown, find, read_zones};
 use roster_desk_reports::{ReportFault, assigns_text, read_report, read_roster};
@@ -17,13 +17,22 @@ use roster_watched::Watched;
 use std::alloc::{AllocError, Global};
 use std::io::Write;
 
+/// A report that was read.
+#[derive(Drop)]
+pub struct ReportRead<'a> {
+    /// Its path, or `-`.
+    pub path: &'a str,
+    /// What it holds.
+    pub bytes: Vec<u8>,
+}
+
 /// A book and the reports beside it, as their bytes.
 #[derive(Drop)]
-pub struct Inputs {
+pub struct Inputs<'a> {
     /// The book.
     pub book: Vec<u8>,
-    /// The report that gives the roster, if one does.
-    pub report: Option<Vec<u8>>,
+    /// The report that gives the roster; none if the book gives it.
+    pub report: Option<ReportRead<'a>>,
     /// The report that gives the other roster; empty if there is none.
     pub other: Vec<u8>,
 }
@@ -64,11 +73,11 @@ fn refused<'a>(path: &'a str, fault: ReportFault) -> Untold<'a> {
     }
 }
 
-/// Writes what the line asks of the book among the inputs, or the line of the book's first fault.
+/// Writes what is asked of the book among the inputs, or the line of the book's first fault.
 pub fn tell<'a, W: Write>(
     alloc: Global,
-    line: &TellLine<'a>,
-    inputs: &Inputs,
+    question: Question<'a>,
+    inputs: &Inputs<'a>,
     writer: &mut Watched<W>,
 ) -> Result<Status, Untold<'a>>
     requires { has_failed writer.old ≡ false }
@@ -76,7 +85,7 @@ pub fn tell<'a, W: Write>(
     let mut reader = Watched::new(inputs.book.as_slice());
     match read_book(alloc, &mut reader, Command::Check) {
         Ok(book) => {
-            let text = text(alloc, line, inputs, &book)?;
+            let text = text(alloc, question, inputs, &book)?;
             Ok(write(text.as_slice(), writer))
         }
         Err(BookFault::At { row, code }) => Ok(refuse(alloc, row, code, writer)),
@@ -135,28 +144,23 @@ fn given<'a>(
     }
 }
 
-/// The text that tells what the line asks of a book in which no record has a fault.
+/// The text that tells what is asked of a book in which no record has a fault: of the roster that the
+/// report gives if one was read, and else of the book's own.
 fn text<'a>(
     alloc: Global,
-    line: &TellLine<'a>,
-    inputs: &Inputs,
+    question: Question<'a>,
+    inputs: &Inputs<'a>,
     book: &Book,
 ) -> Result<Vec<u8>, Untold<'a>>
     requires { length book.now.assigned ≡ length book.now.problem.pairings }
 {
     let problem = &book.problem;
-    match (line.report, &inputs.report) {
-        (Some(path), Some(report)) => {
-            let places = given(alloc, problem, path, report.as_slice())?;
-            told(alloc, line.question, inputs, problem, places.as_slice())
+    match &inputs.report {
+        Some(report) => {
+            let places = given(alloc, problem, report.path, report.bytes.as_slice())?;
+            told(alloc, question, inputs, problem, places.as_slice())
         }
-        _ => told(
-            alloc,
-            line.question,
-            inputs,
-            problem,
-            book.assigned.as_slice(),
-        ),
+        None => told(alloc, question, inputs, problem, book.assigned.as_slice()),
     }
 }
 
@@ -164,7 +168,7 @@ fn text<'a>(
 fn told<'a>(
     alloc: Global,
     question: Question<'a>,
-    inputs: &Inputs,
+    inputs: &Inputs<'a>,
     problem: &Problem,
     places: &[u16],
 ) -> Result<Vec<u8>, Untold<'a>>

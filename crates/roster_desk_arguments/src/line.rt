@@ -1,5 +1,8 @@
 //! What the words of the command line ask for.
 
+ghost use Rattle.std.specs.Prelude.{IfSome};
+ghost use Rattle.roster_desk_arguments.specs.Found.{AsksPlan};
+
 use crate::commands::desk;
 use clap::error::ErrorKind;
 use clap::{ArgMatches, Command};
@@ -151,7 +154,9 @@ fn asked<'a>(matches: &ArgMatches<'a>) -> Option<Line<'a>> {
 }
 
 /// The plan in the matches.
-fn planned<'a>(found: &ArgMatches<'a>) -> Option<Line<'a>> {
+fn planned<'a>(found: &ArgMatches<'a>) -> Option<Line<'a>>
+    ensures { IfSome result (AsksPlan found.now) }
+{
     let book = found.get_str("book")?;
     let effort = found.get_one::<u32>("effort").unwrap_or(USUAL_EFFORT);
     let workers = found.get_one::<usize>("workers").unwrap_or(1);

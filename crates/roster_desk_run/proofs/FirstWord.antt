@@ -1,5 +1,5 @@
 -- What the first word of an answer says.
-use Rattle.std.proofs.Common.{◌≡◌, ℕ, ℤ, List, Option, None, Some, get_or, sym, ap, ◌∙◌, inl, inr, codes}
+use Rattle.std.proofs.Common.{◌≡◌, ℕ, ℤ, List, Option, None, Some, arith, get_or, sym, ap, ◌∙◌, inl, inr, codes}
 use Rattle.std.specs.Prelude.{take}
 use Rattle.roster_model.specs.Answer.{IsBestReport, IsFirstFault, IsRefusal}
 use Rattle.roster_model.specs.Faults.{Fault}
@@ -15,15 +15,15 @@ plan_is_none : (problem : Problem) (bound : ℤ) (locks : List (Option Rule)) (p
     → take 6 (plan_text problem bound locks places) ≡ codes "ROSTER" → ⊥
 unfolding plan_text
 plan_is_none problem bound locks places begins =
-    let first : 80 ≡ 82 = ap (λ (text : List ℕ). get_or text 0 0) begins in
-    absurd cc
+    let first : ◌≡◌ {A = ℕ} 80 82 = ap (λ (text : List ℕ). get_or text 0 0) begins in
+    absurd (omega arith)
 
 -- and that of a fault with an F
 fault_is_none : (fault : Fault) → take 6 (fault_text fault) ≡ codes "ROSTER" → ⊥
 unfolding fault_text
 fault_is_none fault begins =
-    let first : 70 ≡ 82 = ap (λ (text : List ℕ). get_or text 0 0) begins in
-    absurd cc
+    let first : ◌≡◌ {A = ℕ} 70 82 = ap (λ (text : List ℕ). get_or text 0 0) begins in
+    absurd (omega arith)
 
 no_refusal : (book : List Record) (text : List ℕ) → IsRefusal Check book text
     → take 6 text ≡ codes "ROSTER" → ⊥

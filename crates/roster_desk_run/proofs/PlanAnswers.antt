@@ -9,11 +9,13 @@ use Rattle.roster_model.specs.Plans.{IsPlan, IsPlanReport}
 use Rattle.roster_model.specs.Problem.{Problem}
 use Rattle.roster_model.specs.Record.{Check, Record}
 use Rattle.roster_model.specs.records.Assign.{assigned_in}
-use Rattle.roster_model.specs.Settled.{IsBest}
+use Rattle.roster_model.proofs.SettledLemmas.{held-key}
+use Rattle.roster_model.specs.Settled.{Anywhere, IsBest, IsHeld, IsNotAfter}
+use Rattle.roster_plan.specs.Planned.{IsKnown}
 use Rattle.roster_model.specs.Texts.{IsPlanOf, IsReportOf}
 use Rattle.roster_plan.specs.declared.known.Planned.{Planned}
 use Rattle.roster_desk_given.specs.declared.status.Status.{Status}
-use Rattle.roster_desk_run.specs.Run.{IsAnswerTo, IsPlanFrom, IsPlanOfBook, IsRosterOf, IsStartFault, IsTextOf, RefusesStart}
+use Rattle.roster_desk_run.specs.Run.{IsAnswerTo, IsKnownText, IsPlanFrom, IsPlanOfBook, IsRosterOf, IsStartFault, IsTextOf, RefusesStart}
 
 pub text-weaker : (P Q Out : List ℕ → Type 0) → ((text : List ℕ) → P text → Q text)
     → (text : List ℕ) × P text × Out text → (text : List ℕ) × Q text × Out text
@@ -89,13 +91,6 @@ text_of_other problem planned unsaid text is =
     record { of_best = λ said. absurd (false≢true (sym unsaid ∙ said)); of_other = λ _. is }
 
 -- what is refused of a book's problem is refused of the book, which has no fault
-pub start_of_book : (book : Book) (told report : Option (List ℕ)) (status : Status)
-    → RefusesStart book.problem report status → OfTold (λ records. IsBookOf Check records book) told
-    → OfTold (IsStartFault report status) told
-start_of_book book None report status refuses read = (read.0, start_fault read.0 book report status refuses read.1)
-start_of_book book (Some bytes) report status refuses read =
-    start_fault (records_of bytes) book report status refuses read
-
 start_fault : (records : List Record) (book : Book) (report : Option (List ℕ)) (status : Status)
     → RefusesStart book.problem report status → IsBookOf Check records book
     → IsStartFault report status records
@@ -103,3 +98,32 @@ start_fault records book report status refuses is = record {
   faultless = λ fault first. no_fault records fault is.faultless first;
   refuses = subst (λ tables. RefusesStart tables report status) is.problem_is refuses;
 }
+
+pub start_of_book : (book : Book) (told report : Option (List ℕ)) (status : Status)
+    → RefusesStart book.problem report status → OfTold (λ records. IsBookOf Check records book) told
+    → OfTold (IsStartFault report status) told
+start_of_book book None report status refuses read = (read.0, start_fault read.0 book report status refuses read.1)
+start_of_book book (Some bytes) report status refuses read =
+    start_fault (records_of bytes) book report status refuses read
+
+-- what is known of a plan is written of it
+pub known_text : (problem : Problem) (planned : Planned) → IsKnown problem planned → (text : List ℕ)
+    → IsTextOf problem planned text → IsKnownText problem text
+known_text problem planned known text is = elim (cases_Bool planned.is_best) [
+  | inl said ↦ inr (record {
+      places = planned.roster.places;
+      best = record {
+        is_legal = known.held.legal;
+        inside = tt;
+        least = subst (λ key. IsNotAfter problem Anywhere key) (held-key problem planned.roster known.held) (known.best said);
+      };
+      written = is.of_best said;
+    })
+  | inr unsaid ↦ inl (record {
+      key = planned.roster;
+      bound = planned.bound;
+      held = known.held;
+      bounded = known.bounded;
+      written = is.of_other unsaid;
+    })
+]

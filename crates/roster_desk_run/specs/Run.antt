@@ -1,10 +1,12 @@
 -- What a plan is that may begin with a roster of a report, and how a run ends that answers a book with one.
-use Rattle.std.specs.Prelude.{◌≡◌, ◌<◌, ◌≤◌, ◌⊎◌, ℕ, true, false, Option, Some, None, List, All, codes, length, slice_get, take}
+use Rattle.std.specs.Prelude.{◌≡◌, ◌<◌, ◌≤◌, ◌⊎◌, ℕ, true, false, Option, Some, None, List, ℤ, All, codes, length, slice_get, take}
 use Rattle.roster_model.specs.Answer.{IsBestReport, IsFirstFault, IsRefusal}
 use Rattle.roster_model.specs.Faults.{Fault}
 use Rattle.roster_model.specs.Plans.{IsPlanAnswer, IsPlanned, IsPlanReport}
 use Rattle.roster_model.specs.Problem.{Problem, problem_of}
 use Rattle.roster_model.specs.Record.{Check, Record}
+use Rattle.roster_model.specs.Rosters.{Key}
+use Rattle.roster_model.specs.Settled.{IsHeld, IsLowerBound}
 use Rattle.roster_model.specs.Texts.{fault_text, IsPlanOf, IsReportOf}
 use Rattle.roster_plan.specs.declared.known.Planned.{Planned}
 use Rattle.roster_desk_reports.specs.Faults.{Told, fault_of_report}
@@ -19,6 +21,18 @@ use Rattle.roster_desk_given.specs.declared.status.Status.TheVariants as statuse
 pub record IsTextOf (problem : Problem) (planned : Planned) (text : List ℕ) : Type 0 where
   pub of_best : planned.is_best ≡ true → IsReportOf problem planned.roster.places text
   pub of_other : planned.is_best ≡ false → IsPlanOf problem planned.bound planned.roster.places text
+
+-- A legal roster with a bound that none costs less than, whatever it began with, or the report of the
+-- best roster: what may be kept of a plan before it ends.
+pub record IsPlanSoFar (problem : Problem) (text : List ℕ) : Type 0 where
+  pub key : Key
+  pub bound : ℤ
+  pub held : IsHeld problem key
+  pub bounded : IsLowerBound problem bound
+  pub written : IsPlanOf problem bound key.places text
+
+abbrev pub IsKnownText : Problem → List ℕ → Type 0
+IsKnownText problem text = IsPlanSoFar problem text ⊎ IsBestReport problem text
 
 -- ---- where a plan begins
 

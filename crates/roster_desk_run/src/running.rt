@@ -7,10 +7,11 @@ ghost use Rattle.roster_model.specs.Plans.{IsPlanReport};
 ghost use Rattle.roster_model.specs.Record.{Check};
 ghost use Rattle.roster_model.specs.Settled.{IsHeld};
 ghost use Rattle.roster_book.specs.Reading.{OfTold};
+ghost use Rattle.roster_plan.specs.Planned.{IsKnown};
 ghost use Rattle.roster_watched.specs.Watch.{inner_of, has_failed, is_flushed};
 ghost use Rattle.roster_report.specs.Writing.{Writes, WritesPart};
-ghost use Rattle.roster_desk_run.specs.Run.{IsAnswerTo, IsFaultLine, IsPlanFrom, IsPlanOfBook, IsStartFault};
-ghost use Rattle.roster_desk_run.specs.Run.{IsStartRefused, IsTextOf, RefusesStart};
+ghost use Rattle.roster_desk_run.specs.Run.{IsAnswerTo, IsFaultLine, IsKnownText, IsPlanFrom, IsPlanOfBook};
+ghost use Rattle.roster_desk_run.specs.Run.{IsStartFault, IsStartRefused, IsTextOf, RefusesStart};
 
 use roster_book::{Book, BookFault, Command, Watched, read_book};
 use roster_desk_given::Status;
@@ -175,9 +176,31 @@ fn answer_from<T: Threads + Sync, W: Write, P: Watcher>(
     }
 }
 
+/// Writes what is known of a plan: the report of its roster if that is the best one, and else its lines with
+/// the bound.
+pub fn write_known<W: Write>(
+    alloc: Global,
+    problem: &Problem,
+    planned: &Planned,
+    writer: &mut Watched<W>,
+) -> Result<(), TextFault>
+    requires open { has_failed writer.old ≡ false }
+    requires known { IsKnown problem.now planned.now }
+    ensures written { OnOk result (Writes (IsKnownText problem.now)
+        (W.contents (inner_of writer.old)) (W.contents (inner_of writer.new))) }
+    ensures holds { OnOk result (has_failed writer.new ≡ false) }
+    ensures flushed { OnOk result (is_flushed writer.new ≡ true) }
+    ensures memory { IsErrOf result TextFault.Memory → writer.new ≡ writer.old }
+    ensures device { IsErrOf result TextFault.Device → has_failed writer.new ≡ true }
+    ensures prefix { IsErrOf result TextFault.Device → WritesPart (IsKnownText problem.now)
+        (W.contents (inner_of writer.old)) (W.contents (inner_of writer.new)) }
+{
+    write_planned(alloc, problem, planned, writer)
+}
+
 /// Writes a plan: the report of its roster if that is the best one, and else its lines with the bound. That
 /// the one is the best and the other a bound is the word of whoever gives them.
-pub fn write_planned<W: Write>(
+fn write_planned<W: Write>(
     alloc: Global,
     problem: &Problem,
     planned: &Planned,
