@@ -1,7 +1,7 @@
 //! What the words of the command line ask for.
 
 ghost use Rattle.std.specs.Prelude.{IfSome};
-ghost use Rattle.roster_desk_arguments.specs.Found.{AsksPlan};
+ghost use Rattle.roster_desk_arguments.specs.Found.{AsksPage, AsksPlan, AsksRecords, AsksRoster, HasNames};
 
 use crate::commands::desk;
 use clap::error::ErrorKind;
@@ -176,26 +176,34 @@ fn planned<'a>(found: &ArgMatches<'a>) -> Option<Line<'a>>
 }
 
 /// The question that `why` in the matches asks.
-fn why<'a>(found: &ArgMatches<'a>) -> Option<Line<'a>> {
+fn why<'a>(found: &ArgMatches<'a>) -> Option<Line<'a>>
+    ensures { IfSome result (AsksRoster found.now) }
+{
     let pairing = found.get_str("pairing");
     let person = found.get_str("person");
     told(found, Question::Why { pairing, person })
 }
 
 /// The question that `limits` in the matches asks.
-fn limits<'a>(found: &ArgMatches<'a>) -> Option<Line<'a>> {
+fn limits<'a>(found: &ArgMatches<'a>) -> Option<Line<'a>>
+    ensures { IfSome result (AsksRoster found.now) }
+{
     let person = found.get_str("person");
     told(found, Question::Limits { person })
 }
 
 /// The question that `diff` in the matches asks.
-fn differences<'a>(found: &ArgMatches<'a>) -> Option<Line<'a>> {
+fn differences<'a>(found: &ArgMatches<'a>) -> Option<Line<'a>>
+    ensures { IfSome result (AsksRoster found.now) }
+{
     let other = found.get_str("other")?;
     told(found, Question::Differences { other })
 }
 
 /// What the rows of the table in the matches are.
-fn rows_of<'a>(found: &ArgMatches<'a>) -> Question<'a> {
+fn rows_of<'a>(found: &ArgMatches<'a>) -> Question<'a>
+    ensures { HasNames found.now result }
+{
     if found.get_flag("persons") {
         Question::Persons
     } else {
@@ -204,7 +212,10 @@ fn rows_of<'a>(found: &ArgMatches<'a>) -> Question<'a> {
 }
 
 /// The question, of the book and the report in the matches.
-fn told<'a>(found: &ArgMatches<'a>, question: Question<'a>) -> Option<Line<'a>> {
+fn told<'a>(found: &ArgMatches<'a>, question: Question<'a>) -> Option<Line<'a>>
+    requires { HasNames found.now question }
+    ensures { IfSome result (AsksRoster found.now) }
+{
     let book = found.get_str("book")?;
     let report = found.get_str("report");
     Some(Line::Tell(TellLine {
@@ -215,13 +226,17 @@ fn told<'a>(found: &ArgMatches<'a>, question: Question<'a>) -> Option<Line<'a>> 
 }
 
 /// The report in the matches, of which `assign` records are wanted.
-fn assigns<'a>(found: &ArgMatches<'a>) -> Option<Line<'a>> {
+fn assigns<'a>(found: &ArgMatches<'a>) -> Option<Line<'a>>
+    ensures { IfSome result (AsksRecords found.now) }
+{
     let report = found.get_str("report")?;
     Some(Line::Assigns(report))
 }
 
 /// The book in the matches, and what is to be told of it.
-fn of_records<'a>(found: &ArgMatches<'a>, page: Page) -> Option<Line<'a>> {
+fn of_records<'a>(found: &ArgMatches<'a>, page: Page) -> Option<Line<'a>>
+    ensures { IfSome result (AsksPage found.now) }
+{
     let book = found.get_str("book")?;
     Some(Line::Page(PageLine { book, page }))
 }

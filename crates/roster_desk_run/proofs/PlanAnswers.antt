@@ -111,19 +111,19 @@ pub known_text : (problem : Problem) (planned : Planned) → IsKnown problem pla
     → IsTextOf problem planned text → IsKnownText problem text
 known_text problem planned known text is = elim (cases_Bool planned.is_best) [
   | inl said ↦ inr (record {
-      places = planned.roster.places;
-      best = record {
-        is_legal = known.held.legal;
-        inside = tt;
-        least = subst (λ key. IsNotAfter problem Anywhere key) (held-key problem planned.roster known.held) (known.best said);
-      };
-      written = is.of_best said;
-    })
+    places = planned.roster.places;
+    best = record {
+      is_legal = known.held.legal;
+      inside = tt;
+      least = subst (λ key. IsNotAfter problem Anywhere key) (held-key problem planned.roster known.held) (known.best said);
+    };
+    written = is.of_best said;
+  })
   | inr unsaid ↦ inl (record {
-      key = planned.roster;
-      bound = planned.bound;
-      held = known.held;
-      bounded = known.bounded;
-      written = is.of_other unsaid;
-    })
+    key = planned.roster;
+    bound = planned.bound;
+    held = known.held;
+    bounded = known.bounded;
+    written = is.of_other unsaid;
+  })
 ]
