@@ -15,7 +15,7 @@ use roster_cost::Key;
 use roster_incumbent::Sight;
 use roster_lines_table::{Table, all_lines_are_some};
 use roster_problem::Problem;
-use roster_search::{Nodes, least_of_box};
+use roster_search::{Stop, least_of_box};
 use roster_search_least::Finder;
 use roster_subtreepool_spans::{Done, Piece, Span};
 use roster_values::Roster;
@@ -83,7 +83,7 @@ fn best_of<S: Sight>(
         (Some (arc_value known.now)) (arc_value best)) }
 {
     let mut watch = Watch::new(problem, table, sight, every, Arc::try_clone(known)?);
-    watch.node();
+    watch.node(0, 0);
     let held = watch.best()?;
     if is_settled(alloc, tables, span, &held)? {
         return Ok(held);

@@ -11,7 +11,7 @@ use roster_cost::{comes_before, keys_are_in_order};
 use roster_incumbent::{Sight, is_held};
 use roster_lines_table::Table;
 use roster_problem::Problem;
-use roster_search::{Nodes, OpenNode, find};
+use roster_search::{Stop, find};
 use roster_search_least::Finder;
 use roster_search_regions::{DualPrices, Region};
 use roster_values::Roster;
@@ -20,7 +20,7 @@ use std::marker::Model;
 use std::sync::Arc;
 
 /// Counts the nodes of a search, and looks at a sight at each node whose number `every` divides; never
-/// if that is 0. It has the earliest legal roster of those that it began with and has seen.
+/// if that is 0. It ends no search. It has the earliest legal roster of those that it began with and has seen.
 #[derive(Drop)]
 pub(crate) struct Watch<'a, S> {
     problem: &'a Problem,
@@ -101,19 +101,22 @@ impl<'a, S: Sight> Watch<'a, S> {
     }
 }
 
-impl<'a, S: Sight> Nodes for Watch<'a, S> {
+impl<'a, S: Sight> Stop for Watch<'a, S> {
     ghost use Rattle.roster_branchtree.specs.Shown.{KeepsWatch};
     ghost use Rattle.roster_branchtree.specs.Watching.{keeps_nothing, keeps_then};
 
     ghost goes_on = { KeepsWatch };
 
-    fn node(&mut self) {
+    fn node(&mut self, _lines: usize, _others: usize) -> bool {
         if self.is_due() {
             if let Some(shown) = self.seen() {
                 self.best = shown;
             }
         }
+        true
     }
+
+    fn found(&mut self, _roster: &Roster) {}
 
     ghost stays = { keeps_nothing };
 
@@ -135,9 +138,9 @@ impl<'a, S: Sight> Finder for Watch<'a, S> {
         region: Region,
         prices: &DualPrices,
         most: i64,
+        enough: i64,
     ) -> Result<Option<Roster>, AllocError> {
-        let node = OpenNode::new(region, prices.copy(alloc)?);
-        find(alloc, problem, node, most, self)
+        find(alloc, problem, region, prices, most, enough, self)
     }
 
     ghost stays = { keeps_nothing };

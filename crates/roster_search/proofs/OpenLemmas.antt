@@ -1,15 +1,20 @@
 -- Open nodes of a search.
-use Rattle.std.proofs.Common.{◌≡◌, ℕ, ◌<◌, ◌⊎◌, inl, inr, All, MatchOption, List, [], ◌∷◌, ◌++◌, Option, Some, None, ℤ, sym, subst, arith}
+use Rattle.std.proofs.Common.{◌≡◌, ℕ, ◌+◌, ◌*◌, ◌^◌, ◌<◌, ◌≤◌, ◌⊎◌, inl, inr, All, IfSome, List, [], ◌∷◌, ◌++◌, Option, Some, None, ℤ, pos, ◌-ℤ◌, ◌≤ℤ◌, ap, sym, ◌∙◌, subst, arith}
 use Rattle.std.proofs.lemmas.Int.{ints}
-use Rattle.std.proofs.lemmas.List.Elements.{All-pop, All-push}
+use Rattle.std.proofs.lemmas.List.Elements.{All-push}
+use Rattle.std.proofs.Math.Nat.{one-le-pow, pow-le-pow_right, pow-succ'}
 use Rattle.roster_model.specs.Costs.{cost_of}
 use Rattle.roster_model.specs.Problem.{Problem}
 use Rattle.roster_model.specs.Rosters.{Key}
-use Rattle.roster_model.specs.Settled.{CostsMore, IsFoundWithin, IsWithinCost}
+use Rattle.roster_model.specs.Settled.{CostsMore, IsWithinCost}
 use Rattle.roster_search_regions.specs.Regions.{size_of, Has, HasNot, IsIn, IsNarrowed, IsRegion, Region}
 use Rattle.roster_search_fixing.specs.Bounds.{CostsAtMost}
-use Rattle.roster_search.specs.Open.{AreOpenOf, IsInSome, IsParted}
-use Rattle.roster_search_least.proofs.FindLemmas.{cost_cases, has_cases}
+use Rattle.roster_search.specs.Open.{limit_of, weight_of, AreOpenOf, IsExplored, IsInSome, IsOver, IsParted, IsVisited}
+use Rattle.roster_search.specs.declared.visiting.Visited.{Visited}
+use Rattle.roster_search.specs.declared.visiting.Visited.TheVariants.{Nothing, Found, Parted}
+use Rattle.roster_search_fixing.proofs.Narrowing.{narrowed_then}
+use Rattle.roster_search_least.proofs.FindLemmas.{cost_cases, has_cases, more_than_part, within_part}
+use Rattle.roster_search_least.specs.Least.{IsCheapestWithin}
 
 -- ---- which region the places are in
 
@@ -63,14 +68,13 @@ open_then problem Rosters most mid new first then = record {
   all = λ places is cheap. then.all places (first.all places is cheap) cheap;
 }
 
--- what is found in what is left
-pub found_then : (problem : Problem) (Rosters : List ℕ → Type 0) (most : ℤ) (nodes : List Region) (key : Key)
-    → AreOpenOf problem Rosters most nodes → IsWithinCost problem (IsInSome problem nodes) most key
-    → IsWithinCost problem Rosters most key
-found_then problem Rosters most nodes key are found = record {
-  held = found.held;
-  inside = are.inside key.places found.inside;
-  within = found.within;
+-- what costs less is left too
+pub open_below : (problem : Problem) (Rosters : List ℕ → Type 0) (most lower : ℤ) (left : List Region)
+    → lower ≤ℤ most → AreOpenOf problem Rosters most left → AreOpenOf problem Rosters lower left
+open_below problem Rosters most lower left below are = record {
+  are = are.are;
+  inside = are.inside;
+  all = λ places is cheap. are.all places is (omega (arith, ints));
 }
 
 -- if nothing is left, each costs more
@@ -133,77 +137,239 @@ parts_of_last problem most old front new node having others same more are parted
       ]);
     }
 
--- what comes of it, if it isn't parted
-pub last_ended : (problem : Problem) (most : ℤ) (old front : List Region) (node : Region) (found : Option Key) → old ≡ front ++ node ∷ [] → All (IsRegion problem) front → IsFoundWithin problem (IsIn problem node) most found → MatchOption found (AreOpenOf problem (IsInSome problem old) most front) (IsWithinCost problem (IsInSome problem old) most)
-last_ended problem most old front node None same are none =
-    none_in_last problem most old front node same are none
-last_ended problem most old front node (Some key) same are found =
-    found_in_last problem most old front node key same found
+-- else what is left of it
+pub rest_of_last : (problem : Problem) (most : ℤ) (old front new : List Region) (node left : Region)
+    → old ≡ front ++ node ∷ [] → new ≡ front ++ left ∷ [] → All (IsRegion problem) front
+    → IsNarrowed problem (CostsAtMost problem most) node left
+    → AreOpenOf problem (IsInSome problem old) most new
+rest_of_last problem most old front new node left same more are narrowed = record {
+  are = subst (All (IsRegion problem)) (sym more) (All-push (IsRegion problem) front left are narrowed.region);
+  inside = λ places is. subst (λ xs. IsInSome problem xs places) (sym same) (elim (some_cases problem front left places (subst (λ xs. IsInSome problem xs places) more is)) [
+    | inl before ↦ some_before problem front node places before
+    | inr here ↦ some_last problem front node places (narrowed.inside places here)
+  ]);
+  all = λ places is cheap. subst (λ xs. IsInSome problem xs places) (sym more) (elim (some_cases problem front node places (subst (λ xs. IsInSome problem xs places) same is)) [
+    | inl before ↦ some_before problem front left places before
+    | inr here ↦ some_last problem front left places (narrowed.kept places here cheap)
+  ]);
+}
 
--- the same of what is left of some rosters
-pub left_found : (problem : Problem) (Rosters : List ℕ → Type 0) (most : ℤ) (old front : List Region) (node : Region) (key : Key) → AreOpenOf problem Rosters most old → old ≡ front ++ node ∷ [] → IsWithinCost problem (IsIn problem node) most key → IsWithinCost problem Rosters most key
-left_found problem Rosters most old front node key are same found =
-    found_then problem Rosters most old key are (found_in_last problem most old front node key same found)
+-- ---- what comes of a visit of the last region
 
-pub left_none : (problem : Problem) (Rosters : List ℕ → Type 0) (most : ℤ) (old front : List Region) (node : Region) → AreOpenOf problem Rosters most old → old ≡ front ++ node ∷ [] → CostsMore problem (IsIn problem node) most → AreOpenOf problem Rosters most front
-left_none problem Rosters most old front node are same none =
-    open_then problem Rosters most old front are (none_in_last problem most old front node same (All-pop (IsRegion problem) old front (Some node) same are.are).0 none)
+pub last_has_none : (problem : Problem) (most : ℤ) (old front : List Region) (node : Region)
+    → old ≡ front ++ node ∷ [] → All (IsRegion problem) front → CostsMore problem (IsIn problem node) most
+    → IsExplored problem (IsInSome problem old) (IsInSome problem old) most None front
+last_has_none problem most old front node same are none = record {
+  found = tt;
+  still = none_in_last problem most old front node same are none;
+}
+
+pub last_has_one : (problem : Problem) (most : ℤ) (old front new : List Region) (node left : Region) (key : Key)
+    → old ≡ front ++ node ∷ [] → new ≡ front ++ left ∷ [] → All (IsRegion problem) front
+    → IsWithinCost problem (IsIn problem node) most key
+    → IsNarrowed problem (CostsAtMost problem most) node left
+    → IsExplored problem (IsInSome problem old) (IsInSome problem old) most (Some key) new
+last_has_one problem most old front new node left key same more are found narrowed =
+    let within = found.within in
+    record {
+      found = found_in_last problem most old front node key same found;
+      still = open_below problem (IsInSome problem old) most (key.cost -ℤ pos 1) new (omega (arith, ints)) (rest_of_last problem most old front new node left same more are narrowed);
+    }
+
+pub last_is_parted : (problem : Problem) (most : ℤ) (old front new : List Region) (node having others : Region)
+    → old ≡ front ++ node ∷ [] → new ≡ (front ++ others ∷ []) ++ having ∷ [] → All (IsRegion problem) front
+    → IsParted problem node most having others
+    → IsExplored problem (IsInSome problem old) (IsInSome problem old) most None new
+last_is_parted problem most old front new node having others same more are parted = record {
+  found = tt;
+  still = parts_of_last problem most old front new node having others same more are parted;
+}
+
+-- ---- one visit after another
+
+-- at first nothing is found, and all is left
+pub nothing_explored : (problem : Problem) (most : ℤ) (nodes : List Region) → All (IsRegion problem) nodes
+    → IsExplored problem (IsInSome problem nodes) (IsInSome problem nodes) most None nodes
+nothing_explored problem most nodes are = record {
+  found = tt;
+  still = record { are = are; inside = λ places is. is; all = λ places is cheap. is };
+}
+
+-- what is left may cost no more than any of the search
+pub limit_within : (problem : Problem) (Whole : List ℕ → Type 0) (most : ℤ) (best : Option Key)
+    → IfSome best (IsWithinCost problem Whole most) → limit_of most best ≤ℤ most
+limit_within problem Whole most None found = omega (arith, ints)
+limit_within problem Whole most (Some key) found = let within = found.within in omega (arith, ints)
+
+-- what is found in some rosters is found in more
+pub explored_in : (problem : Problem) (Narrow Whole Rosters : List ℕ → Type 0) (most : ℤ) (best : Option Key)
+    (left : List Region) → ((places : List ℕ) → Narrow places → Whole places)
+    → IsExplored problem Narrow Rosters most best left → IsExplored problem Whole Rosters most best left
+explored_in problem Narrow Whole Rosters most None left wider explored = record {
+  found = tt;
+  still = explored.still;
+}
+explored_in problem Narrow Whole Rosters most (Some key) left wider explored = record {
+  found = record {
+    held = explored.found.held;
+    inside = wider key.places explored.found.inside;
+    within = explored.found.within;
+  };
+  still = explored.still;
+}
+
+-- what comes of what is left, if nothing more is found
+pub explored_on : (problem : Problem) (Whole Rosters : List ℕ → Type 0) (most : ℤ) (best : Option Key)
+    (mid new : List Region) → IsExplored problem Whole Rosters most best mid
+    → IsExplored problem Whole (IsInSome problem mid) (limit_of most best) None new
+    → IsExplored problem Whole Rosters most best new
+explored_on problem Whole Rosters most best mid new first then = record {
+  found = first.found;
+  still = open_then problem Rosters (limit_of most best) mid new first.still then.still;
+}
+
+-- and if a roster is found there
+pub explored_more : (problem : Problem) (Whole Rosters : List ℕ → Type 0) (most : ℤ) (best : Option Key)
+    (key : Key) (mid new : List Region) → IsExplored problem Whole Rosters most best mid
+    → IsExplored problem Whole (IsInSome problem mid) (limit_of most best) (Some key) new
+    → IsExplored problem Whole Rosters most (Some key) new
+explored_more problem Whole Rosters most best key mid new first then =
+    let within = then.found.within in
+    let limit = limit_within problem Whole most best first.found in
+    record {
+      found = record {
+        held = then.found.held;
+        inside = then.found.inside;
+        within = omega (arith, ints);
+      };
+      still = open_then problem Rosters (key.cost -ℤ pos 1) mid new (open_below problem Rosters (limit_of most best) (key.cost -ℤ pos 1) mid (omega (arith, ints)) first.still) then.still;
+    }
+
+-- ---- the search is over
+
+pub none_left_explored : (problem : Problem) (Whole Rosters : List ℕ → Type 0) (most enough : ℤ)
+    (best : Option Key) (left : List Region) → ((places : List ℕ) → Whole places → Rosters places)
+    → left ≡ [] → IsExplored problem Whole Rosters most best left
+    → IsCheapestWithin problem Whole most enough best
+none_left_explored problem Whole Rosters most enough None left all none explored =
+    let still = subst (AreOpenOf problem Rosters most) none explored.still in
+    λ others legal inside. none_left problem Rosters most still others legal (all others inside)
+none_left_explored problem Whole Rosters most enough (Some key) left all none explored =
+    let still = subst (AreOpenOf problem Rosters (key.cost -ℤ pos 1)) none explored.still in (
+      explored.found,
+      inr (λ others legal inside.
+          let more = none_left problem Rosters (key.cost -ℤ pos 1) still others legal (all others inside) in
+          omega (arith, ints)),
+    )
+
+pub explored_is_over : (problem : Problem) (Whole Rosters : List ℕ → Type 0) (most enough : ℤ)
+    (best : Option Key) (left : List Region) → ((places : List ℕ) → Whole places → Rosters places)
+    → IsOver enough best left → IsExplored problem Whole Rosters most best left
+    → IsCheapestWithin problem Whole most enough best
+explored_is_over problem Whole Rosters most enough None left all over explored =
+    none_left_explored problem Whole Rosters most enough None left all over explored
+explored_is_over problem Whole Rosters most enough (Some key) left all over explored = elim over [
+  | inl none ↦ none_left_explored problem Whole Rosters most enough (Some key) left all none explored
+  | inr cheap ↦ (explored.found, inl cheap)
+]
+
+-- ---- how much there is to search
+
+pub weight_pushed : (xs : List Region) (x : Region) → weight_of (xs ++ x ∷ []) ≡ weight_of xs + 3 ^ size_of x
+weight_pushed [] x = omega (arith)
+weight_pushed (y ∷ ys) x = let rest = weight_pushed ys x in omega (arith, rest)
+
+three_times : (a s : ℕ) → a < s → 3 * 3 ^ a ≤ 3 ^ s
+three_times a s less =
+    subst (λ n. n ≤ 3 ^ s) (pow-succ' 3 a) (pow-le-pow_right (omega (arith)) (omega (arith, less)))
+
+-- two parts with fewer lines
+pub parts_weigh_less : (a b s : ℕ) → a < s → b < s → 3 ^ a + 3 ^ b < 3 ^ s
+parts_weigh_less a b s first second =
+    let one = three_times a s first in
+    let two = three_times b s second in
+    let some : 1 ≤ 3 ^ a = one-le-pow a 3 (omega (arith)) in
+    omega (arith, one, two, some)
+
+pub weight_parted : (old front new : List Region) (node having others : Region)
+    → old ≡ front ++ node ∷ [] → new ≡ (front ++ others ∷ []) ++ having ∷ []
+    → size_of having < size_of node → size_of others < size_of node → weight_of new < weight_of old
+weight_parted old front new node having others same more first second =
+    let is_old = ap weight_of same ∙ weight_pushed front node in
+    let is_new = ap weight_of more ∙ weight_pushed (front ++ others ∷ []) having in
+    let is_mid = weight_pushed front others in
+    let less = parts_weigh_less (size_of having) (size_of others) (size_of node) first second in
+    omega (arith, is_old, is_new, is_mid, less)
+
+pub weight_popped : (old front : List Region) (node : Region) → old ≡ front ++ node ∷ []
+    → weight_of front < weight_of old
+weight_popped old front node same =
+    let is_old = ap weight_of same ∙ weight_pushed front node in
+    let some : 1 ≤ 3 ^ size_of node = one-le-pow (size_of node) 3 (omega (arith)) in
+    omega (arith, is_old, some)
+
+pub weight_left : (old front new : List Region) (node left : Region) → old ≡ front ++ node ∷ []
+    → new ≡ front ++ left ∷ [] → size_of left ≤ size_of node → weight_of new ≤ weight_of old
+weight_left old front new node left same more less =
+    let is_old = ap weight_of same ∙ weight_pushed front node in
+    let is_new = ap weight_of more ∙ weight_pushed front left in
+    let fewer : 3 ^ size_of left ≤ 3 ^ size_of node = pow-le-pow_right (omega (arith)) less in
+    omega (arith, is_old, is_new, fewer)
 
 -- ---- one region
 
--- at first it is all that is left
-pub open_one : (problem : Problem) (most : ℤ) (node : Region) (nodes : List Region) → nodes ≡ [] ++ node ∷ []
-    → IsRegion problem node → AreOpenOf problem (IsIn problem node) most nodes
-open_one problem most node nodes same is =
-    subst (AreOpenOf problem (IsIn problem node) most) (sym same) (record {
-      are = All-push (IsRegion problem) [] node (λ k d less. absurd (omega (arith, less))) is;
-      inside = λ places there. elim there [ inl here ↦ here | inr none ↦ absurd none ];
-      all = λ places here _. inl here;
-    })
+pub of_one : (problem : Problem) (node : Region) (nodes : List Region) → nodes ≡ [] ++ node ∷ []
+    → (places : List ℕ) → IsInSome problem nodes places → IsIn problem node places
+of_one problem node nodes same places is =
+    elim (subst (λ xs. IsInSome problem xs places) same is) [ inl here ↦ here | inr none ↦ absurd none ]
 
--- what prices and a branch make of it
-pub parted_by : (problem : Problem) (k p : ℕ) (most : ℤ) (old mid having others : Region)
-    → IsNarrowed problem (CostsAtMost problem most) old mid → IsNarrowed problem (Has k p) mid having
-    → IsNarrowed problem (HasNot k p) mid others → size_of having < size_of mid → size_of others < size_of mid
-    → IsParted problem old most having others
-parted_by problem k p most old mid having others left given denied fewer less = record {
+pub in_one : (problem : Problem) (node : Region) (nodes : List Region) → nodes ≡ [] ++ node ∷ []
+    → (places : List ℕ) → IsIn problem node places → IsInSome problem nodes places
+in_one problem node nodes same places here = subst (λ xs. IsInSome problem xs places) (sym same) (inl here)
+
+-- what is found in all of a region when its search is over
+pub one_is_over : (problem : Problem) (node : Region) (nodes left : List Region) (most enough : ℤ)
+    (best : Option Key) → nodes ≡ [] ++ node ∷ [] → IsOver enough best left
+    → IsExplored problem (IsInSome problem nodes) (IsInSome problem nodes) most best left
+    → IsCheapestWithin problem (IsIn problem node) most enough best
+one_is_over problem node nodes left most enough best same over explored =
+    explored_is_over problem (IsIn problem node) (IsInSome problem nodes) most enough best left (in_one problem node nodes same) over (explored_in problem (IsInSome problem nodes) (IsIn problem node) (IsInSome problem nodes) most best left (of_one problem node nodes same) explored)
+
+-- what a branch makes of it
+pub parted_by : (problem : Problem) (k p : ℕ) (most : ℤ) (region having others : Region)
+    → IsNarrowed problem (Has k p) region having → IsNarrowed problem (HasNot k p) region others
+    → size_of having < size_of region → size_of others < size_of region
+    → IsParted problem region most having others
+parted_by problem k p most region having others given denied fewer less = record {
   is_having = given.region;
   is_others = denied.region;
-  inside = λ places is. left.inside places (elim is [ inl has ↦ given.inside places has | inr rest ↦ denied.inside places rest ]);
-  all = λ places is cheap.
-      let here = left.kept places is cheap in
-      elim (has_cases k p places) [
-        | inl has ↦ inl (given.kept places here has)
-        | inr not ↦ inr (denied.kept places here not)
-      ];
-  fewer_having = omega (arith, left.size);
-  fewer_others = omega (arith, left.size);
+  inside = λ places is. elim is [ inl has ↦ given.inside places has | inr rest ↦ denied.inside places rest ];
+  all = λ places here cheap. elim (has_cases k p places) [
+    | inl has ↦ inl (given.kept places here has)
+    | inr not ↦ inr (denied.kept places here not)
+  ];
+  fewer_having = fewer;
+  fewer_others = less;
 }
 
--- what is found in its parts
-pub found_in_having : (problem : Problem) (most : ℤ) (region having others : Region) (key : Key)
-    → IsParted problem region most having others → IsWithinCost problem (IsIn problem having) most key
-    → IsWithinCost problem (IsIn problem region) most key
-found_in_having problem most region having others key parted found = record {
-  held = found.held;
-  inside = parted.inside key.places (inl found.inside);
-  within = found.within;
-}
-
-pub found_in_others : (problem : Problem) (most : ℤ) (region having others : Region) (found : Option Key)
-    → IsParted problem region most having others → CostsMore problem (IsIn problem having) most
-    → IsFoundWithin problem (IsIn problem others) most found
-    → IsFoundWithin problem (IsIn problem region) most found
-found_in_others problem most region having others (Some key) parted none is = record {
-  held = is.held;
-  inside = parted.inside key.places (inr is.inside);
-  within = is.within;
-}
-found_in_others problem most region having others None parted none is =
-    λ places legal inside. elim (cost_cases most (cost_of problem places)) [
-      | inl cheap ↦ elim (parted.all places inside cheap) [
-        | inl has ↦ none places legal has
-        | inr rest ↦ is places legal rest
-      ]
-      | inr more ↦ more
-    ]
+-- what comes of a part that has all that is cheap
+pub visited_in_part : (problem : Problem) (most : ℤ) (old mid : Region) (visited : Visited)
+    → IsNarrowed problem (CostsAtMost problem most) old mid → IsVisited problem mid most visited
+    → IsVisited problem old most visited
+visited_in_part problem most old mid Nothing part none = more_than_part problem old mid most part none
+visited_in_part problem most old mid (Found key left) part found = (
+  within_part problem (CostsAtMost problem most) old mid most key part found.0,
+  narrowed_then problem (CostsAtMost problem most) old mid left part found.1,
+)
+visited_in_part problem most old mid (Parted having others) part parted =
+    let less = part.size in
+    let one = parted.fewer_having in
+    let two = parted.fewer_others in
+    record {
+      is_having = parted.is_having;
+      is_others = parted.is_others;
+      inside = λ places is. part.inside places (parted.inside places is);
+      all = λ places is cheap. parted.all places (part.kept places is cheap) cheap;
+      fewer_having = omega (arith, less, one);
+      fewer_others = omega (arith, less, two);
+    }

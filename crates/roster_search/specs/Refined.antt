@@ -7,12 +7,13 @@ use Rattle.roster_search_fixing.specs.Bounds.{CostsAtMost, IsAllAbove}
 use Rattle.roster_search.specs.declared.refining.Refined.{Refined}
 use Rattle.roster_search.specs.declared.refining.Refined.TheVariants.{Found, Nothing, Part}
 
--- A roster of the region that costs at most so much; or nothing, and then each of them costs more; or a
--- part of it that has all that cost at most so much.
+-- Nothing, and then each roster of the region costs more; or a part of it that has all that cost at most so
+-- much, and perhaps a roster of the region that does.
 abbrev pub IsRefined : Problem → ℤ → Region → Region → Refined → Type 0
-IsRefined problem most old new (Found roster) = IsWithinCost problem (IsIn problem old) most roster
 IsRefined problem most old new Nothing = IsAllAbove problem old most
-IsRefined problem most old new (Part prices) = IsNarrowed problem (CostsAtMost problem most) old new
+IsRefined problem most old new (Found roster) =
+    IsWithinCost problem (IsIn problem old) most roster × IsNarrowed problem (CostsAtMost problem most) old new
+IsRefined problem most old new Part = IsNarrowed problem (CostsAtMost problem most) old new
 
 -- The region has lost nothing that costs at most so much; or, if that is false, each of its rosters costs
 -- more.

@@ -1,45 +1,47 @@
 //! One roster of a region that costs no more than it may.
 
 ghost use Rattle.std.specs.Prelude.{IfOk};
-ghost use Rattle.roster_model.specs.Settled.{IsFoundWithin};
+ghost use Rattle.roster_search_least.specs.Least.{IsCheapestWithin};
 ghost use Rattle.roster_search_regions.specs.Regions.{IsIn, IsRegion};
 
-use crate::nodes::{Nodes, Unseen};
-use crate::visiting::{OpenNode, Visited, visit};
+use crate::exploring::{Explored, explore, limit};
+use crate::stop::{Never, Stop};
+use crate::visiting::OpenNode;
 use roster_problem::Problem;
 use roster_search_least::Finder;
 use roster_search_regions::{DualPrices, Region};
 use roster_values::Roster;
 use std::alloc::{AllocError, Global};
 
-/// Some roster of the node's region that costs at most so much, with its cost, or none, and then each of
-/// them costs more.
+/// A roster of the region that costs at most so much, with its cost: a cheapest one, or one that costs no
+/// more than is enough; or none, and then each of them costs more. It fails if memory runs out, or if the
+/// stop ends it before that is known.
 ///
 /// It is a branch and bound, depth first.
-pub fn find<N: Nodes>(
+pub fn find<S: Stop>(
     alloc: Global,
     problem: &Problem,
-    node: OpenNode,
+    region: Region,
+    prices: &DualPrices,
     most: i64,
-    nodes: &mut N,
+    enough: i64,
+    stop: &mut S,
 ) -> Result<Option<Roster>, AllocError>
-    requires region { IsRegion problem.now node }
-    ensures found { IfOk result (IsFoundWithin problem.now (IsIn problem.now node) most) }
-    ensures goes_on { N.goes_on nodes.old nodes.new }
+    requires region { IsRegion problem.now region }
+    ensures found { IfOk result
+        (IsCheapestWithin problem.now (IsIn problem.now region) most enough) }
+    ensures goes_on { S.goes_on stop.old stop.new }
 {
-    nodes.node();
-    match visit(alloc, problem, node, most)? {
-        Visited::Ended(found) => Ok(found),
-        Visited::Parted(having, others) => {
-            if let Some(roster) = find(alloc, problem, having, most, nodes)? {
-                return Ok(Some(roster));
-            }
-            find(alloc, problem, others, most, nodes)
-        }
+    let mut nodes = Vec::new(alloc);
+    nodes.push(OpenNode::new(region, prices.copy(alloc)?))?;
+    let Explored { best, left } = explore(alloc, problem, nodes, most, enough, stop)?;
+    match limit(most, enough, &best, &left) {
+        Some(_) => Err(AllocError),
+        None => Ok(best),
     }
 }
 
-impl Finder for Unseen {
+impl Finder for Never {
     ghost may_find = { Unit };
 
     ghost goes_on = { λ old new. Unit };
@@ -51,9 +53,9 @@ impl Finder for Unseen {
         region: Region,
         prices: &DualPrices,
         most: i64,
+        enough: i64,
     ) -> Result<Option<Roster>, AllocError> {
-        let node = OpenNode::new(region, prices.copy(alloc)?);
-        find(alloc, problem, node, most, self)
+        find(alloc, problem, region, prices, most, enough, self)
     }
 
     ghost stays = { λ now. tt };

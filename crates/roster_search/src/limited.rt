@@ -4,9 +4,9 @@ ghost use Rattle.std.specs.Prelude.{IfOk};
 ghost use Rattle.roster_lines_table.specs.Person.{AreListed};
 ghost use Rattle.roster_search.specs.Limited.{IsSearched};
 
+use crate::finding::find;
 use crate::root::root_prices;
-use crate::stack::{MOST_NODES, lines_of_last, visit_last};
-use crate::visiting::OpenNode;
+use crate::stop::Stop;
 use roster_lines_table::Table;
 use roster_problem::Problem;
 use roster_search_least::{Finder, least_of_region, whole};
@@ -26,7 +26,8 @@ pub enum Searched {
 /// The least roster in which each person has a line of the table, with its cost, if one costs less than the
 /// limit. It begins with these prices of the pairings, in so many parts of a cost unit: any will do, and good
 /// ones make it short. It is given up once nodes have had so many lines to look at: work is counted, never
-/// time, so each run comes to the same.
+/// time, so each run comes to the same. For that it is one thread's: in which order several visit nodes, and
+/// so which work they do, is no rule's.
 ///
 /// Bases aren't searched apart here, since the limit is one of them all.
 pub fn least_within(
@@ -54,8 +55,8 @@ pub fn least_within(
     }
 }
 
-/// One thread that finds a roster. It ends with a fault once it has done so much work, and then `is_over`
-/// says that it was no want of memory.
+/// Ends a search once its nodes had so many lines to look at, and then `is_over` says that it was no want of
+/// memory; a `Finder` of one thread.
 #[derive(Drop)]
 struct Patience {
     left: u64,
@@ -70,17 +71,29 @@ impl Patience {
             is_over: false,
         }
     }
+}
 
-    /// Whether a node with so many lines may be visited, which is then counted.
-    fn allows(&mut self, lines: usize) -> bool {
+impl Stop for Patience {
+    ghost goes_on = { λ old new. Unit };
+
+    fn node(&mut self, lines: usize, _others: usize) -> bool {
         match self.left.checked_sub(lines as u64) {
             Some(left) => {
                 self.left = left;
                 true
             }
-            None => false,
+            None => {
+                self.is_over = true;
+                false
+            }
         }
     }
+
+    fn found(&mut self, _roster: &Roster) {}
+
+    ghost stays = { λ now. tt };
+
+    ghost follows = { λ old mid new first then. tt };
 }
 
 impl Finder for Patience {
@@ -95,22 +108,9 @@ impl Finder for Patience {
         region: Region,
         prices: &DualPrices,
         most: i64,
+        enough: i64,
     ) -> Result<Option<Roster>, AllocError> {
-        let mut nodes = Vec::new(alloc);
-        nodes.push(OpenNode::new(region, prices.copy(alloc)?))?;
-        for _ in 0..MOST_NODES {
-            if nodes.is_empty() {
-                return Ok(None);
-            }
-            if !self.allows(lines_of_last(problem, &nodes)) {
-                break;
-            }
-            if let Some(roster) = visit_last(alloc, problem, &mut nodes, most)? {
-                return Ok(Some(roster));
-            }
-        }
-        self.is_over = true;
-        Err(AllocError)
+        find(alloc, problem, region, prices, most, enough, self)
     }
 
     ghost stays = { λ now. tt };

@@ -20,64 +20,44 @@ use std::alloc::{AllocError, Global};
 /// What is known of a region after its prices have risen.
 #[derive(Drop)]
 pub(crate) enum Refined {
-    /// A roster that costs little enough.
-    Found(Roster),
-    /// There is none.
+    /// No roster costs so little.
     Nothing,
-    /// It is in the part that is left. These prices are good ones there.
-    Part(DualPrices),
+    /// A roster that costs little enough. What costs so little is in the part that is left.
+    Found(Roster),
+    /// What costs so little is in the part that is left.
+    Part,
 }
 
 /// Raises the prices step by step, leaves out of the region what costs more than it may by them, and
-/// rounds a roster now and then.
+/// rounds a roster now and then. The best prices of the ascent are good ones for what is left.
 pub(crate) fn refine(
-    alloc: Global,
-    problem: &Problem,
-    region: &mut Region,
-    prices: &DualPrices,
-    most: i64,
-) -> Result<Refined, AllocError>
-    requires { IsRegion problem.now region.old }
-    ensures { IfOk result (IsRefined problem.now most region.old region.new) }
-{
-    let mut ascent = Ascent::at_node(alloc, problem, region, prices)?;
-    match end_or_part(alloc, problem, region, &mut ascent, most)? {
-        Some(end) => Ok(end),
-        None => Ok(Refined::Part(ascent.into_best())),
-    }
-}
-
-/// The same, but nothing if a part is left, whose prices are the best ones of the ascent.
-fn end_or_part(
     alloc: Global,
     problem: &Problem,
     region: &mut Region,
     ascent: &mut Ascent,
     most: i64,
-) -> Result<Option<Refined>, AllocError>
+) -> Result<Refined, AllocError>
     requires { IsRegion problem.now region.old }
-    ensures { IfOk result (λ end. MatchOption end
-        (IsNarrowed problem.now (CostsAtMost problem.now most) region.old region.new)
-        (IsRefined problem.now most region.old region.new)) }
+    ensures { IfOk result (IsRefined problem.now most region.old region.new) }
 {
     let room = room(region, most);
     if !fix_first(alloc, problem, region, ascent, most)? {
-        return Ok(Some(Refined::Nothing));
+        return Ok(Refined::Nothing);
     }
     for step in 0..NODE_STEPS {
         if !fix(alloc, problem, region, ascent, most, room)? {
-            return Ok(Some(Refined::Nothing));
+            return Ok(Refined::Nothing);
         }
         if let Some(roster) = cheap_at(alloc, problem, region, ascent, most, room, step)? {
-            return Ok(Some(Refined::Found(roster)));
+            return Ok(Refined::Found(roster));
         }
         soften(ascent, room, step);
         ascent.step(problem, region)?;
     }
     if !tighten(alloc, problem, region, ascent.best(), most)? {
-        return Ok(Some(Refined::Nothing));
+        return Ok(Refined::Nothing);
     }
-    Ok(None)
+    Ok(Refined::Part)
 }
 
 /// Leaves out of the region what costs more than it may by the prices, if that is worth its time. If it

@@ -8,6 +8,7 @@ ghost use Rattle.roster_search.specs.Open.{IsVisited};
 use crate::refining::{Refined, next_split, refine};
 use roster_cost::roster_cost;
 use roster_problem::Problem;
+use roster_search_prices::Ascent;
 use roster_search_regions::{DualPrices, Region};
 use roster_values::{Places, Roster};
 use std::alloc::{AllocError, Global};
@@ -52,8 +53,10 @@ impl OpenNode {
 /// What comes of an open node.
 #[derive(Drop)]
 pub(crate) enum Visited {
-    /// A roster that costs little enough, or there is none.
-    Ended(Option<Roster>),
+    /// No roster costs so little.
+    Nothing,
+    /// A roster that costs little enough, and the node again: what costs less is in it.
+    Found(Roster, OpenNode),
     /// The rosters in which some person has some pairing, and the others.
     Parted(OpenNode, OpenNode),
 }
@@ -69,13 +72,35 @@ pub(crate) fn visit(
     ensures { IfOk result (IsVisited problem.now node most) }
 {
     let OpenNode { mut region, prices } = node;
-    let prices = match refine(alloc, problem, &mut region, &prices, most)? {
-        Refined::Found(roster) => return Ok(Visited::Ended(Some(roster))),
-        Refined::Nothing => return Ok(Visited::Ended(None)),
-        Refined::Part(prices) => prices,
-    };
+    let mut ascent = Ascent::at_node(alloc, problem, &region, &prices)?;
+    match refine(alloc, problem, &mut region, &mut ascent, most)? {
+        Refined::Nothing => Ok(Visited::Nothing),
+        Refined::Found(roster) => {
+            let node = OpenNode::new(region, ascent.into_best());
+            Ok(Visited::Found(roster, node))
+        }
+        Refined::Part => Ok(part(alloc, problem, region, ascent.into_best(), most)?),
+    }
+}
+
+/// Parts a region, or answers its only roster if all is decided.
+fn part(
+    alloc: Global,
+    problem: &Problem,
+    region: Region,
+    prices: DualPrices,
+    most: i64,
+) -> Result<Visited, AllocError>
+    requires { IsRegion problem.now region }
+    ensures { IfOk result (IsVisited problem.now region most) }
+{
+    let mut region = region;
     let Some((k, p)) = next_split(alloc, problem, &region, &prices)? else {
-        return Ok(Visited::Ended(only(alloc, problem, &region, most)?));
+        let node = OpenNode::new(region, prices);
+        return Ok(match only(alloc, problem, &node.region, most)? {
+            Some(roster) => Visited::Found(roster, node),
+            None => Visited::Nothing,
+        });
     };
     let having = having(alloc, problem, &region, &prices, k, p)?;
     region.deny(alloc, problem, k, p)?;

@@ -15,7 +15,8 @@ use std::alloc::{AllocError, Global};
 /// at least that. No roster of the region may cost less than `least`.
 ///
 /// It asks for one that costs less than is likely, as there will be none, and goes on from there in ever
-/// larger steps: a search ends soon if little more may be paid than must be.
+/// larger steps: a search ends soon if little more may be paid than must be. What costs no more than must be
+/// paid is enough, and what else is found is a cheapest one.
 pub(crate) fn cheapest<F: Finder>(
     alloc: Global,
     problem: &Problem,
@@ -34,23 +35,18 @@ pub(crate) fn cheapest<F: Finder>(
     ensures goes_on { F.goes_on finder.old finder.new }
 {
     let mut low = least;
-    let mut high = limit;
-    let mut best = None;
     let mut wanted = likely.saturating_sub(1);
     let mut step = 0;
-    while low < high {
-        let most = raised(low, high, wanted);
-        match finder.find(alloc, problem, region.copy(alloc)?, prices, most)? {
-            Some(roster) => {
-                high = roster.cost;
-                best = Some(roster);
-            }
+    while low < limit {
+        let most = raised(low, limit, wanted);
+        match finder.find(alloc, problem, region.copy(alloc)?, prices, most, low)? {
+            Some(roster) => return Ok(Some(roster)),
             None => low = most + 1,
         }
         wanted = low.saturating_add(step);
         step = larger(step);
     }
-    Ok(best)
+    Ok(None)
 }
 
 /// The wanted number, or the nearest from the lower of two numbers to below the higher one.

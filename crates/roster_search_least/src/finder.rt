@@ -1,15 +1,15 @@
-//! What answers whether a region has a roster that costs at most so much.
+//! What finds a roster of a region that costs at most so much.
 
 ghost use Rattle.std.specs.Prelude.{IfOk};
-ghost use Rattle.roster_model.specs.Settled.{IsFoundWithin};
 ghost use Rattle.roster_search_regions.specs.Regions.{IsIn, IsRegion};
+ghost use Rattle.roster_search_least.specs.Least.{IsCheapestWithin};
 
 use roster_problem::Problem;
 use roster_search_regions::{DualPrices, Region};
 use roster_values::Roster;
 use std::alloc::{AllocError, Global};
 
-/// Answers whether a region has a roster that costs at most so much: one thread, or several.
+/// Finds a roster of a region that costs at most so much: one thread, or several.
 pub trait Finder {
     /// Whether it may be asked.
     ghost may_find: { Type 0 };
@@ -17,8 +17,9 @@ pub trait Finder {
     /// What becomes of it by finding and nothing else.
     ghost goes_on: { Self → Self → Type 0 };
 
-    /// Some roster of the region that costs at most so much, with its cost, or none, and then each of them
-    /// costs more. Any prices will do for it; good ones make it short.
+    /// A roster of the region that costs at most so much, with its cost: a cheapest one, or one that costs no
+    /// more than is enough; or none, and then each of them costs more. Any prices will do for it; good ones
+    /// make it short.
     fn find(
         &mut self,
         alloc: Global,
@@ -26,10 +27,12 @@ pub trait Finder {
         region: Region,
         prices: &DualPrices,
         most: i64,
+        enough: i64,
     ) -> Result<Option<Roster>, AllocError>
         requires may_find { may_find }
         requires region { IsRegion problem.now region }
-        ensures found { IfOk result (IsFoundWithin problem.now (IsIn problem.now region) most) }
+        ensures found { IfOk result
+            (IsCheapestWithin problem.now (IsIn problem.now region) most enough) }
         ensures goes_on { goes_on self.old self.new };
 
     ghost stays: { (now : Self) → goes_on now now };

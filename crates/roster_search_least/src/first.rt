@@ -139,7 +139,7 @@ fn with_person<F: Finder>(
     }
     let mut given = region.copy(alloc)?;
     given.give(alloc, problem, k, p)?;
-    finder.find(alloc, problem, given, prices, most)
+    finder.find(alloc, problem, given, prices, most, most)
 }
 
 /// Whether some line that the region leaves person `k` has the pairing at place `p`.

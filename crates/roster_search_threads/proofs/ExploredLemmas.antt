@@ -1,5 +1,6 @@
 -- Open nodes that threads explore.
-use Rattle.std.proofs.Common.{◌≡◌, ℕ, ◌⊎◌, inl, inr, All, List, [], ◌∷◌, ◌++◌, reverse, Some, ℤ, sym, subst, arith}
+use Rattle.std.proofs.Common.{◌≡◌, ℕ, ◌⊎◌, inl, inr, All, Bool, true, false, if◌then◌else◌, IfSome, MatchOption, List, [], ◌∷◌, ◌++◌, reverse, Option, Some, None, ℤ, int_lt, ◌<ℤ◌, ◌≤ℤ◌, refl, sym, subst, arith}
+use Rattle.std.proofs.lemmas.Int.{ints}
 use Rattle.std.proofs.lemmas.List.{reverse-append, reverse-reverse}
 use Rattle.std.proofs.lemmas.List.Elements.{All-append, All-pop, All-push}
 use Rattle.std.proofs.lemmas.List.Sorted.{All-permutation, IsPermutation-reverse}
@@ -7,12 +8,9 @@ use Rattle.roster_model.specs.Problem.{Problem}
 use Rattle.roster_model.specs.Rosters.{Key}
 use Rattle.roster_model.specs.Settled.{IsWithinCost}
 use Rattle.roster_search_regions.specs.Regions.{IsIn, IsRegion, Region}
-use Rattle.roster_search_fixing.specs.Bounds.{CostsAtMost}
-use Rattle.roster_search.specs.Open.{AreOpenOf, IsInSome}
-use Rattle.roster_search.proofs.OpenLemmas.{some_before, some_cases, some_either, some_last, some_left, some_right}
-use Rattle.roster_search_threads.specs.Explored.{AreDealt, IsExplored}
-use Rattle.roster_search_threads.specs.declared.exploring.Explored.{Explored}
-use Rattle.roster_search_threads.specs.declared.exploring.Explored.TheVariants.{Found, Open}
+use Rattle.roster_search.specs.Open.{limit_of, AreOpenOf, IsExplored, IsInSome}
+use Rattle.roster_search.proofs.OpenLemmas.{explored_in, explored_more, explored_on, limit_within, open_below, some_before, some_cases, some_either, some_last, some_left, some_right}
+use Rattle.roster_search_threads.specs.Explored.{cheaper_of, AreDealt}
 
 -- ---- two lists
 
@@ -149,27 +147,46 @@ dealing_ends problem nodes mine theirs rest here there dealing none is_here is_t
   ]));
 }
 
+-- ---- the cheaper of two rosters
+
+cheaper_cases : (P : Option Key → Type 0) (first second : Key) → (second.cost <ℤ first.cost → P (Some second))
+    → (first.cost ≤ℤ second.cost → P (Some first)) → P (cheaper_of (Some first) (Some second))
+cheaper_cases P first second f g = pick (int_lt second.cost first.cost) refl
+  where
+    pick : (t : Bool) → int_lt second.cost first.cost ≡ t → P (if t then Some second else Some first)
+    pick true e = f (omega (arith, ints))
+    pick false e = g (omega (arith, ints))
+
+-- what holds of both holds of it
+pub cheaper_found : (P : Key → Type 0) (first second : Option Key) → IfSome first P → IfSome second P
+    → IfSome (cheaper_of first second) P
+cheaper_found P None second one two = two
+cheaper_found P (Some first) None one two = one
+cheaper_found P (Some first) (Some second) one two =
+    cheaper_cases (λ key. IfSome key P) first second (λ _. two) (λ _. one)
+
+-- it lowers what others may cost as either does
+pub below_first : (problem : Problem) (Whole : List ℕ → Type 0) (most : ℤ) (first second : Option Key)
+    → IfSome second (IsWithinCost problem Whole most)
+    → limit_of most (cheaper_of first second) ≤ℤ limit_of most first
+below_first problem Whole most None second found = limit_within problem Whole most second found
+below_first problem Whole most (Some first) None found = omega (arith, ints)
+below_first problem Whole most (Some first) (Some second) found =
+    cheaper_cases (λ key. limit_of most key ≤ℤ limit_of most (Some first)) first second
+    (λ less. omega (arith, ints)) (λ _. omega (arith, ints))
+
+pub below_second : (problem : Problem) (Whole : List ℕ → Type 0) (most : ℤ) (first second : Option Key)
+    → IfSome first (IsWithinCost problem Whole most)
+    → limit_of most (cheaper_of first second) ≤ℤ limit_of most second
+below_second problem Whole most None second found = omega (arith, ints)
+below_second problem Whole most (Some first) None found = limit_within problem Whole most (Some first) found
+below_second problem Whole most (Some first) (Some second) found =
+    cheaper_cases (λ key. limit_of most key ≤ℤ limit_of most (Some second)) first second
+    (λ _. omega (arith, ints)) (λ more. omega (arith, ints))
+
 -- ---- what two lists come to
 
-pub found_here : (problem : Problem) (most : ℤ) (mine theirs : List Region) (key : Key)
-    → IsWithinCost problem (IsInSome problem mine) most key
-    → IsWithinCost problem (IsInSome problem (mine ++ theirs)) most key
-found_here problem most mine theirs key found = record {
-  held = found.held;
-  inside = some_left problem mine theirs key.places found.inside;
-  within = found.within;
-}
-
-pub found_there : (problem : Problem) (most : ℤ) (mine theirs : List Region) (key : Key)
-    → IsWithinCost problem (IsInSome problem theirs) most key
-    → IsWithinCost problem (IsInSome problem (mine ++ theirs)) most key
-found_there problem most mine theirs key found = record {
-  held = found.held;
-  inside = some_right problem mine theirs key.places found.inside;
-  within = found.within;
-}
-
-pub both_open : (problem : Problem) (most : ℤ) (mine theirs first second all : List Region)
+both_open : (problem : Problem) (most : ℤ) (mine theirs first second all : List Region)
     → all ≡ first ++ second → AreOpenOf problem (IsInSome problem mine) most first
     → AreOpenOf problem (IsInSome problem theirs) most second
     → AreOpenOf problem (IsInSome problem (mine ++ theirs)) most all
@@ -187,33 +204,60 @@ both_open problem most mine theirs first second all same here there = record {
   ]);
 }
 
--- ---- the same rosters, said in another way
-
-pub explored_same : (problem : Problem) (Rosters Others : List ℕ → Type 0) (most : ℤ) (explored : Explored)
-    → ((places : List ℕ) → Rosters places → Others places)
-    → ((places : List ℕ) → Others places → CostsAtMost problem most places → Rosters places)
-    → IsExplored problem Rosters most explored → IsExplored problem Others most explored
-explored_same problem Rosters Others most (Found key) to from found = record {
-  held = found.held;
-  inside = to key.places found.inside;
-  within = found.within;
-}
-explored_same problem Rosters Others most (Open nodes) to from are = record {
-  are = are.are;
-  inside = λ places is. to places (are.inside places is);
-  all = λ places is cheap. are.all places (from places is cheap) cheap;
-}
+pub both_explored : (problem : Problem) (most : ℤ) (mine theirs : List Region) (one two : Option Key)
+    (first second all : List Region) → all ≡ first ++ second
+    → IsExplored problem (IsInSome problem mine) (IsInSome problem mine) most one first
+    → IsExplored problem (IsInSome problem theirs) (IsInSome problem theirs) most two second
+    → IsExplored problem (IsInSome problem (mine ++ theirs)) (IsInSome problem (mine ++ theirs)) most (cheaper_of one two) all
+both_explored problem most mine theirs one two first second all same mine_is theirs_is =
+    let Both = IsInSome problem (mine ++ theirs) in
+    let here =
+    explored_in problem (IsInSome problem mine) Both (IsInSome problem mine) most one first (λ places is. some_left problem mine theirs places is) mine_is in
+    let there =
+    explored_in problem (IsInSome problem theirs) Both (IsInSome problem theirs) most two second (λ places is. some_right problem mine theirs places is) theirs_is in
+    let limit = limit_of most (cheaper_of one two) in
+    record {
+      found = cheaper_found (IsWithinCost problem Both most) one two here.found there.found;
+      still = both_open problem limit mine theirs first second all same
+          (open_below problem (IsInSome problem mine) (limit_of most one) limit first (below_first problem Both most one two there.found) here.still)
+          (open_below problem (IsInSome problem theirs) (limit_of most two) limit second (below_second problem Both most one two here.found) there.still);
+    }
 
 -- what is dealt has what was there
-pub explored_dealt : (problem : Problem) (most : ℤ) (nodes mine theirs : List Region) (explored : Explored)
-    → AreDealt problem nodes mine theirs
-    → IsExplored problem (IsInSome problem (mine ++ theirs)) most explored
-    → IsExplored problem (IsInSome problem nodes) most explored
-explored_dealt problem most nodes mine theirs explored dealt is =
-    explored_same problem (IsInSome problem (mine ++ theirs)) (IsInSome problem nodes) most explored
-    (λ places both. dealt.inside places (some_either problem mine theirs places both))
-    (λ places here _. elim (dealt.all places here) [
-      | inl first ↦ some_left problem mine theirs places first
-      | inr second ↦ some_right problem mine theirs places second
-    ])
-    is
+pub explored_dealt : (problem : Problem) (most : ℤ) (nodes mine theirs : List Region) (best : Option Key)
+    (left : List Region) → AreDealt problem nodes mine theirs
+    → IsExplored problem (IsInSome problem (mine ++ theirs)) (IsInSome problem (mine ++ theirs)) most best left
+    → IsExplored problem (IsInSome problem nodes) (IsInSome problem nodes) most best left
+explored_dealt problem most nodes mine theirs best left dealt explored =
+    let inside : (places : List ℕ) → IsInSome problem (mine ++ theirs) places → IsInSome problem nodes places =
+    λ places is. dealt.inside places (some_either problem mine theirs places is) in
+    let wide =
+    explored_in problem (IsInSome problem (mine ++ theirs)) (IsInSome problem nodes) (IsInSome problem (mine ++ theirs)) most best left inside explored in
+    record {
+      found = wide.found;
+      still = record {
+        are = explored.still.are;
+        inside = λ places is. inside places (explored.still.inside places is);
+        all = λ places is cheap. explored.still.all places (elim (dealt.all places is) [
+          | inl first ↦ some_left problem mine theirs places first
+          | inr second ↦ some_right problem mine theirs places second
+        ]) cheap;
+      };
+    }
+
+-- ---- one round after another
+
+pub explored_round : (problem : Problem) (nodes : List Region) (most : ℤ) (best found after : Option Key)
+    (mid new : List Region)
+    → IsExplored problem (IsInSome problem nodes) (IsInSome problem nodes) most best mid
+    → IsExplored problem (IsInSome problem mid) (IsInSome problem mid) (limit_of most best) found new
+    → MatchOption found (after ≡ best) (λ key. after ≡ Some key)
+    → IsExplored problem (IsInSome problem nodes) (IsInSome problem nodes) most after new
+explored_round problem nodes most best None after mid new first next same =
+    let Here = IsInSome problem nodes in
+    subst (λ best. IsExplored problem Here Here most best new) (sym same)
+    (explored_on problem Here Here most best mid new first (explored_in problem (IsInSome problem mid) Here (IsInSome problem mid) (limit_of most best) None new first.still.inside next))
+explored_round problem nodes most best (Some key) after mid new first next same =
+    let Here = IsInSome problem nodes in
+    subst (λ best. IsExplored problem Here Here most best new) (sym same)
+    (explored_more problem Here Here most best key mid new first (explored_in problem (IsInSome problem mid) Here (IsInSome problem mid) (limit_of most best) (Some key) new first.still.inside next))

@@ -1,16 +1,21 @@
 -- What comes of open nodes that threads explore.
-use Rattle.std.specs.Prelude.{ℕ, ◌⊎◌, All, List, ℤ}
+use Rattle.std.specs.Prelude.{ℕ, ◌⊎◌, All, if◌then◌else◌, List, Option, Some, None, ℤ, int_lt}
 use Rattle.roster_model.specs.Problem.{Problem}
-use Rattle.roster_model.specs.Settled.{IsWithinCost}
+use Rattle.roster_model.specs.Rosters.{Key}
 use Rattle.roster_search_regions.specs.Regions.{IsRegion, Region}
-use Rattle.roster_search.specs.Open.{AreOpenOf, IsInSome}
-use Rattle.roster_search_threads.specs.declared.exploring.Explored.{Explored}
-use Rattle.roster_search_threads.specs.declared.exploring.Explored.TheVariants.{Found, Open}
+use Rattle.roster_search.specs.Open.{IsExplored, IsInSome}
+use Rattle.roster_search.specs.declared.exploring.Explored.{Explored}
 
--- one of the rosters that costs at most so much, or what is left to search of them
-abbrev pub IsExplored : Problem → (List ℕ → Type 0) → ℤ → Explored → Type 0
-IsExplored problem Rosters most (Found roster) = IsWithinCost problem Rosters most roster
-IsExplored problem Rosters most (Open nodes) = AreOpenOf problem Rosters most nodes.items
+-- what comes of the rosters in some regions: one that costs at most so much, and what is left of the cheaper ones
+abbrev pub AreExplored : Problem → List Region → ℤ → Explored → Type 0
+AreExplored problem nodes most explored =
+    IsExplored problem (IsInSome problem nodes) (IsInSome problem nodes) most explored.best explored.left.items
+
+-- the cheaper of two rosters, if there are both: the first if they cost the same
+abbrev pub cheaper_of : Option Key → Option Key → Option Key
+cheaper_of None second = second
+cheaper_of (Some first) None = Some first
+cheaper_of (Some first) (Some second) = if int_lt second.cost first.cost then Some second else Some first
 
 -- the regions are shared out into two lists
 pub record AreDealt (problem : Problem) (nodes mine theirs : List Region) : Type 0 where

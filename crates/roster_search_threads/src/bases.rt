@@ -8,7 +8,7 @@ ghost use Rattle.roster_model.specs.Settled.{Anywhere, IsHeld, Settles};
 use crate::shared::parts_by_threads;
 use roster_lines_table::{Table, all_lines_are_some};
 use roster_problem::Problem;
-use roster_search::{Unseen, least_with};
+use roster_search::{Never, least_with};
 use roster_search_least::whole;
 use roster_values::Roster;
 use std::alloc::{AllocError, Global};
@@ -35,5 +35,5 @@ pub fn search_bases<R: Threads + Sync>(
     let ranges = whole(alloc, problem, table)?;
     let ranges = ranges.as_slice();
     let parts = parts_by_threads(rt, alloc, problem, table, ranges, threads)?;
-    least_with(alloc, problem, table, ranges, &parts, known, &mut Unseen)
+    least_with(alloc, problem, table, ranges, &parts, known, &mut Never)
 }

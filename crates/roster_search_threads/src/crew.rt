@@ -1,15 +1,14 @@
 //! Threads that find one roster together.
 
-ghost use Rattle.std.specs.Prelude.{All, IfOk};
+ghost use Rattle.std.specs.Prelude.{◌≡◌, ◌∷◌, ◌++◌, [], All, IfOk, List, MatchOption, Some};
 ghost use Rattle.std.specs.Thread.{IsSync};
-ghost use Rattle.roster_search_threads.specs.Explored.{IsExplored};
-ghost use Rattle.roster_model.specs.Settled.{IsFoundWithin};
-ghost use Rattle.roster_search_regions.specs.Regions.{IsIn, IsRegion};
-ghost use Rattle.roster_search.specs.Open.{IsInSome};
+ghost use Rattle.roster_search_least.specs.Least.{IsCheapestWithin};
+ghost use Rattle.roster_search_regions.specs.Regions.{IsIn, IsRegion, Region as PlainRegion};
+ghost use Rattle.roster_search_threads.specs.Explored.{AreExplored};
 
-use crate::exploring::{Explored, Round, explore_by_threads};
+use crate::exploring::{Round, explore_by_threads};
 use roster_problem::Problem;
-use roster_search::{OpenNode, Unseen, find};
+use roster_search::{Explored, Never, OpenNode, explore, limit};
 use roster_search_least::Finder;
 use roster_search_regions::{DualPrices, Region};
 use roster_values::Roster;
@@ -34,51 +33,55 @@ impl<'r, R: Threads + Sync> Crew<'r, R> {
         Crew { rt, idle }
     }
 
-    /// Some roster in the open nodes that costs at most so much, or what is left to search. Helpers are taken
-    /// if there are more nodes than one, and let go at the end.
+    /// What comes of the open nodes in one round: the cheapest roster in them that was found and costs at most
+    /// so much, and what is left to search. Helpers are taken if there are more nodes than one, and let go at
+    /// the end.
     fn round(
         &self,
         alloc: Global,
         problem: &Problem,
         nodes: Vec<OpenNode>,
         most: i64,
+        enough: i64,
     ) -> Result<Explored, AllocError>
         requires { All (IsRegion problem.now) nodes.items }
-        ensures { IfOk result (IsExplored problem.now (IsInSome problem.now nodes.items) most) }
+        ensures { IfOk result (AreExplored problem.now nodes.items most) }
     {
         let helpers = taken(self.idle, nodes.len().saturating_sub(1));
         let round = Round::new();
         let threads = helpers.saturating_add(1);
         let explored = explore_by_threads(
-            self.rt, alloc, problem, nodes, most, threads, self.idle, &round,
+            self.rt, alloc, problem, nodes, most, enough, threads, self.idle, &round,
         );
         self.idle.fetch_add(helpers, Ordering::SeqCst);
         explored
     }
 
-    /// Some roster of the node's region that costs at most so much, or none.
-    fn find_in_rounds(
+    /// What comes of the open nodes in all rounds. Each roster that is found lowers what others may cost.
+    fn explore_in_rounds(
         &self,
         alloc: Global,
         problem: &Problem,
-        node: OpenNode,
+        nodes: Vec<OpenNode>,
         most: i64,
-    ) -> Result<Option<Roster>, AllocError>
-        requires { IsRegion problem.now node }
-        ensures { IfOk result (IsFoundWithin problem.now (IsIn problem.now node) most) }
+        enough: i64,
+    ) -> Result<Explored, AllocError>
+        requires { All (IsRegion problem.now) nodes.items }
+        ensures { IfOk result (AreExplored problem.now nodes.items most) }
     {
-        let mut nodes = Vec::new(alloc);
-        nodes.push(node)?;
+        let mut explored = Explored {
+            best: None,
+            left: nodes,
+        };
         for _ in 0..MOST_ROUNDS {
-            match self.round(alloc, problem, nodes, most)? {
-                Explored::Found(roster) => return Ok(Some(roster)),
-                Explored::Open(left) => nodes = left,
-            }
-            if nodes.is_empty() {
-                return Ok(None);
-            }
+            let Some(less) = limit(most, enough, &explored.best, &explored.left) else {
+                break;
+            };
+            let Explored { best, left } = explored;
+            let next = self.round(alloc, problem, left, less, enough)?;
+            explored = or_best(next, best);
         }
-        find_alone(alloc, problem, nodes, most)
+        Ok(explored)
     }
 }
 
@@ -94,9 +97,12 @@ impl<'r, R: Threads + Sync> Finder for Crew<'r, R> {
         region: Region,
         prices: &DualPrices,
         most: i64,
+        enough: i64,
     ) -> Result<Option<Roster>, AllocError> {
-        let node = OpenNode::new(region, prices.copy(alloc)?);
-        self.find_in_rounds(alloc, problem, node, most)
+        let mut nodes = Vec::new(alloc);
+        nodes.push(OpenNode::new(region, prices.copy(alloc)?))?;
+        let explored = self.explore_in_rounds(alloc, problem, nodes, most, enough)?;
+        end_alone(alloc, problem, explored, most, enough)
     }
 
     ghost stays = { λ now. tt };
@@ -115,21 +121,43 @@ fn taken(idle: &AtomicUsize, most: usize) -> usize {
     taken
 }
 
-/// Some roster in the open nodes that costs at most so much, or none.
-fn find_alone(
+/// What is explored, with the best roster before if no better one was found.
+fn or_best(explored: Explored, best: Option<Roster>) -> Explored
+    ensures left { result.left.items ≡ explored.left.items }
+    ensures best { MatchOption explored.best (result.best ≡ best) (λ found. result.best ≡ Some found) }
+{
+    let Explored { best: found, left } = explored;
+    match found {
+        Some(found) => Explored {
+            best: Some(found),
+            left,
+        },
+        None => Explored { best, left },
+    }
+}
+
+/// The best roster, once its search is over. If anything is left, as more rounds are over than any search has
+/// time for, one thread ends it.
+fn end_alone(
     alloc: Global,
     problem: &Problem,
-    nodes: Vec<OpenNode>,
+    explored: Explored,
     most: i64,
+    enough: i64,
 ) -> Result<Option<Roster>, AllocError>
-    requires { All (IsRegion problem.now) nodes.items }
-    ensures { IfOk result (IsFoundWithin problem.now (IsInSome problem.now nodes.items) most) }
+    requires { All (IsRegion problem.now) explored.left.items }
+    ensures { IfOk result (λ found. (node : PlainRegion) (nodes : List PlainRegion)
+        → nodes ≡ [] ++ node ∷ [] → AreExplored problem.now nodes most explored
+        → IsCheapestWithin problem.now (IsIn problem.now node) most enough found) }
 {
-    let mut nodes = nodes;
-    while let Some(node) = nodes.pop() {
-        if let Some(roster) = find(alloc, problem, node, most, &mut Unseen)? {
-            return Ok(Some(roster));
-        }
+    let Explored { best, left } = explored;
+    let Some(less) = limit(most, enough, &best, &left) else {
+        return Ok(best);
+    };
+    let rest = explore(alloc, problem, left, less, enough, &mut Never)?;
+    let Explored { best, left } = or_best(rest, best);
+    match limit(most, enough, &best, &left) {
+        Some(_) => Err(AllocError),
+        None => Ok(best),
     }
-    Ok(None)
 }

@@ -1,14 +1,13 @@
 //! Open nodes, which threads explore until one finds a roster or has nothing left, or others are idle.
 
-ghost use Rattle.std.specs.Prelude.{◌<◌, ◌++◌, All, IfOk, List, ℤ};
+ghost use Rattle.std.specs.Prelude.{◌≡◌, ◌<◌, ◌++◌, All, IfOk, List, ℤ};
 ghost use Rattle.std.specs.Thread.{IsSync};
 ghost use Rattle.roster_model.specs.Problem.{Problem as PlainProblem};
 ghost use Rattle.roster_search_regions.specs.Regions.{IsRegion, Region};
-ghost use Rattle.roster_search_threads.specs.Explored.{AreDealt, IsExplored};
-ghost use Rattle.roster_search.specs.Open.{IsInSome};
+ghost use Rattle.roster_search_threads.specs.Explored.{cheaper_of, AreDealt, AreExplored};
 
 use roster_problem::Problem;
-use roster_search::{MOST_NODES, OpenNode, lines_of_last, visit_last};
+use roster_search::{Explored, OpenNode, Stop, explore};
 use roster_values::Roster;
 use std::alloc::{AllocError, Global};
 use std::sync::atomic::{AtomicUsize, Ordering};
@@ -18,21 +17,12 @@ use std::thread::{Threads, join};
 /// thread takes some fifty microseconds.
 const FEWEST_LINES: usize = 1 << 15;
 
-/// What comes of open nodes.
-#[derive(Drop)]
-pub(crate) enum Explored {
-    /// A roster that costs little enough.
-    Found(Roster),
-    /// What is left to search. If that is nothing, no roster costs so little.
-    Open(Vec<OpenNode>),
-}
-
 /// What threads that explore together tell one another. No answer rests on it.
 #[derive(Drop)]
 pub(crate) struct Round {
     // How many have nothing left.
     ended: AtomicUsize,
-    // How many found a roster.
+    // How many rosters are found.
     found: AtomicUsize,
 }
 
@@ -45,8 +35,9 @@ impl Round {
         }
     }
 
-    /// Whether a thread that has looked at so many lines goes on. It doesn't if one has found a roster; nor,
-    /// after a while, if one has nothing left, or others, of which so many are idle, have nothing to do.
+    /// Whether a thread that has looked at so many lines goes on. It doesn't if a roster is found, which
+    /// lowers what all may pay; nor, after a while, if one has nothing left, or others, of which so many are
+    /// idle, have nothing to do.
     fn goes_on(&self, idle: &AtomicUsize, lines: usize) -> bool {
         if self.found.load(Ordering::SeqCst) > 0 {
             return false;
@@ -56,39 +47,88 @@ impl Round {
     }
 }
 
-/// Explores the open nodes by so many threads: some roster in them that costs at most so much, or what is
-/// left to search.
+/// One thread of a round.
+#[derive(Drop)]
+struct Member<'a> {
+    idle: &'a AtomicUsize,
+    round: &'a Round,
+    // At how many lines it has looked.
+    lines: usize,
+}
+
+impl<'a> Stop for Member<'a> {
+    ghost goes_on = { λ old new. Unit };
+
+    fn node(&mut self, lines: usize, _others: usize) -> bool {
+        let goes_on = self.round.goes_on(self.idle, self.lines);
+        self.lines = self.lines.saturating_add(lines);
+        goes_on
+    }
+
+    fn found(&mut self, _roster: &Roster) {
+        self.round.found.fetch_add(1, Ordering::SeqCst);
+    }
+
+    ghost stays = { λ now. tt };
+
+    ghost follows = { λ old mid new first then. tt };
+}
+
+/// Explores the open nodes by so many threads, until the round ends: the cheapest roster in them that was found
+/// and costs at most so much, and what is left to search.
 pub(crate) fn explore_by_threads<R: Threads + Sync>(
     rt: &R,
     alloc: Global,
     problem: &Problem,
     nodes: Vec<OpenNode>,
     most: i64,
+    enough: i64,
     threads: usize,
     idle: &AtomicUsize,
     round: &Round,
 ) -> Result<Explored, AllocError>
     requires { All (IsRegion problem.now) nodes.items }
-    ensures { IfOk result (IsExplored problem.now (IsInSome problem.now nodes.items) most) }
+    ensures { IfOk result (AreExplored problem.now nodes.items most) }
 {
     if threads < 2 {
-        return explore(alloc, problem, nodes, most, idle, round);
+        return Ok(explore_alone(alloc, problem, nodes, most, enough, idle, round)?);
     }
     let (mine, theirs) = dealt(alloc, problem, nodes)?;
     let half = half_of(threads);
     let rest = threads - half;
     let here = move || -> Result<Explored, AllocError>
         requires { IsSync R.row × All (IsRegion problem.now) mine.items }
-        ensures { IfOk result
-            (IsExplored problem.entry.now (IsInSome problem.entry.now mine.items) most) }
-    { explore_by_threads(rt, alloc, problem, mine, most, half, idle, round) };
+        ensures { IfOk result (AreExplored problem.entry.now mine.items most) }
+    { explore_by_threads(rt, alloc, problem, mine, most, enough, half, idle, round) };
     let there = move || -> Result<Explored, AllocError>
         requires { IsSync R.row × All (IsRegion problem.now) theirs.items }
-        ensures { IfOk result
-            (IsExplored problem.entry.now (IsInSome problem.entry.now theirs.items) most) }
-    { explore_by_threads(rt, alloc, problem, theirs, most, rest, idle, round) };
+        ensures { IfOk result (AreExplored problem.entry.now theirs.items most) }
+    { explore_by_threads(rt, alloc, problem, theirs, most, enough, rest, idle, round) };
     let (here, there) = join(rt, here, there);
     both(here?, there?)
+}
+
+/// Explores the open nodes by one thread, until the round ends.
+fn explore_alone(
+    alloc: Global,
+    problem: &Problem,
+    nodes: Vec<OpenNode>,
+    most: i64,
+    enough: i64,
+    idle: &AtomicUsize,
+    round: &Round,
+) -> Result<Explored, AllocError>
+    requires { All (IsRegion problem.now) nodes.items }
+    ensures { IfOk result (AreExplored problem.now nodes.items most) }
+{
+    let mut member = Member {
+        idle: &*idle,
+        round: &*round,
+        lines: 0,
+    };
+    let explored = explore(alloc, problem, nodes, most, enough, &mut member)?;
+    round.ended.fetch_add(1, Ordering::SeqCst);
+    Ok(explored)
 }
 
 /// Half of the threads, of two at least.
@@ -128,48 +168,28 @@ fn dealt(
 /// What comes of two lists of open nodes.
 fn both(here: Explored, there: Explored) -> Result<Explored, AllocError>
     ensures { IfOk result (λ both. (problem : PlainProblem) (mine theirs : List Region) (most : ℤ)
-        → IsExplored problem (IsInSome problem mine) most here
-        → IsExplored problem (IsInSome problem theirs) most there
-        → IsExplored problem (IsInSome problem (mine ++ theirs)) most both) }
+        → AreExplored problem mine most here → AreExplored problem theirs most there
+        → AreExplored problem (mine ++ theirs) most both) }
 {
-    match here {
-        Explored::Found(roster) => Ok(Explored::Found(roster)),
-        Explored::Open(nodes) => match there {
-            Explored::Found(roster) => Ok(Explored::Found(roster)),
-            Explored::Open(more) => {
-                let mut nodes = nodes;
-                let mut more = more;
-                nodes.append(&mut more)?;
-                Ok(Explored::Open(nodes))
-            }
-        },
-    }
+    let best = cheaper(here.best, there.best);
+    let mut left = here.left;
+    let mut more = there.left;
+    left.append(&mut more)?;
+    Ok(Explored { best, left })
 }
 
-/// Explores the open nodes, the last one first, until the round ends.
-fn explore(
-    alloc: Global,
-    problem: &Problem,
-    nodes: Vec<OpenNode>,
-    most: i64,
-    idle: &AtomicUsize,
-    round: &Round,
-) -> Result<Explored, AllocError>
-    requires { All (IsRegion problem.now) nodes.items }
-    ensures { IfOk result (IsExplored problem.now (IsInSome problem.now nodes.items) most) }
+/// The cheaper of two rosters, if there are both; the first if they cost the same.
+fn cheaper(first: Option<Roster>, second: Option<Roster>) -> Option<Roster>
+    ensures { result ≡ cheaper_of first second }
 {
-    let mut nodes = nodes;
-    let mut lines: usize = 0;
-    for _ in 0..MOST_NODES {
-        if nodes.is_empty() || !round.goes_on(idle, lines) {
-            break;
+    match (first, second) {
+        (Some(first), Some(second)) => {
+            if second.cost < first.cost {
+                return Some(second);
+            }
+            Some(first)
         }
-        lines = lines.saturating_add(lines_of_last(problem, &nodes));
-        if let Some(roster) = visit_last(alloc, problem, &mut nodes, most)? {
-            round.found.fetch_add(1, Ordering::SeqCst);
-            return Ok(Explored::Found(roster));
-        }
+        (Some(first), None) => Some(first),
+        (None, second) => second,
     }
-    round.ended.fetch_add(1, Ordering::SeqCst);
-    Ok(Explored::Open(nodes))
 }

@@ -1,15 +1,14 @@
 use Rattle.roster_search_regions.specs.Regions.{IsIn}
 use Rattle.roster_search_least.specs.Least.{CostsAtLeast}
-use Rattle.roster_search_least.proofs.CheapestLemmas.{IsBeaten, distance_up}
+use Rattle.roster_search_least.proofs.CheapestLemmas.{distance_up}
 use Rattle.roster_search_least.proofs.cheapest.cheapest.Given as goal
 
--- nothing costs less than `low`, and a better roster costs less than `high`
+-- nothing costs less than `low`
 abbrev pub invariant-loop-low : goal.invariant-loop-low
 invariant-loop-low g l = record {
   least : CostsAtLeast l.problem (IsIn l.problem l.region) l.low;
-  beaten : IsBeaten l.problem (IsIn l.problem l.region) l.limit l.high l.best;
   goes_on : g.F.Finder.goes_on l.initial.finder l.finder;
 }
 
 abbrev pub decreases-loop-low : goal.decreases-loop-low
-decreases-loop-low g l = distance_up l.low l.high
+decreases-loop-low g l = distance_up l.low l.limit

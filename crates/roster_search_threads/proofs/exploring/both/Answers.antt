@@ -1,21 +1,10 @@
-use Rattle.std.proofs.Common.{subst}
-use Rattle.roster_search.specs.Open.{IsInSome}
-use Rattle.roster_search_threads.specs.Explored.{IsExplored}
-use Rattle.roster_search_threads.proofs.ExploredLemmas.{both_open, found_here, found_there}
+use Rattle.std.proofs.Common.{◌++◌, sym, subst}
+use Rattle.roster_search.specs.Open.{IsExplored, IsInSome}
+use Rattle.roster_search_threads.proofs.ExploredLemmas.{both_explored}
 use Rattle.roster_search_threads.proofs.exploring.both.Goals as goal
 
-pub returns-in-Found : goal.returns-in-Found
-returns-in-Found c problem mine theirs most here there =
-    found_here problem most mine theirs c.in-Found.roster
-    (subst (IsExplored problem (IsInSome problem mine) most) c.in-Found.is here)
-
-pub returns-in-Found-there : goal.returns-in-Found-there
-returns-in-Found-there c problem mine theirs most here there =
-    found_there problem most mine theirs c.in-Found-there.roster
-    (subst (IsExplored problem (IsInSome problem theirs) most) c.in-Found-there.is there)
-
-pub returns-in_ok-append-in-Open-there : goal.returns-in_ok-append-in-Open-there
-returns-in_ok-append-in-Open-there c problem mine theirs most here there =
-    both_open problem most mine theirs c.in-Open.nodes.items c.in-Open-there.more.items c.append.new.self.items c.in_ok-append-in-Open-there.ensures.items
-    (subst (IsExplored problem (IsInSome problem mine) most) c.in-Open.is here)
-    (subst (IsExplored problem (IsInSome problem theirs) most) c.in-Open-there.is there)
+pub returns : goal.returns
+returns c problem mine theirs most here there =
+    let Both = IsInSome problem (mine ++ theirs) in
+    subst (λ best. IsExplored problem Both Both most best c.append.new.self.items) (sym c.cheaper-best.ensures)
+    (both_explored problem most mine theirs c.args.here.best c.args.there.best c.args.here.left.items c.args.there.left.items c.append.new.self.items c.in_ok-append.ensures.items here there)

@@ -6,7 +6,7 @@ use Rattle.roster_search_regions.specs.Regions.{IsIn, IsNarrowed}
 use Rattle.roster_search_fixing.specs.Bounds.{CostsAtMost, IsAllAbove}
 use Rattle.roster_search_fixing.proofs.Narrowing.{narrowed_then}
 use Rattle.roster_search_least.proofs.FindLemmas.{above_part, says_no, says_yes, within_part}
-use Rattle.roster_search.proofs.refining.end_or_part.Goals as goal
+use Rattle.roster_search.proofs.refining.refine.Goals as goal
 
 pub returns-then-not-branch : goal.returns-then-not-branch
 returns-then-not-branch c =
@@ -32,8 +32,8 @@ returns-in-Some c =
     let within =
     within_part problem
     (CostsAtMost problem most) c.args.region.now c.fix.new.region most c.in-Some.roster left found in
-    subst (λ most. IsWithinCost problem (IsIn problem c.args.region.now) most c.in-Some.roster)
-    (to_z-of_z w64 c.args.most c.ranges.most) within
+    subst (λ most. IsWithinCost problem (IsIn problem c.args.region.now) most c.in-Some.roster × IsNarrowed problem (CostsAtMost problem most) c.args.region.now c.fix.new.region)
+    (to_z-of_z w64 c.args.most c.ranges.most) (within, left)
 
 pub loop-step-preserved : goal.loop-step-preserved
 loop-step-preserved c =

@@ -1,7 +1,7 @@
 use Rattle.std.proofs.Common.{sym, ◌∙◌, subst}
 use Rattle.roster_branchtree.specs.Shown.{KeepsWatch}
 use Rattle.roster_branchtree.specs.Watching.{keeps_nothing}
-use Rattle.roster_branchtree.proofs.watch.WatchNodes.node.Goals as goal
+use Rattle.roster_branchtree.proofs.watch.WatchStop.node.Goals as goal
 
 pub returns-in_default : goal.returns-in_default
 returns-in_default g c =

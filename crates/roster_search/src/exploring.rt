@@ -1,0 +1,113 @@
+//! Open nodes, the last of which is visited first.
+
+ghost use Rattle.std.specs.Prelude.{◌≡◌, ◌<◌, ◌≤◌, All, IfOk, IfSome, MatchOption, None, length};
+ghost use Rattle.roster_search_regions.specs.Regions.{IsRegion};
+ghost use Rattle.roster_search.specs.Open.{limit_of, weight_of, IsExplored, IsInSome, IsOver};
+
+use crate::stop::Stop;
+use crate::visiting::{OpenNode, Visited, visit};
+use roster_problem::Problem;
+use roster_values::Roster;
+use std::alloc::{AllocError, Global};
+
+/// A node takes as long as so many lines, besides its own.
+const LINES_A_NODE: usize = 64;
+
+/// What comes of open nodes.
+#[derive(Drop)]
+pub struct Explored {
+    /// The cheapest roster that was found, if one was that costs little enough.
+    pub best: Option<Roster>,
+    /// What is left to search: each roster that costs less, and little enough, is in one of these nodes.
+    pub left: Vec<OpenNode>,
+}
+
+/// What a roster may cost that costs less than the best one so far, and at most so much; or none, if the search
+/// is over: the best one costs no more than is enough, or nothing is left.
+pub fn limit(most: i64, enough: i64, best: &Option<Roster>, left: &[OpenNode]) -> Option<i64>
+    ensures limit { IfSome result (λ limit. limit ≡ limit_of most best.now) }
+    ensures left { IfSome result (λ _. 0 < length left.now) }
+    ensures over { result ≡ None → IsOver enough best.now left.now }
+{
+    if left.is_empty() {
+        return None;
+    }
+    match best {
+        Some(roster) if roster.cost <= enough => None,
+        Some(roster) => Some(roster.cost - 1),
+        None => Some(most),
+    }
+}
+
+/// Explores the open nodes, the last one first, for a roster that costs at most so much: until one is found
+/// that costs no more than is enough, nothing is left, or the stop ends it. Each roster that is found lowers
+/// what others may cost.
+pub fn explore<S: Stop>(
+    alloc: Global,
+    problem: &Problem,
+    nodes: Vec<OpenNode>,
+    most: i64,
+    enough: i64,
+    stop: &mut S,
+) -> Result<Explored, AllocError>
+    requires { All (IsRegion problem.now) nodes.items }
+    ensures explored { IfOk result (λ explored. IsExplored problem.now (IsInSome problem.now nodes.items)
+        (IsInSome problem.now nodes.items) most explored.best explored.left.items) }
+    ensures goes_on { S.goes_on stop.old stop.new }
+{
+    let mut left = nodes;
+    let mut best = None;
+    while let Some(most) = limit(most, enough, &best, &left) {
+        if !stop.node(lines_of_last(problem, &left), left.len() - 1) {
+            break;
+        }
+        if let Some(roster) = visit_last(alloc, problem, &mut left, most)? {
+            stop.found(&roster);
+            best = Some(roster);
+        }
+    }
+    Ok(Explored { best, left })
+}
+
+/// How long a visit of the last open node takes, in lines to look at.
+fn lines_of_last(problem: &Problem, nodes: &[OpenNode]) -> usize
+    requires { All (IsRegion problem.now) nodes.now }
+{
+    match nodes.last() {
+        Some(node) => node.lines(problem).saturating_add(LINES_A_NODE),
+        None => 0,
+    }
+}
+
+/// Visits the last of the open nodes, and puts what is left of it in its place. It answers a roster that was
+/// found there. There is less left to search, or less may be paid.
+fn visit_last(
+    alloc: Global,
+    problem: &Problem,
+    nodes: &mut Vec<OpenNode>,
+    most: i64,
+) -> Result<Option<Roster>, AllocError>
+    requires nodes { All (IsRegion problem.now) nodes.old.items }
+    requires some { 0 < length nodes.old.items }
+    ensures explored { IfOk result (λ found. IsExplored problem.now (IsInSome problem.now nodes.old.items)
+        (IsInSome problem.now nodes.old.items) most found nodes.new.items) }
+    ensures lighter { IfOk result (λ found. MatchOption found
+        (weight_of nodes.new.items < weight_of nodes.old.items)
+        (λ _. weight_of nodes.new.items ≤ weight_of nodes.old.items)) }
+{
+    let Some(node) = nodes.pop() else {
+        return Ok(None);
+    };
+    match visit(alloc, problem, node, most)? {
+        Visited::Nothing => Ok(None),
+        Visited::Found(roster, left) => {
+            nodes.push(left)?;
+            Ok(Some(roster))
+        }
+        Visited::Parted(having, others) => {
+            nodes.push(others)?;
+            nodes.push(having)?;
+            Ok(None)
+        }
+    }
+}
