@@ -60,3 +60,13 @@ given_by_line crew = (crew.person, crew.pairings.items)
 
 abbrev pub numbered_by_line : CrewLine → ℕ × Given
 numbered_by_line crew = (crew.line, given_by_line crew)
+
+-- ---- records
+
+-- the record that gives a pairing to a person
+abbrev pub assign_record : List ℕ → List ℕ → List ℕ
+assign_record person pairing = codes "assign," ++ pairing ++ codes "," ++ person ++ 10 ∷ []
+
+-- those of what a person is given
+abbrev pub assigns_of : Given → List ℕ
+assigns_of given = flat_map (assign_record given.0) given.1

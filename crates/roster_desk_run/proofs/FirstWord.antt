@@ -1,14 +1,14 @@
 -- What the first word of an answer says.
 use Rattle.std.proofs.Common.{◌≡◌, ℕ, ℤ, List, Option, None, Some, arith, get_or, sym, ap, ◌∙◌, inl, inr, codes}
 use Rattle.std.specs.Prelude.{take}
-use Rattle.roster_model.specs.Answer.{IsBestReport, IsFirstFault, IsRefusal}
+use Rattle.roster_model.specs.Answer.{IsBestReport, IsRefusal}
 use Rattle.roster_model.specs.Faults.{Fault}
 use Rattle.roster_model.specs.Plans.{IsPlanReport}
 use Rattle.roster_model.specs.Problem.{Problem, problem_of}
 use Rattle.roster_model.specs.Record.{Check, Record}
 use Rattle.roster_model.specs.Rules.{Rule}
 use Rattle.roster_model.specs.Texts.{fault_text, plan_text}
-use Rattle.roster_desk_run.specs.Run.{IsAnswerTo, IsFaultless, SaysBest}
+use Rattle.roster_desk_run.specs.Run.{SaysBest}
 
 -- a plan's begins with a P,
 plan_is_none : (problem : Problem) (bound : ℤ) (locks : List (Option Rule)) (places : List ℕ)

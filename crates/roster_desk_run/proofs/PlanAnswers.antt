@@ -10,7 +10,7 @@ use Rattle.roster_model.specs.Problem.{Problem}
 use Rattle.roster_model.specs.Record.{Check, Record}
 use Rattle.roster_model.specs.records.Assign.{assigned_in}
 use Rattle.roster_model.proofs.SettledLemmas.{held-key}
-use Rattle.roster_model.specs.Settled.{Anywhere, IsBest, IsHeld, IsNotAfter}
+use Rattle.roster_model.specs.Settled.{Anywhere, IsBest, IsNotAfter}
 use Rattle.roster_plan.specs.Planned.{IsKnown}
 use Rattle.roster_model.specs.Texts.{IsPlanOf, IsReportOf}
 use Rattle.roster_plan.specs.declared.known.Planned.{Planned}
