@@ -1,5 +1,7 @@
 -- Lines that are chosen for the first persons, and the rosters that have them.
-use Rattle.std.specs.Prelude.{◌≡◌, ℕ, ◌+◌, ◌*◌, ◌/◌, ◌<◌, ◌≤◌, Bool, true, nat_lt, ◌++◌, ◌==◌, if◌then◌else◌, List, [], ◌∷◌, Some, length, map, option_map, unwrap_or, slice_get, slice_index_or, ℤ, pos, ◌+ℤ◌, ◌≤ℤ◌}
+use Rattle.std.specs.Prelude.{◌≡◌, ℕ, ◌+◌, ◌*◌, ◌/◌, ◌<◌, ◌≤◌, Bool, true, nat_lt, ◌++◌, ◌==◌, if◌then◌else◌, List, [], ◌∷◌, Some, length, map, option_map, unwrap_or, slice_get, slice_index_or, ℤ, pos, ◌+ℤ◌, ◌≤ℤ◌, ◌<ℤ◌}
+use Rattle.std.specs.Int.{int_min}
+use Rattle.std.specs.List.{range_with_len}
 use Rattle.roster_model.specs.Problem.{Problem}
 use Rattle.roster_model.specs.Lines.{IsLine}
 use Rattle.roster_model.specs.Places.{set_of}
@@ -28,11 +30,6 @@ price_at prices p = slice_index_or prices p (pos 0)
 abbrev pub halves_of : Problem → ℕ → List ℤ
 halves_of problem halves = map (λ pairing. pos (pairing.penalty * halves / 2)) problem.pairings
 
--- the table is priced by none, one or two halves of each penalty
-abbrev pub AreHalves : Problem → List (List Entry) → PricedTable → Type 0
-AreHalves problem table tables =
-    (halves : ℕ) × (halves ≤ 2) × (tables ≡ priced_table problem table (halves_of problem halves))
-
 -- the pairings of line i of person k
 abbrev pub line_set : List (List Entry) → ℕ → ℕ → List ℕ
 line_set table k i = set_at (lines_at table k) i
@@ -46,6 +43,13 @@ pub record ArePriced (problem : Problem) (table : List (List Entry)) (prices : L
 abbrev pub IsReducedBound : Problem → List ℤ → ℕ → ℤ → Type 0
 IsReducedBound problem prices k bound =
     (set : List ℕ) → IsLine problem k set → bound ≤ℤ reduced_cost problem (price_at prices) k set
+
+-- the number is the least reduced cost of a line of person k
+pub record IsLeastReduced (problem : Problem) (prices : List ℤ) (k : ℕ) (least : ℤ) : Type 0 where
+  pub below : IsReducedBound problem prices k least
+  pub set : List ℕ
+  pub line : IsLine problem k set
+  pub has : least ≡ reduced_cost problem (price_at prices) k set
 
 -- the first sums are what the pairings of so many lines of person k have for prices, in all
 pub record AreSums (table : List (List Entry)) (prices : List ℤ) (k count : ℕ) (sums : List ℤ) : Type 0 where
@@ -132,3 +136,29 @@ penalty_at problem p = unwrap_or (option_map (λ pairing. pairing.penalty) (slic
 abbrev pub penalty_or_price : PricedTable → ℕ → ℕ → ℤ
 penalty_or_price tables p x =
     if x == length tables.problem.persons then pos (penalty_at tables.problem p) else price_at tables.prices p
+
+-- ---- which of some prices are the best
+
+-- the smaller of the price and the penalty of the pairing at place p
+abbrev pub lesser_at : Problem → List ℤ → ℕ → ℤ
+lesser_at problem prices p = int_min (pos (penalty_at problem p)) (price_at prices p)
+
+-- the number is the bound of all legal rosters at the prices: the least reduced cost of a line of each person,
+-- and for each pairing the smaller of its price and its penalty
+pub record IsRootBound (problem : Problem) (prices : List ℤ) (bound : ℤ) : Type 0 where
+  pub least : ℕ → ℤ
+  pub each : (k : ℕ) → k < length problem.persons → IsLeastReduced problem prices k (least k)
+  pub sum : bound
+      ≡ total least (range_with_len 0 (length problem.persons))
+      +ℤ total (lesser_at problem prices) (range_with_len 0 (length problem.pairings))
+
+-- The table is priced by so many halves of each penalty, fewer than a number: the first of these whose bound is the
+-- greatest, and this is it.
+pub record AreBestHalves (problem : Problem) (table : List (List Entry)) (count : ℕ) (tables : PricedTable)
+    (bound : ℤ) : Type 0 where
+  pub halves : ℕ
+  pub few : halves < count
+  pub priced : tables ≡ priced_table problem table (halves_of problem halves)
+  pub own : IsRootBound problem (halves_of problem halves) bound
+  pub others : (other : ℕ) → other < count
+      → (z : ℤ) × IsRootBound problem (halves_of problem other) z × (z ≤ℤ bound) × (other < halves → z <ℤ bound)

@@ -1,15 +1,21 @@
 //! Which prices to take if none are known.
 
-ghost use Rattle.std.specs.Prelude.{◌≡◌, ◌≤◌, ◌⊎◌, IfOk};
+ghost use Rattle.std.specs.Prelude.{◌≡◌, ◌≤◌, ◌≤ℤ◌, ◌<ℤ◌, ◌⊎◌, ℤ, IfOk};
 ghost use Rattle.roster_lines_table.specs.Person.{IsTableOf};
-ghost use Rattle.roster_bounds.specs.Chosen.{AreHalves};
+ghost use Rattle.roster_bounds.specs.Chosen.{AreBestHalves, IsRootBound, halves_of, priced_table};
 
-use crate::node::Node;
 use crate::prices::Prices;
 use crate::tables::Tables;
 use roster_lines_table::Table;
 use roster_problem::Problem;
 use std::alloc::{AllocError, Global};
+
+/// Tables, and their bound of all legal rosters.
+#[derive(Drop)]
+struct Bounded<'a> {
+    tables: Tables<'a>,
+    bound: i128,
+}
 
 /// The tables with the greatest bound at the root among those of three lists of prices, the first of
 /// equals: each price 0, half the pairing's penalty, rounded down, and the penalty.
@@ -19,12 +25,13 @@ pub fn choose_tables<'a>(
     table: &'a Table,
 ) -> Result<Tables<'a>, AllocError>
     requires { IsTableOf problem.now table.now }
-    ensures { IfOk result (AreHalves problem.now table.now) }
+    ensures { IfOk result (λ tables. (bound : ℤ) × AreBestHalves problem.now table.now 3 tables bound) }
 {
     let free = tables_at(alloc, problem, table, 0)?;
     let half = tables_at(alloc, problem, table, 1)?;
     let whole = tables_at(alloc, problem, table, 2)?;
-    Ok(of_greater_bound(alloc, of_greater_bound(alloc, free, half), whole))
+    let Bounded { tables, bound: _ } = of_greater_bound(of_greater_bound(free, half), whole);
+    Ok(tables)
 }
 
 /// The tables with so many halves of each penalty for prices.
@@ -33,23 +40,24 @@ fn tables_at<'a>(
     problem: &'a Problem,
     table: &'a Table,
     halves: u32,
-) -> Result<Tables<'a>, AllocError>
+) -> Result<Bounded<'a>, AllocError>
     requires table { IsTableOf problem.now table.now }
     requires most { halves ≤ 2 }
-    ensures { IfOk result (AreHalves problem.now table.now) }
+    ensures tables { IfOk result (λ made.
+        made.tables ≡ priced_table problem.now table.now (halves_of problem.now halves)) }
+    ensures bound { IfOk result (λ made. IsRootBound problem.now (halves_of problem.now halves) made.bound) }
 {
     let prices = Prices::of_penalties(alloc, problem, halves)?;
-    match Tables::build(alloc, problem, table, prices) {
-        Ok(tables) => Ok(tables),
-        Err((_, refused)) => Err(refused),
-    }
+    let (tables, bound) = Tables::build_with_bound(alloc, problem, table, prices)?;
+    Ok(Bounded { tables, bound })
 }
 
-/// Those of two tables whose bound at the root is greater; the first if they are equal.
-fn of_greater_bound<'a>(alloc: Global, first: Tables<'a>, second: Tables<'a>) -> Tables<'a>
-    ensures { (result ≡ first.entry) ⊎ (result ≡ second.entry) }
+/// That of two tables whose bound is greater; the first if they are equal.
+fn of_greater_bound<'a>(first: Bounded<'a>, second: Bounded<'a>) -> Bounded<'a>
+    ensures { ((result ≡ first.entry) × (second.entry.bound ≤ℤ first.entry.bound))
+        ⊎ ((result ≡ second.entry) × (first.entry.bound <ℤ second.entry.bound)) }
 {
-    if Node::root(alloc, &first).bound() < Node::root(alloc, &second).bound() {
+    if first.bound < second.bound {
         second
     } else {
         first

@@ -1,19 +1,22 @@
 //! Reduced costs: what lines cost beyond the prices of their pairings. They take 128 bits, since sums of
 //! them are wanted.
 
-ghost use Rattle.std.specs.Prelude.{◌≡◌, ◌⊎◌, ◌<◌, ◌≤ℤ◌, ◌-ℤ◌, ◌^◌, ℕ, All, IfOk, List, length, neg_ℤ, pos};
+ghost use Rattle.std.specs.Prelude.{◌≡◌, ◌⊎◌, ◌<◌, ◌≤◌, ◌≤ℤ◌, ◌-ℤ◌, ◌^◌, ℕ, All, IfOk, List, length, neg_ℤ};
+ghost use Rattle.std.specs.Prelude.{pos, slice_index_or};
+ghost use Rattle.std.specs.List.{range_with_len};
 ghost use Rattle.std.specs.List.Sorted.{IsStrictlyIncreasing};
 ghost use Rattle.roster_model.specs.Costs.{line_cost, total};
 ghost use Rattle.roster_cost.specs.Amounts.{most_units};
 ghost use Rattle.roster_cost.specs.Priced.{reduced_cost};
 ghost use Rattle.roster_lines_table.specs.Person.{lines_at};
 ghost use Rattle.roster_bounds.specs.Amounts.{AreReduced};
-ghost use Rattle.roster_bounds.specs.Chosen.{ArePriced, AreSums, IsReducedBound, line_set, price_at};
+ghost use Rattle.roster_bounds.specs.Chosen.{ArePriced, AreSums, IsLeastReduced, IsReducedBound, line_set};
+ghost use Rattle.roster_bounds.specs.Chosen.{price_at};
 
 use crate::prices::{MOST_PRICE, Prices};
 use roster_cost::units_of_set;
 use roster_lines_table::Table;
-use roster_model::limits::{MOST_PAIRINGS, MOST_UNITS};
+use roster_model::limits::{MOST_PAIRINGS, MOST_PERSONS, MOST_UNITS};
 use roster_problem::Problem;
 use std::alloc::{AllocError, Global};
 
@@ -52,7 +55,7 @@ fn reduced_by(
     difference(table.cost(k, i), sum)
 }
 
-/// At most the reduced cost of each line of person `k`: the least of them.
+/// The least reduced cost of a line of person `k`.
 pub(crate) fn least_reduced(
     alloc: Global,
     problem: &Problem,
@@ -62,7 +65,7 @@ pub(crate) fn least_reduced(
 ) -> Result<i128, AllocError>
     requires priced { ArePriced problem.now table.now prices.now }
     requires person { k < length problem.now.persons }
-    ensures least { IfOk result (IsReducedBound problem.now prices.now k) }
+    ensures least { IfOk result (IsLeastReduced problem.now prices.now k) }
     ensures bound { IfOk result (AreReduced 1) }
 {
     let _ = problem.pairings();
@@ -84,6 +87,21 @@ pub(crate) fn least_of_any(problem: &Problem, prices: &Prices) -> i128
     let _ = problem.pairings();
     let _ = prices.len();
     LEAST_REDUCED
+}
+
+/// The sum of reduced costs, one for each person.
+pub(crate) fn sum_of(costs: &[i128]) -> i128
+    requires few { length costs.now ≤ MOST_PERSONS }
+    requires fits { (k : ℕ) → k < length costs.now → AreReduced 1 (slice_index_or costs.now k (pos 0)) }
+    ensures value { result ≡ total (λ k. slice_index_or costs.now k (pos 0))
+        (range_with_len 0 (length costs.now)) }
+    ensures fits { AreReduced MOST_PERSONS result }
+{
+    let mut sum = 0;
+    for cost in costs {
+        sum += *cost;
+    }
+    sum
 }
 
 /// The lesser of two numbers.

@@ -1,20 +1,24 @@
 //! Prices over the lines of all persons.
 
-ghost use Rattle.std.specs.Prelude.{◌≡◌, ◌<◌, ◌≤ℤ◌, IfErr, IfOk, IsTrue, length, pos};
+ghost use Rattle.std.specs.Prelude.{◌≡◌, ◌<◌, ◌≤ℤ◌, ℕ, IfErr, IfOk, IsTrue, length, pos, slice_index_or};
+ghost use Rattle.std.specs.List.{range_with_len};
 ghost use Rattle.std.specs.Arc.{arc_value};
+ghost use Rattle.roster_model.specs.Costs.{total};
 ghost use Rattle.roster_model.specs.Lines.{IsLine};
 ghost use Rattle.roster_model.specs.Settled.{Anywhere, IsNotAfter};
 ghost use Rattle.roster_lines_table.specs.Person.{lines_at, IsTableOf};
 ghost use Rattle.roster_cost.specs.Amounts.{IsWithin};
 ghost use Rattle.roster_bounds.specs.declared.prices.TheConstants.{MOST_PRICE};
-ghost use Rattle.roster_bounds.specs.Amounts.{AreReduced};
-ghost use Rattle.roster_bounds.specs.Chosen.{halves_of, line_set, priced_table, reduced_at, ArePriced};
-ghost use Rattle.roster_bounds.specs.Chosen.{AreReducedBounds, IsReducedBound, penalty_at, price_at};
+ghost use Rattle.roster_bounds.specs.Amounts.{AreReduced, most_prices};
+ghost use Rattle.roster_bounds.specs.Chosen.{halves_of, lesser_at, line_set, priced_table, reduced_at};
+ghost use Rattle.roster_bounds.specs.Chosen.{ArePriced, AreReducedBounds, IsLeastReduced, IsReducedBound};
+ghost use Rattle.roster_bounds.specs.Chosen.{IsRootBound, penalty_at, price_at};
 
 use crate::prices::Prices;
-use crate::reduced::{least_of_any, least_reduced, reduced};
+use crate::reduced::{least_of_any, least_reduced, reduced, sum_of};
 use roster_cost::comes_before;
 use roster_lines_table::Table;
+use roster_model::limits::{MOST_PAIRINGS, MOST_PERSONS};
 use roster_problem::Problem;
 use roster_values::{Roster, Set};
 use std::alloc::{AllocError, Global};
@@ -74,6 +78,33 @@ impl<'a> Tables<'a> {
             }),
             Err(refused) => Err((prices, refused)),
         }
+    }
+
+    /// The tables, and their bound of all legal rosters.
+    pub(crate) fn build_with_bound(
+        alloc: Global,
+        problem: &'a Problem,
+        table: &'a Table,
+        prices: Prices,
+    ) -> Result<(Tables<'a>, i128), AllocError>
+        requires lines { IsTableOf problem.now table.now }
+        requires covers { length prices ≡ length problem.now.pairings }
+        ensures tables { IfOk result
+            (λ built. built.0 ≡ priced_table problem.now table.now prices) }
+        ensures bound { IfOk result (λ built. IsRootBound problem.now prices built.1) }
+    {
+        prove!(problem.persons().len() <= MOST_PERSONS);
+        let bounds = bounds_of(alloc, problem, table, &prices)?;
+        let sum = sum_of(&bounds);
+        let tables = Tables {
+            problem,
+            table,
+            prices,
+            bounds,
+            best: None,
+        };
+        let bound = sum + i128::from(tables.lesser_sum());
+        Ok((tables, bound))
     }
 
     /// The tables for who knows a roster that is after no legal one: each price is 0, and no line is looked
@@ -183,6 +214,7 @@ impl<'a> Tables<'a> {
     /// The smaller of the two.
     pub(crate) fn penalty_or_price(&self, p: usize) -> i64
         requires { p < length self.now.problem.pairings }
+        ensures value { result ≡ lesser_at self.now.problem self.now.prices p }
         ensures price { result ≤ℤ price_at self.now.prices p }
         ensures penalty { result ≤ℤ pos (penalty_at self.now.problem p) }
         ensures fits { IsWithin MOST_PRICE result }
@@ -190,6 +222,21 @@ impl<'a> Tables<'a> {
         let price = self.price(p);
         let penalty = self.penalty(p);
         if price < penalty { price } else { penalty }
+    }
+
+    /// The smaller of the two of each pairing, in all.
+    fn lesser_sum(&self) -> i64
+        ensures value { result ≡ total (lesser_at self.now.problem self.now.prices)
+            (range_with_len 0 (length self.now.problem.pairings)) }
+        ensures fits { IsWithin most_prices result }
+    {
+        let pairings = self.problem.pairings().len();
+        prove!(pairings <= MOST_PAIRINGS);
+        let mut sum = 0;
+        for p in 0..pairings {
+            sum += self.penalty_or_price(p);
+        }
+        sum
     }
 
     /// A number that no reduced cost of a line of person `k` is below.
@@ -202,7 +249,7 @@ impl<'a> Tables<'a> {
     }
 }
 
-/// Of each person a number that no reduced cost of a line is below.
+/// Of each person the least reduced cost of a line.
 fn bounds_of(
     alloc: Global,
     problem: &Problem,
@@ -210,8 +257,10 @@ fn bounds_of(
     prices: &Prices,
 ) -> Result<Vec<i128>, AllocError>
     requires { ArePriced problem.now table.now prices.now }
-    ensures { IfOk result (λ bounds. AreReducedBounds problem.now prices.now
+    ensures below { IfOk result (λ bounds. AreReducedBounds problem.now prices.now
         (length problem.now.persons) bounds.items) }
+    ensures least { IfOk result (λ bounds. (k : ℕ) → k < length problem.now.persons
+        → IsLeastReduced problem.now prices.now k (slice_index_or bounds.items k (pos 0))) }
 {
     let mut bounds = Vec::new(alloc);
     for k in 0..problem.persons().len() {

@@ -10,6 +10,7 @@ use crate::books::{AS_EQUAL, EQUAL_SHARES};
 use crate::spans::{all_open, is, searched};
 use roster_bounds::Tables;
 use roster_branchtree::{Path, Sight, Span};
+use roster_incumbent::Open;
 use roster_lines::table_of;
 use roster_lines_table::Table;
 use roster_problem::Problem;
@@ -17,7 +18,7 @@ use roster_search_threads::search_bases;
 use roster_test_books::problem_of;
 use roster_values::Roster;
 use std::alloc::{AllocError, Global};
-use std::sync::Arc;
+use std::sync::{Arc, Wait};
 use std::test::Fail;
 use std::thread::Threads;
 
@@ -59,7 +60,11 @@ fn better_or(
 }
 
 /// The book of equal shares, whose bases so many threads search.
-fn searched_by<R: Threads + Sync>(rt: &R, alloc: Global, threads: usize) -> Result<Seen, Fail>
+fn searched_by<R: Threads + Wait + Sync>(
+    rt: &R,
+    alloc: Global,
+    threads: usize,
+) -> Result<Seen, Fail>
     requires { 0 < threads }
 {
     let problem = problem_of(alloc, EQUAL_SHARES)?;
@@ -67,7 +72,7 @@ fn searched_by<R: Threads + Sync>(rt: &R, alloc: Global, threads: usize) -> Resu
 }
 
 /// What so many threads do in this problem, and what a search of all then does.
-fn searched_over<R: Threads + Sync>(
+fn searched_over<R: Threads + Wait + Sync>(
     rt: &R,
     alloc: Global,
     problem: &Problem,
@@ -81,7 +86,7 @@ fn searched_over<R: Threads + Sync>(
 }
 
 /// The same from the roster that leaves all open.
-fn searched_under<R: Threads + Sync>(
+fn searched_under<R: Threads + Wait + Sync>(
     rt: &R,
     alloc: Global,
     problem: &Problem,
@@ -98,7 +103,7 @@ fn searched_under<R: Threads + Sync>(
 }
 
 /// The best roster that the threads find, and tables that know it.
-fn informed<'a, R: Threads + Sync>(
+fn informed<'a, R: Threads + Wait + Sync>(
     rt: &R,
     alloc: Global,
     problem: &'a Problem,
@@ -113,7 +118,7 @@ fn informed<'a, R: Threads + Sync>(
     ensures tables { IfOk result (λ informed.
         informed.1 ≡ priced_table problem.now table.now informed.1.prices) }
 {
-    let better = search_bases(rt, alloc, problem, table, opening, threads)?;
+    let better = search_bases(rt, alloc, problem, table, opening, threads, &Open)?;
     let best = better_or(alloc, better, opening)?;
     let tables = Tables::of_best(alloc, problem, table, Arc::try_clone(&best)?)?;
     Ok((best, tables))

@@ -1,9 +1,10 @@
-use Rattle.std.proofs.Common.{◌≡◌, ◌<◌, length, get_or, ℤ, pos, ◌≤ℤ◌, ap, sym, ◌∙◌, subst, inl, inr, arith}
+use Rattle.std.proofs.Common.{◌≡◌, ◌<◌, [], length, get_or, ℤ, pos, ◌≤ℤ◌, ap, sym, ◌∙◌, subst, inl, inr, arith}
 use Rattle.std.proofs.lemmas.Bool.{cases_lt}
 use Rattle.std.proofs.lemmas.Int.{ints}
 use Rattle.std.proofs.lemmas.List.{get_or_default}
 use Rattle.roster_cost.specs.Priced.{reduced_cost}
 use Rattle.roster_lines_table.specs.Person.{lines_at}
+use Rattle.roster_lines_table.proofs.Lists.{IsLine-empty}
 use Rattle.roster_bounds.specs.Amounts.{AreReduced, most_prices}
 use Rattle.roster_cost.specs.Amounts.{IsWithin}
 use Rattle.roster_bounds.specs.Chosen.{line_set, price_at}
@@ -45,10 +46,43 @@ loop-i-preserved c =
         | inl is ↦ subst (AreReduced 1) (sym is) c.loop-i.invariant.bound
         | inr is ↦ subst (AreReduced 1) (sym (is ∙ other)) c.reduced_by.ensures.bound
       ]);
+      none = λ no. absurd (omega (arith, no));
+      one = λ some.
+          let problem = c.args.problem.now in
+          let k = c.args.k in
+          let set = line_set c.args.table.now k c.loop-i.i in
+          let inside : c.loop-i.i < length (lines_at c.args.table.now k) =
+          omega (arith, c.loop-i-test.true, c.width-i-end.ensures) in
+          let line = line_is problem c.args.table.now k c.loop-i.i c.requires.priced.lines c.requires.person inside in
+          let value = c.reduced_by.ensures.value in
+          elim c.lesser-least.ensures.one [
+            | inl is ↦ elim (cases_lt 0 c.loop-i.i) [
+              | inl before ↦
+                  let had = c.loop-i.invariant.one before in
+                  (had.0, had.1, back ∙ is ∙ had.2)
+              | inr on ↦
+                  let high = c.loop-i.invariant.none (omega (arith, on)) in
+                  let most = c.reduced_by.ensures.bound.most in
+                  (set, line, back ∙ omega (arith, ints, is, high, most, second) ∙ value)
+            ]
+            | inr is ↦ (set, line, back ∙ is ∙ other ∙ value)
+          ];
     }
 
 pub returns-clause-least : goal.returns-clause-least
-returns-clause-least c set line =
-    let found = number_of_line c.args.problem.now c.args.table.now c.args.k set c.requires.priced.lines c.requires.person line in
-    let all : found.0 < c.loop-i.i = omega (arith, found.1, c.width-i-end.ensures) in
-    c.loop-i.invariant.below found.0 set all found.2
+returns-clause-least c =
+    let problem = c.args.problem.now in
+    let table = c.args.table.now in
+    let k = c.args.k in
+    let lines = c.requires.priced.lines in
+    let count = c.width-i-end.ensures in
+    let none = number_of_line problem table k [] lines c.requires.person (IsLine-empty problem k) in
+    let found = c.loop-i.invariant.one (omega (arith, none.1, count)) in
+    record {
+      below = λ set line.
+          let at = number_of_line problem table k set lines c.requires.person line in
+          c.loop-i.invariant.below at.0 set (omega (arith, at.1, count)) at.2;
+      set = found.0;
+      line = found.1;
+      has = found.2;
+    }
