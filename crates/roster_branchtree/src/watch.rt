@@ -13,6 +13,7 @@ use roster_lines_table::Table;
 use roster_problem::Problem;
 use roster_search::{Stop, find};
 use roster_search_least::Finder;
+use roster_search_prices::Relaxation;
 use roster_search_regions::{DualPrices, Region};
 use roster_values::Roster;
 use std::alloc::{AllocError, Global};
@@ -116,6 +117,10 @@ impl<'a, S: Sight> Stop for Watch<'a, S> {
         true
     }
 
+    fn shown(&mut self) -> Option<Arc<Roster>> {
+        None
+    }
+
     fn found(&mut self, _roster: &Roster) {}
 
     ghost stays = { keeps_nothing };
@@ -137,10 +142,13 @@ impl<'a, S: Sight> Finder for Watch<'a, S> {
         problem: &Problem,
         region: Region,
         prices: &DualPrices,
+        relaxation: &mut Relaxation,
         most: i64,
         enough: i64,
     ) -> Result<Option<Roster>, AllocError> {
-        find(alloc, problem, region, prices, most, enough, self)
+        find(
+            alloc, problem, region, prices, relaxation, most, enough, self,
+        )
     }
 
     ghost stays = { keeps_nothing };

@@ -39,7 +39,7 @@ pub(crate) fn solve_over<R: Threads + Wait + Sync, G: Gate + Sync>(
     if problem.persons().is_empty() {
         return solved_by_nobody(alloc, problem);
     }
-    let (best, tables) = begun(rt, alloc, problem, table, workers)?;
+    let (best, tables) = begun(rt, alloc, problem, table, workers, gate)?;
     work_together::<Brand, R, Branching, G>(
         rt,
         alloc,
@@ -54,13 +54,14 @@ pub(crate) fn solve_over<R: Threads + Wait + Sync, G: Gate + Sync>(
 }
 
 /// The best roster, for which so many threads search the bases, and the tables for the searches of spans,
-/// which know it.
-fn begun<'a, R: Threads + Sync>(
+/// which know it. Each thread passes the gate.
+fn begun<'a, R: Threads + Wait + Sync, G: Gate + Sync>(
     rt: &R,
     alloc: Global,
     problem: &'a Problem,
     table: &'a Table,
     threads: usize,
+    gate: &G,
 ) -> Result<(Arc<Roster>, Tables<'a>), AllocError>
     requires table { IsTableOf problem.now table.now }
     requires threads { 0 < threads }
@@ -69,7 +70,7 @@ fn begun<'a, R: Threads + Sync>(
     ensures held { IfOk result (λ begun. IsHeld problem.now (arc_value begun.0)) }
 {
     let known = first_known(alloc, problem)?;
-    let better = search_bases(rt, alloc, problem, table, &known, threads)?;
+    let better = search_bases(rt, alloc, problem, table, &known, threads, gate)?;
     let best = better_or(alloc, better, known)?;
     let tables = Tables::of_best(alloc, problem, table, Arc::try_clone(&best)?)?;
     Ok((best, tables))

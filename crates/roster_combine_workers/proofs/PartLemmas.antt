@@ -1,4 +1,7 @@
--- What parts that agree with a closed pool are together, and how they come to agree.
+-- What parts that agree with a closed pool are together, and how they come to agree. If the lists agree with
+-- a closed pool (`Agree`), each legal roster's list of line numbers lies in a finished span, whose part
+-- stands in some worker's list and comes no later: so the least of all parts is the best roster. Only the
+-- clause of `SpanSearch::search` settles a part, so what was seen meanwhile doesn't occur.
 use Rattle.std.proofs.Common.{◌≡◌, ℕ, zero, suc, ◌+◌, ◌<◌, ◌==◌, Bool, true, false, List, [], ◌∷◌, ◌++◌, length, map, get_or, refl, sym, ap, ◌∙◌, subst, arith, Some, inl, inr}
 use Rattle.std.specs.Prelude.{All, slice_get, slice_index, slice_index_or}
 use Rattle.std.proofs.lemmas.Bool.{cases_lt, eq-eqb}

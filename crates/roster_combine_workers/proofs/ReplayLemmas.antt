@@ -1,5 +1,7 @@
--- What a replay keeps, and that it ends at rest.
-use Rattle.std.proofs.Common.{◌≡◌, ℕ, ◌+◌, ◌<◌, ◌==◌, Bool, true, false, List, [], ◌∷◌, ◌++◌, length, map, replicate, refl, sym, ap, ◌∙◌, subst, arith, Option, Some, None, inl, inr}
+-- What a replay keeps, and that it ends at rest. Each event but `Finish` leaves the finished spans as they
+-- are, and `finish` lists a part for its worker (`replays-finish`). After the last step nobody has a span,
+-- and worker 0 takes and finishes what is pending.
+use Rattle.std.proofs.Common.{◌≡◌, ℕ, ◌<◌, ◌==◌, Bool, true, false, List, [], ◌∷◌, ◌++◌, length, map, replicate, refl, sym, ap, ◌∙◌, subst, arith, Option, Some, None, inl, inr}
 use Rattle.std.specs.Prelude.{All, if◌then◌else◌, slice_get, slice_index_or, slice_set}
 use Rattle.std.proofs.lemmas.Bool.{cases_Bool, eq-eqb, eqb-true}
 use Rattle.std.proofs.lemmas.List.{append-nil, get_or-replicate, get_or-set_other, get_or-set_same, length-replicate, length-set, map_push}
@@ -63,13 +65,24 @@ other_spans finished worker by span other =
     ∙ ap (λ b. spans_by worker finished ++ spans_if b span []) (sym other)
     ∙ sym (spans_by-more finished worker by span)
 
+-- the best roster is raised to a legal one
+pub replays-raise : (task : Task) (s : State) (lists : List (List SettledSpan)) (best found : Key)
+    → IsReplaying task s lists best → IsHeld task.problem found
+    → IsReplaying task s lists (less_of best found)
+replays-raise task s lists best found old held = record {
+  held = held_less task.problem best found (key_le best found) refl old.held held;
+  settled = old.settled;
+  agree = old.agree;
+  hands = old.hands;
+}
+
 -- a worker hands in a part
 pub replays-finish : (task : Task) (s next : State) (worker : ℕ) (part : SettledSpan) (lists : List (List SettledSpan)) (best : Key) → IsReplaying task s lists best
     → held s worker ≡ Some part.span → step s (Finish worker) ≡ Some next
     → IsSettled task.problem task.table part
-    → IsReplaying task next (slice_set lists worker (slice_index_or lists worker [] ++ part ∷ [])) (less_of best part.best)
+    → IsReplaying task next (slice_set lists worker (slice_index_or lists worker [] ++ part ∷ [])) best
 replays-finish task s next worker part lists best old has is settled = record {
-  held = held_less task.problem best part.best (key_le best part.best) refl old.held settled.held;
+  held = old.held;
   settled = All-set (AreSettled task.problem task.table) lists worker more
       (All-push (IsSettled task.problem task.table) own part (All-get_or (AreSettled task.problem task.table) lists worker [] within old.settled) settled) old.settled;
   agree = record {

@@ -9,11 +9,10 @@ ghost use Rattle.roster_lines_table.specs.Person.{IsTableOf};
 ghost use Rattle.roster_combine_workers.specs.Parts.{AreSettled, IsBestKey};
 
 use crate::combining::{Solved, combine, solved_again};
-use crate::gate::Gate;
 use crate::root::widths_of;
 use crate::span_search::SpanSearch;
 use crate::working::work;
-use roster_incumbent::Incumbent;
+use roster_incumbent::{Gate, Incumbent};
 use roster_lines_table::Table;
 use roster_problem::Problem;
 use roster_subtreepool::{Pool, PoolState, Settled, Share};

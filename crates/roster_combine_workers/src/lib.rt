@@ -5,7 +5,7 @@
 //!
 //! - `span_search`: what searches spans
 //! - `root`: one search of all rosters
-//! - `gate`: where workers can be met
+//! - `watcher`: looks of a worker's search, at a gate
 //! - `working`: what a worker does
 //! - `combining`: the least of all that workers found
 //! - `crew`: workers in threads of their own
@@ -15,18 +15,18 @@
 
 mod combining;
 mod crew;
-mod gate;
 mod laws;
 mod root;
 mod span_search;
 mod stage;
+mod watcher;
 mod working;
 
 pub use combining::{Solved, combine, solved_by_nobody};
 pub use crew::work_together;
-pub use gate::{Gate, Open, Point};
 pub use laws::least_handed_in_is_best;
 pub use root::first_known;
+pub use roster_incumbent::{Gate, Open, Point};
 pub use span_search::SpanSearch;
 pub use stage::replay_steps;
 pub use working::work;

@@ -4,9 +4,11 @@ ghost use Rattle.std.specs.Prelude.{◌≡◌, ◌+◌, ◌<◌, ◌≤◌, [], 
 ghost use Rattle.std.specs.Prelude.{replicate, vec_capacity, vec_len};
 ghost use Rattle.std.specs.Arc.{arc_value};
 ghost use Rattle.roster_lines_table.specs.Person.{IsTableOf};
+ghost use Rattle.roster_incumbent.specs.Kept.{less_of};
+ghost use Rattle.roster_model.specs.Settled.{IsHeld};
 ghost use Rattle.roster_subtreepool.specs.States.{held, step};
 ghost use Rattle.roster_combine_workers.specs.Parts.{IsBestKey, IsSettled};
-ghost use Rattle.roster_combine_workers.specs.Replays.{IsIdle};
+ghost use Rattle.roster_combine_workers.specs.Replays.{IsIdle, IsRaised};
 
 use crate::combining::{Solved, combine, solved_again};
 use crate::root::{first_known, found, widths_of};
@@ -61,6 +63,7 @@ impl<'a, L: Ledger, F: SpanSearch> Model for Stage<'a, L, F> {
     ghost view = { λ s. record {
       task = record { problem = s.problem.now; table = s.table.now };
       state = s.pool.state;
+      best = arc_value s.best;
     } };
 
     ghost invariant = { λ s. IsTableOf s.problem.now s.table.now
@@ -235,14 +238,21 @@ impl<'a, L: Ledger, F: SpanSearch> Stage<'a, L, F> {
         }
     }
 
-    /// Searches the worker's piece, and hands in what was found.
+    /// Searches the worker's piece, raises the best roster to what was found, and then hands it in.
     fn settle(&mut self, worker: usize, piece: Piece, every: usize) -> Result<(), AllocError>
         requires { held self.old.state worker ≡ Some piece }
         ensures task { self.new.task ≡ self.old.task }
+        ensures raised { OnOk result (IsRaised self.old.task piece self.old.best self.new.best) }
         ensures step { OnOk result (step self.old.state (Event.Finish worker) ≡ Some self.new.state) }
     {
         let done = self.searched(piece, every)?;
-        self.finish(worker, done)
+        match self.raise(&done.best) {
+            Ok(()) => self.finish(worker, done),
+            Err(refused) => {
+                forgo(done);
+                Err(refused)
+            }
+        }
     }
 
     /// The search of a piece, from the best roster so far, which is also what it is shown.
@@ -255,25 +265,33 @@ impl<'a, L: Ledger, F: SpanSearch> Stage<'a, L, F> {
         found(self.searcher.search(piece, &mut sight, every, &self.best))
     }
 
-    /// The worker finishes its span, and the best roster is raised to what was found.
+    /// The best roster so far is raised to the one that was found.
+    fn raise(&mut self, found: &Arc<Roster>) -> Result<(), AllocError>
+        requires { IsHeld self.old.task.problem (arc_value found.now) }
+        ensures same { (self.new.task ≡ self.old.task) × (self.new.state ≡ self.old.state) }
+        ensures raised { OnOk result (self.new.best ≡ less_of self.old.best (arc_value found.now)) }
+    {
+        let found = Arc::try_clone(found)?;
+        keep_less(&mut self.best, found);
+        Ok(())
+    }
+
+    /// The worker finishes its span.
     fn finish(&mut self, worker: usize, done: Done) -> Result<(), AllocError>
         requires held { held self.old.state worker ≡ Some done.piece }
         requires settled { IsSettled self.old.task.problem self.old.task.table
             (record { span = done.piece; best = arc_value done.best }) }
         ensures task { self.new.task ≡ self.old.task }
+        ensures best { self.new.best ≡ self.old.best }
         ensures step { OnOk result (step self.old.state (Event.Finish worker) ≡ Some self.new.state) }
     {
-        let best = match room_for(&mut self.lists[worker], &done.best) {
-            Ok(best) => best,
-            Err(refused) => {
-                forgo(done);
-                return Err(refused);
-            }
-        };
+        if let Err(refused) = room_for(&mut self.lists[worker]) {
+            forgo(done);
+            return Err(refused);
+        }
         match self.pool.finish(worker, done, &mut self.shares[worker]) {
             Ok(settled) => {
                 self.lists[worker].push_reserved(settled);
-                keep_less(&mut self.best, best);
                 Ok(())
             }
             // The piece is the one in hand, so nothing but memory can be wanting.
@@ -347,14 +365,13 @@ fn no_lists(alloc: Global, workers: usize) -> Result<Vec<Vec<Settled>>, AllocErr
     Ok(lists)
 }
 
-/// Makes room for one part more, and shares the roster once more.
-fn room_for(list: &mut Vec<Settled>, best: &Arc<Roster>) -> Result<Arc<Roster>, AllocError>
+/// Makes room for one part more.
+fn room_for(list: &mut Vec<Settled>) -> Result<(), AllocError>
     ensures same { list.new.items ≡ list.old.items }
     ensures room { OnOk result (vec_len list.new + 1 ≤ vec_capacity list.new) }
-    ensures best { IfOk result (λ copy. arc_value copy ≡ arc_value best.now) }
 {
     list.reserve(1)?;
-    Arc::try_clone(best)
+    Ok(())
 }
 
 /// What becomes of a step that splits a span: the hand keeps what it has, whether it was split or not.

@@ -7,10 +7,10 @@ ghost use Rattle.roster_lines_table.specs.Person.{IsTableOf};
 ghost use Rattle.roster_model.specs.Settled.{IsHeld};
 ghost use Rattle.roster_combine_workers.specs.Parts.{AreSettled, IsSettled};
 
-use crate::gate::{Gate, Point, Watcher};
 use crate::root::{first_known, found};
 use crate::span_search::SpanSearch;
-use roster_incumbent::Incumbent;
+use crate::watcher::Watcher;
+use roster_incumbent::{Gate, Incumbent, Point};
 use roster_lines_table::Table;
 use roster_problem::Problem;
 use roster_subtreepool::{Pool, PoolFault, Settled, Share};

@@ -1,4 +1,6 @@
--- No event changes in how many spans a list of the box lies.
+-- No event changes in how many spans a list of the box lies. It is a count: 1 in the opening state, and kept
+-- by each event, with the spans of hands and of finished parts in it. The pool's type keeps that the state
+-- is the replay of the history, so that holds whatever threads do (`each_list_in_one_span`).
 use Rattle.std.proofs.Common.{◌≡◌, ℕ, suc, ◌+◌, ◌-◌, ◌<◌, ◌≤◌, Bool, true, false, List, [], ◌∷◌, ◌++◌, length, refl, sym, ap, ◌∙◌, subst, arith, Option, Some, None, inl, inr}
 use Rattle.std.specs.Prelude.{nat_le, if◌then◌else◌, slice_get, slice_index, slice_set}
 use Rattle.std.specs.List.{sum_by}

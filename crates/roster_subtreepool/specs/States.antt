@@ -137,6 +137,10 @@ pub record Played : Type 0 where
 abbrev pub IsReplay : Played → Type 0
 IsReplay pool = after pool.state.widths (length pool.state.hands) pool.events ≡ Some pool.state
 
+-- so it is of a state that some pool came to by its events
+abbrev pub Met : (State → Type 0) → Type 0
+Met Holds = (pool : Played) × IsReplay pool × Holds pool.state
+
 -- the pool has one event more, by which its state changed
 pub record Adds (event : Event) (old new : Played) : Type 0 where
   pub state : step old.state event ≡ Some new.state

@@ -4,7 +4,7 @@ ghost use Rattle.std.specs.Prelude.{◌≡◌, ◌<◌, ◌+◌, ◌⊎◌, ◌�
 ghost use Rattle.std.specs.Prelude.{IfOk, IfSome, None, OnErr, OnOk, Some, slice_get, true};
 ghost use Rattle.std.specs.Arc.{arc_value};
 ghost use Rattle.roster_subtreepool.specs.Refusals.{descend_fault, halve_fault, is_free, take_fault, told};
-ghost use Rattle.roster_subtreepool.specs.States.{Adds, IsAtRest, State, can_halve, held, lower};
+ghost use Rattle.roster_subtreepool.specs.States.{Adds, IsAtRest, Met, descended, held, lower};
 
 use crate::event::Event;
 use crate::fault::PoolFault;
@@ -109,9 +109,9 @@ impl<L: Ledger> Pool<L> {
         piece: Piece,
     ) -> Result<Piece, (PoolFault, Piece)>
         ensures part { IfOk result (λ kept. kept ≡ lower piece) }
-        ensures wide { OnOk result (can_halve piece ≡ true) }
-        ensures fault { IfErr result (λ refused. (state : State)
-            × (refused.0 ≡ told (halve_fault state worker piece))) }
+        ensures allowed { OnOk result (Met (λ state. halve_fault state worker piece ≡ None)) }
+        ensures fault { IfErr result (λ refused.
+            Met (λ state. refused.0 ≡ told (halve_fault state worker piece))) }
         ensures back { IfErr result (λ refused. refused.1 ≡ piece) }
     {
         let halved = self.guarded.lock(rt).state.halve(worker, piece);
@@ -126,10 +126,10 @@ impl<L: Ledger> Pool<L> {
         worker: usize,
         piece: Piece,
     ) -> Result<Piece, (PoolFault, Piece)>
-        ensures path { IfOk result (λ kept. kept.path ≡ piece.path ++ piece.lo ∷ []) }
-        ensures first { IfOk result (λ kept. kept.lo ≡ 0) }
-        ensures fault { IfErr result (λ refused. (state : State)
-            × (refused.0 ≡ told (descend_fault state worker piece))) }
+        ensures allowed { IfOk result (λ kept. Met (λ state.
+            (descend_fault state worker piece ≡ None) × (kept ≡ descended state.widths piece))) }
+        ensures fault { IfErr result (λ refused.
+            Met (λ state. refused.0 ≡ told (descend_fault state worker piece))) }
         ensures back { IfErr result (λ refused. refused.1 ≡ piece) }
     {
         self.guarded.lock(rt).state.descend(worker, piece)

@@ -193,6 +193,7 @@ impl<L: Ledger> PoolState<L> {
         ensures piece { IfOk result (λ kept. held self.new.state worker ≡ Some kept) }
         ensures part { IfOk result (λ kept. kept ≡ lower piece) }
         ensures allowed { OnOk result (halve_fault self.old.state worker piece ≡ None) }
+        ensures replay { IsReplay self.old }
         ensures same { OnErr result (self.new ≡ self.old) }
         ensures fault { IfErr result (λ refused.
             refused.0 ≡ told (halve_fault self.old.state worker piece)) }
@@ -213,6 +214,7 @@ impl<L: Ledger> PoolState<L> {
         ensures piece { IfOk result (λ kept. held self.new.state worker ≡ Some kept) }
         ensures part { IfOk result (λ kept. kept ≡ lower span.now) }
         ensures allowed { OnOk result (halve_fault self.old.state worker span.now ≡ None) }
+        ensures replay { IsReplay self.old }
         ensures same { OnErr result (self.new ≡ self.old) }
         ensures fault { IfErr result (λ fault. fault ≡ told (halve_fault self.old.state worker span.now)) }
     {
@@ -235,6 +237,7 @@ impl<L: Ledger> PoolState<L> {
         ensures piece { IfOk result (λ kept. held self.new.state worker ≡ Some kept) }
         ensures part { IfOk result (λ kept. kept ≡ descended self.old.state.widths piece) }
         ensures allowed { OnOk result (descend_fault self.old.state worker piece ≡ None) }
+        ensures replay { IsReplay self.old }
         ensures same { OnErr result (self.new ≡ self.old) }
         ensures fault { IfErr result (λ refused.
             refused.0 ≡ told (descend_fault self.old.state worker piece)) }
@@ -255,6 +258,7 @@ impl<L: Ledger> PoolState<L> {
         ensures piece { IfOk result (λ kept. held self.new.state worker ≡ Some kept) }
         ensures part { IfOk result (λ kept. kept ≡ descended self.old.state.widths span.now) }
         ensures allowed { OnOk result (descend_fault self.old.state worker span.now ≡ None) }
+        ensures replay { IsReplay self.old }
         ensures same { OnErr result (self.new ≡ self.old) }
         ensures fault { IfErr result (λ fault.
             fault ≡ told (descend_fault self.old.state worker span.now)) }

@@ -1,6 +1,6 @@
 //! Workers that meet.
 
-use crate::books::is;
+use crate::books::{TWO_BASES, is};
 use crate::threads::solved;
 use roster_combine::{Gate, Point};
 use roster_test_books::{BEST, TWO_DAYS};
@@ -68,29 +68,43 @@ impl Gate for Meeting {
     }
 }
 
-/// Whether two workers meet at the point, and find the best roster.
-fn meet<R: Threads + Wait + Sync>(rt: &R, alloc: Global, point: Point) -> Result<bool, Fail> {
+/// Whether two workers meet at the point, and find the best roster of the book, which has these places.
+fn meet<R: Threads + Wait + Sync>(
+    rt: &R,
+    alloc: Global,
+    book: &[u8],
+    best: &[u16],
+    point: Point,
+) -> Result<bool, Fail> {
     let meeting = Meeting::at(point);
-    let solved = solved(rt, alloc, TWO_DAYS, 2, &meeting)?;
-    Ok(is(&solved, BEST, 0) && meeting.took_place())
+    let solved = solved(rt, alloc, book, 2, &meeting)?;
+    Ok(is(&solved, best, 0) && meeting.took_place())
 }
 
-// One after the other, each would look in vain.
+// One after the other, each would look in vain. Here, who looks is in the search of a base, of which no two
+// threads take the same.
+#[test]
+fn two_workers_search_two_bases_at_one_time(rt: HostRuntime) -> Result<(), Fail> {
+    assert!(rt; meet(&rt, rt.alloc(), TWO_BASES, &[0, 1], Point::Base)?);
+    Ok(())
+}
+
 #[test]
 fn two_workers_have_parts_at_one_time(rt: HostRuntime) -> Result<(), Fail> {
-    assert!(rt; meet(&rt, rt.alloc(), Point::Ready)?);
+    assert!(rt; meet(&rt, rt.alloc(), TWO_DAYS, BEST, Point::Ready)?);
     Ok(())
 }
 
 #[test]
 fn two_workers_search_at_one_time(rt: HostRuntime) -> Result<(), Fail> {
-    assert!(rt; meet(&rt, rt.alloc(), Point::Look)?);
+    assert!(rt; meet(&rt, rt.alloc(), TWO_DAYS, BEST, Point::Look)?);
     Ok(())
 }
 
 /// A gate that counts the parts that are begun, and those that are finished.
 #[derive(Drop)]
 struct Counting {
+    bases: AtomicUsize,
     ready: AtomicUsize,
     looks: AtomicUsize,
     finished: AtomicUsize,
@@ -99,6 +113,7 @@ struct Counting {
 impl Gate for Counting {
     fn pass(&self, _worker: usize, point: Point) {
         let count = match point {
+            Point::Base => &self.bases,
             Point::Ready => &self.ready,
             Point::Look => &self.looks,
             Point::Finished => &self.finished,
@@ -107,8 +122,9 @@ impl Gate for Counting {
     }
 }
 
-/// Several parts were begun, workers looked in them, and all of them are finished.
+/// A base was searched; several parts were begun, workers looked in them, and all of them are finished.
 fn are_finished(rt: &impl Abort, counting: &Counting) {
+    assert!(rt; counting.bases.load(Ordering::SeqCst) > 0);
     let ready = counting.ready.load(Ordering::SeqCst);
     // Who comes first splits the root. The others may come when all is done.
     assert!(rt; ready >= 2);
@@ -119,6 +135,7 @@ fn are_finished(rt: &impl Abort, counting: &Counting) {
 #[test]
 fn each_part_begun_is_finished(rt: HostRuntime) -> Result<(), Fail> {
     let counting = Counting {
+        bases: AtomicUsize::new(0),
         ready: AtomicUsize::new(0),
         looks: AtomicUsize::new(0),
         finished: AtomicUsize::new(0),

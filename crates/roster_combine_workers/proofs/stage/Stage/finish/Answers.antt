@@ -7,7 +7,6 @@ use Rattle.roster_model.specs.Rosters.{Key}
 use Rattle.roster_subtreepool_spans.specs.Spans.{Span}
 use Rattle.roster_subtreepool.specs.States.{SettledSpan, Played, held}
 use Rattle.roster_subtreepool.proofs.TimesLemmas.{held_within}
-use Rattle.roster_incumbent.specs.Kept.{less_of}
 use Rattle.roster_combine_workers.specs.Parts.{IsSettled, Task}
 use Rattle.roster_combine_workers.specs.Replays.{IsReplaying, Replay}
 use Rattle.roster_combine_workers.proofs.ReplayLemmas.{replays-finish}
@@ -49,8 +48,8 @@ invariant_of-self-in-Err-finish g c =
     )
 
 -- the part is pushed to the worker's list
-pub invariant_of-self-in-Ok-finish : goal.invariant_of-self-in-Ok-finish
-invariant_of-self-in-Ok-finish g c =
+pub invariant_of-self-in-Ok : goal.invariant_of-self-in-Ok
+invariant_of-self-in-Ok g c =
     let lists = c.self.inside.lists.items in
     let worker = c.args.worker in
     let task : Task = record { problem = c.self.inside.problem.now; table = c.self.inside.table.now } in
@@ -69,28 +68,25 @@ invariant_of-self-in-Ok-finish g c =
     let is_settled : IsSettled task.problem task.table part =
     subst (λ (replay : Replay). IsSettled replay.task.problem replay.task.table part)
     (sym c.self.view_is) c.requires.settled in
-    let settled = c.in-Ok-finish.ensures.settled in
+    let settled = c.in-Ok.ensures.settled in
     let within : worker < length lists =
     omega (arith, held_within old worker span has, replaying.hands, length-map lists items) in
     let own : room.items ≡ slice_index_or (map items lists) worker [] =
     c.room_for.ensures.same ∙ ap items c.index_mut.ensures.value
     ∙ sym (get_or-map items lists worker c.index_mut.result.now [] within) in
-    let before : c.index_mut-in-Ok-finish.result.now ≡ room =
-    c.index_mut-in-Ok-finish.ensures.value
-    ∙ get_or-set_same lists worker room c.index_mut-in-Ok-finish.result.now within in
+    let before : c.index_mut-in-Ok.result.now ≡ room =
+    c.index_mut-in-Ok.ensures.value
+    ∙ get_or-set_same lists worker room c.index_mut-in-Ok.result.now within in
     let more : pushed.items ≡ slice_index_or (map items lists) worker [] ++ part ∷ [] =
     c.push_reserved.ensures.items
     ∙ ap₂ (λ (xs : List SettledSpan) (x : SettledSpan). xs ++ x ∷ []) (ap items before ∙ own) (ap₂ (λ (s : Span) (b : Key). record { span = s; best = b }) settled.0 settled.1) in
     let final : map items (slice_set (slice_set lists worker room) worker pushed) ≡ slice_set (map items lists) worker (slice_index_or (map items lists) worker [] ++ part ∷ []) =
     ap (map items) (set-set lists worker room pushed) ∙ map-set items lists worker pushed
     ∙ ap (slice_set (map items lists) worker) more in
-    let less : arc_value c.keep_less.new.best ≡ less_of known best =
-    c.keep_less.ensures ∙ ap (less_of known) c.in-Ok.ensures.best in
-    let finished = replays-finish task old next worker part (map items lists) known replaying has c.in-Ok-finish.ensures.adds.state is_settled in (
+    let finished = replays-finish task old next worker part (map items lists) known replaying has c.in-Ok.ensures.adds.state is_settled in (
       c.self.invariant.0,
       c.self.invariant.1,
-      subst (λ (ls : List (List SettledSpan)). IsReplaying task next ls (arc_value c.keep_less.new.best)) (sym final)
-          (subst (λ (key : Key). IsReplaying task next (slice_set (map items lists) worker (slice_index_or (map items lists) worker [] ++ part ∷ [])) key) (sym less) finished),
+      subst (λ (ls : List (List SettledSpan)). IsReplaying task next ls known) (sym final) finished,
       c.self.invariant.3,
       length-set (slice_set lists worker room) worker pushed ∙ length-set lists worker room
           ∙ c.self.invariant.4,
