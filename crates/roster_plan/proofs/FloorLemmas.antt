@@ -1,4 +1,7 @@
--- What pairings cost at least in a legal roster, one after another.
+-- What pairings cost at least in a legal roster, one after another. A pairing that is open costs its
+-- penalty. One that is placed costs the units of a person of the base for whom it is legal alone, since it
+-- is part of that person's set. Persons of other bases miss their targets by what their fixed duties leave
+-- of them, those of the base by nothing or more.
 use Rattle.std.proofs.Common.{◌≡◌, ℕ, suc, ◌+◌, ◌<◌, ◌≤◌, true, eqb, ltb, cond, List, [], ◌∷◌, length, drop, get_or, Some, refl, sym, ap, ◌∙◌, subst, inl, inr, arith, ℤ, pos, ◌+ℤ◌, ◌≤ℤ◌, eq-eqb}
 use Rattle.std.specs.Prelude.{slice_get}
 use Rattle.std.proofs.lemmas.Option.{get_or_from_slice_get, slice_get-get_or}

@@ -1,5 +1,7 @@
--- Which lines a neighbourhood has.
-use Rattle.std.proofs.Common.{◌≡◌, ℕ, ◌+◌, ◌<◌, Bool, true, false, eqb, List, [], length, refl, sym, ap, ◌∙◌, subst, inl, inr, arith}
+-- Which lines a neighbourhood has. Each legal roster that is near (`IsNear`) has its lines in the table
+-- (`of_near`), so the earlier one of the known roster and the table's least isn't after it. If persons of a
+-- base may have all, and nobody else anything, each legal roster of the base is near (`free_near`).
+use Rattle.std.proofs.Common.{◌≡◌, ℕ, ◌+◌, ◌<◌, Bool, true, false, eqb, List, [], length, refl, sym, ap, ap₂, ◌∙◌, subst, inl, inr, arith}
 use Rattle.std.specs.Prelude.{slice_get, Some, ◌||◌}
 use Rattle.std.proofs.lemmas.Bool.{cases_Bool, cases_lt, eq-eqb, false≢true}
 use Rattle.std.proofs.lemmas.Option.{slice_get_cases, slice_get_within, slice_get-get_or}
@@ -9,6 +11,7 @@ use Rattle.roster_model.specs.Rosters.{IsLegalRoster}
 use Rattle.roster_model.specs.Rules.{is_among}
 use Rattle.roster_model.proofs.LineLemmas.{given_line}
 use Rattle.roster_model.proofs.PlacesLemmas.{is_among-set_of_past}
+use Rattle.roster_model.proofs.SetLemmas.{empty_set}
 use Rattle.roster_lines_table.specs.Entries.{Entry}
 use Rattle.roster_lines_table.specs.Person.{lines_at, AreListed}
 use Rattle.roster_lines.specs.declared.wanted.Between.{Between}
@@ -55,10 +58,11 @@ HasAll-next p old new has members q below = elim (cases_lt q p) [
   | inr after ↦ members q ∙ either_true (is_among old q) (eqb p q) (eq-eqb p q (omega arith))
 ]
 
--- A person of the base is free who keeps nothing and may have each pairing; any other one keeps nothing.
+-- A person of the base is free who keeps nothing and may have each pairing; any other one keeps and may have nothing.
 pub record IsFree (problem : Problem) (base k : ℕ) (between : Between) : Type 0 where
   pub keeps : between.must ≡ []
   pub may : only base (base_of_person problem k) ≡ true → HasAll (length problem.pairings) between.may
+  pub none : only base (base_of_person problem k) ≡ false → between.may ≡ []
 
 abbrev pub AreFree : Problem → ℕ → List Between → Type 0
 AreFree problem base wanted =
@@ -81,3 +85,21 @@ free_near problem base wanted places free covers legal home k between at =
         | inr other ↦ absurd (false≢true (subst (λ set. is_among set p ≡ true) (home k person other) member))
       ];
     }
+
+-- and in each list of places that is near nobody else flies
+pub near_home : (problem : Problem) (base : ℕ) (wanted : List Between) (places : List ℕ)
+    → AreFree problem base wanted → length wanted ≡ length problem.persons
+    → IsNear wanted places → IsHome problem (only base) places
+near_home problem base wanted places free covers near k person other =
+    elim (slice_get_cases wanted k).1 [
+      | inl found ↦
+          let between = found.0 in
+          let is = free k between found.2 in
+          let nothing : (p : ℕ) → (is_among between.must p || is_among between.may p) ≡ false =
+          λ p. ap₂ (λ must may. is_among must p || is_among may p) is.keeps (is.none other) in
+          empty_set (set_of k places) (λ p. elim (cases_Bool (is_among (set_of k places) p)) [
+            | inl member ↦ absurd (false≢true (sym (nothing p) ∙ (near k between found.2).within p member))
+            | inr none ↦ none
+          ])
+      | inr past ↦ absurd (omega (arith, past.0, person, covers))
+    ]

@@ -1,4 +1,6 @@
--- A month is put together from its bases.
+-- A month is put together from its bases. A roster of the bases so far and of one base more costs as much
+-- above no pairings at all as its two halves do together, so bounds add up. The best roster of the bases so
+-- far, united with the best one of the next base, is the best of both (`united_not_after`).
 use Rattle.std.proofs.Common.{◌≡◌, ℕ, ◌+◌, ◌<◌, Bool, true, false, not, ◌&&◌, List, [], ◌∷◌, ◌++◌, length, get_or, Some, refl, sym, ap, ◌∙◌, subst, inl, inr, arith, ℤ, ◌+ℤ◌, ◌-ℤ◌}
 use Rattle.std.specs.Prelude.{◌⊎◌, slice_get, slice_set}
 use Rattle.std.proofs.lemmas.Bool.{both_ways, cases_eq, false≢true}

@@ -4,7 +4,8 @@
 //! and the least of its rosters is found. The best roster of a base with few legal sets is found so too: in
 //! that neighbourhood nobody keeps anything, persons of the base may have all, and nobody else has anything.
 
-ghost use Rattle.std.specs.Prelude.{◌≡◌, ◌<◌, ◌≤◌, ℕ, false, true, IfOk, IfSome, length};
+ghost use Rattle.std.specs.Prelude.{◌≡◌, ◌<◌, ◌≤◌, ℕ, false, true, IfOk, IfSome, List};
+ghost use Rattle.std.specs.Prelude.{length};
 ghost use Rattle.roster_lines_table.specs.Person.{AreListed};
 ghost use Rattle.roster_lines.specs.Listing.{AreAllPairs};
 ghost use Rattle.roster_model.specs.Rosters.{key_le};
@@ -138,12 +139,14 @@ fn table_near(
     }
 }
 
-/// The neighbourhood of all legal rosters in which only persons of the base fly: they keep nothing and may
-/// have all, and nobody else has anything.
+/// The neighbourhood of just the legal rosters in which only persons of the base fly: they keep nothing and
+/// may have all, and nobody else has anything.
 fn free_at(alloc: Global, problem: &Problem, base: usize) -> Result<Vec<Between>, AllocError>
     ensures covers { IfOk result (λ wanted. length wanted.items ≡ length problem.now.persons) }
     ensures all { IfOk result
         (λ wanted. EachHomeRoster problem.now (only base) (IsNear wanted.items)) }
+    ensures no_more { IfOk result (λ wanted. (places : List ℕ)
+        → IsNear wanted.items places → IsHome problem.now (only base) places) }
 {
     problem.is_sound();
     let all = all_of(problem.pairings().len());

@@ -1,6 +1,6 @@
 //! Rows of least values of chains, for each state of flight.
 
-ghost use Rattle.std.specs.Prelude.{◌≡◌, ◌≢◌, ◌⊎◌, ◌<◌, ◌≤◌, ◌+◌, ◌-◌, ◌*◌, ◌+ℤ◌, ◌≤ℤ◌, [], ℕ, true, false};
+ghost use Rattle.std.specs.Prelude.{◌≡◌, ◌≢◌, ◌<◌, ◌≤◌, ◌+◌, ◌-◌, ◌*◌, ◌+ℤ◌, ◌≤ℤ◌, [], ℕ, true, false};
 ghost use Rattle.std.specs.Prelude.{All, IfOk, IfSome, List, MatchOption, OnOk, length};
 ghost use Rattle.roster_model.specs.Rules.{is_among};
 ghost use Rattle.roster_cost.specs.Amounts.{IsWithin};
@@ -238,7 +238,10 @@ fn add_row(
 fn all_from(first: &Set, followers: &Set, p: usize, count: usize) -> usize
     requires inside { p < count }
     requires places { (q : ℕ) → is_among first.now q ≡ true → q < count }
-    ensures { (p < result) × (result ≤ count) }
+    ensures place { (p < result) × (result ≤ count) }
+    ensures follow { (q : ℕ) → result ≤ q → is_among first.now q ≡ true → is_among followers.now q ≡ true }
+    ensures last { p + 1 < result → (q : ℕ) × (result ≡ q + 1)
+        × (is_among first.now q ≡ true) × (is_among followers.now q ≡ false) }
 {
     let mut from = p + 1;
     let mut next = p + 1;
@@ -252,7 +255,8 @@ fn all_from(first: &Set, followers: &Set, p: usize, count: usize) -> usize
 /// The place behind `q`, or the one from before if `q` may follow.
 fn from_behind(followers: &Set, q: usize, from: usize) -> usize
     requires { q < MOST_PAIRINGS }
-    ensures { (result ≡ from) ⊎ (result ≡ q + 1) }
+    ensures follows { is_among followers.now q ≡ true → result ≡ from }
+    ensures apart { is_among followers.now q ≡ false → result ≡ q + 1 }
 {
     if followers.has(q) { from } else { q + 1 }
 }

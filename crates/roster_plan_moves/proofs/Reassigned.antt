@@ -1,4 +1,6 @@
--- A legal roster in which one person gets another legal set.
+-- A legal roster in which one person gets another legal set. One step of a run gives a person a set that was
+-- judged: who had any of it has a part of a legal set, which is legal, and so has the person beside it. So
+-- each order of steps keeps legality, and nothing else is proved of the moves.
 use Rattle.std.proofs.Common.{◌≡◌, ℕ, ◌<◌, ◌≤◌, true, false, cond, List, length, get_or, sym, ap, ◌∙◌, subst, inl, inr, arith}
 use Rattle.std.specs.Prelude.{All}
 use Rattle.std.specs.List.Sorted.{IsStrictlyIncreasing}

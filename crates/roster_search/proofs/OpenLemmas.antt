@@ -1,18 +1,24 @@
--- Open nodes of a search.
+-- Open nodes of a search. One law says what a list of open regions has (`AreOpenOf`): each roster of the
+-- question that costs at most so much is in one of them, and none from elsewhere. A visit keeps it: a roster
+-- is found, or nothing there is cheap and the region goes, or its two parts take its place.
 use Rattle.std.proofs.Common.{◌≡◌, ℕ, ◌+◌, ◌*◌, ◌^◌, ◌<◌, ◌≤◌, ◌⊎◌, inl, inr, All, IfSome, List, [], ◌∷◌, ◌++◌, Option, Some, None, ℤ, pos, ◌-ℤ◌, ◌≤ℤ◌, ap, sym, ◌∙◌, subst, arith}
 use Rattle.std.proofs.lemmas.Int.{ints}
 use Rattle.std.proofs.lemmas.List.Elements.{All-push}
 use Rattle.std.proofs.Math.Nat.{one-le-pow, pow-le-pow_right, pow-succ'}
 use Rattle.roster_model.specs.Costs.{cost_of}
+use Rattle.roster_model.specs.Places.{open_number}
 use Rattle.roster_model.specs.Problem.{Problem}
 use Rattle.roster_model.specs.Rosters.{Key}
 use Rattle.roster_model.specs.Settled.{CostsMore, IsWithinCost}
-use Rattle.roster_search_regions.specs.Regions.{size_of, Has, HasNot, IsIn, IsNarrowed, IsRegion, Region}
+use Rattle.roster_search_regions.specs.Regions.{size_of, IsIn, IsNarrowed, IsRegion, Region}
 use Rattle.roster_search_fixing.specs.Bounds.{CostsAtMost}
-use Rattle.roster_search.specs.Open.{limit_of, weight_of, AreOpenOf, IsExplored, IsInSome, IsOver, IsParted, IsVisited}
+use Rattle.roster_search_prices.specs.declared.branching.Split.{Split}
+use Rattle.roster_search_prices.specs.declared.branching.Split.TheVariants.{Holder, Flown}
+use Rattle.roster_search.specs.Branches.{IsOnFirst, IsOnOther}
+use Rattle.roster_search.specs.Open.{limit_of, weight_of, AreOpenOf, ArePartsOf, IsExplored, IsInSome, IsOver, IsParted, IsVisited}
 use Rattle.roster_search.specs.declared.visiting.Visited.{Visited}
 use Rattle.roster_search.specs.declared.visiting.Visited.TheVariants.{Nothing, Found, Parted}
-use Rattle.roster_search_fixing.proofs.Narrowing.{narrowed_then}
+use Rattle.roster_search_fixing.proofs.Narrowing.{narrowed_by_more, narrowed_then}
 use Rattle.roster_search_least.proofs.FindLemmas.{cost_cases, has_cases, more_than_part, within_part}
 use Rattle.roster_search_least.specs.Least.{IsCheapestWithin}
 
@@ -187,6 +193,25 @@ last_is_parted problem most old front new node having others same more are parte
 
 -- ---- one visit after another
 
+-- what is left of parts are parts
+pub parts_left : (problem : Problem) (whole : Region) (nodes left : List Region) (most : ℤ)
+    → ArePartsOf problem whole nodes → AreOpenOf problem (IsInSome problem nodes) most left
+    → ArePartsOf problem whole left
+parts_left problem whole nodes left most parts still = record {
+  is_region = parts.is_region;
+  are = still.are;
+  inside = λ places is. parts.inside places (still.inside places is);
+}
+
+-- a roster of the whole is known, and all is left
+pub known_explored : (problem : Problem) (Whole : List ℕ → Type 0) (most : ℤ) (nodes : List Region) (key : Key)
+    → All (IsRegion problem) nodes → IsWithinCost problem Whole most key
+    → IsExplored problem Whole (IsInSome problem nodes) most (Some key) nodes
+known_explored problem Whole most nodes key are within = record {
+  found = within;
+  still = record { are = are; inside = λ places is. is; all = λ places is cheap. is };
+}
+
 -- at first nothing is found, and all is left
 pub nothing_explored : (problem : Problem) (most : ℤ) (nodes : List Region) → All (IsRegion problem) nodes
     → IsExplored problem (IsInSome problem nodes) (IsInSome problem nodes) most None nodes
@@ -327,24 +352,42 @@ pub in_one : (problem : Problem) (node : Region) (nodes : List Region) → nodes
     → (places : List ℕ) → IsIn problem node places → IsInSome problem nodes places
 in_one problem node nodes same places here = subst (λ xs. IsInSome problem xs places) (sym same) (inl here)
 
+-- a region is the one part of itself
+pub one_part : (problem : Problem) (node : Region) (nodes : List Region) → IsRegion problem node
+    → nodes ≡ [] ++ node ∷ [] → ArePartsOf problem node nodes
+one_part problem node nodes is same = record {
+  is_region = is;
+  are =
+      subst (All (IsRegion problem)) (sym same)
+      (All-push (IsRegion problem) [] node (λ k d less. absurd (omega (arith, less))) is);
+  inside = of_one problem node nodes same;
+}
+
 -- what is found in all of a region when its search is over
 pub one_is_over : (problem : Problem) (node : Region) (nodes left : List Region) (most enough : ℤ)
     (best : Option Key) → nodes ≡ [] ++ node ∷ [] → IsOver enough best left
-    → IsExplored problem (IsInSome problem nodes) (IsInSome problem nodes) most best left
+    → IsExplored problem (IsIn problem node) (IsInSome problem nodes) most best left
     → IsCheapestWithin problem (IsIn problem node) most enough best
 one_is_over problem node nodes left most enough best same over explored =
-    explored_is_over problem (IsIn problem node) (IsInSome problem nodes) most enough best left (in_one problem node nodes same) over (explored_in problem (IsInSome problem nodes) (IsIn problem node) (IsInSome problem nodes) most best left (of_one problem node nodes same) explored)
+    explored_is_over problem (IsIn problem node) (IsInSome problem nodes) most enough best left (in_one problem node nodes same) over explored
 
 -- what a branch makes of it
-pub parted_by : (problem : Problem) (k p : ℕ) (most : ℤ) (region having others : Region)
-    → IsNarrowed problem (Has k p) region having → IsNarrowed problem (HasNot k p) region others
+on_a_side : (problem : Problem) (branch : Split) (places : List ℕ)
+    → IsOnFirst problem branch places ⊎ IsOnOther problem branch places
+on_a_side problem (Holder k p) places = has_cases k p places
+on_a_side problem (Flown p) places =
+    elim (has_cases (open_number problem) p places) [ inl free ↦ inr free | inr flown ↦ inl flown ]
+
+pub parted_by : (problem : Problem) (branch : Split) (most : ℤ) (region having others : Region)
+    → IsNarrowed problem (IsOnFirst problem branch) region having
+    → IsNarrowed problem (IsOnOther problem branch) region others
     → size_of having < size_of region → size_of others < size_of region
     → IsParted problem region most having others
-parted_by problem k p most region having others given denied fewer less = record {
+parted_by problem branch most region having others given denied fewer less = record {
   is_having = given.region;
   is_others = denied.region;
   inside = λ places is. elim is [ inl has ↦ given.inside places has | inr rest ↦ denied.inside places rest ];
-  all = λ places here cheap. elim (has_cases k p places) [
+  all = λ places here cheap. elim (on_a_side problem branch places) [
     | inl has ↦ inl (given.kept places here has)
     | inr not ↦ inr (denied.kept places here not)
   ];
@@ -373,3 +416,30 @@ visited_in_part problem most old mid (Parted having others) part parted =
       fewer_having = omega (arith, less, one);
       fewer_others = omega (arith, less, two);
     }
+
+-- what comes of a node if less may be paid, where no roster costs what lies between
+pub visited_at_most : (problem : Problem) (node : Region) (most least : ℤ) (visited : Visited)
+    → least ≤ℤ most
+    → ((places : List ℕ) → IsIn problem node places → CostsAtMost problem most places → CostsAtMost problem least places)
+    → IsVisited problem node least visited → IsVisited problem node most visited
+visited_at_most problem node most least Nothing below same none =
+    λ others legal inside. elim (cost_cases most (cost_of problem others)) [
+      | inl cheap ↦
+          let few = same others inside cheap in
+          let more = none others legal inside in
+          absurd (omega (arith, ints))
+      | inr more ↦ more
+    ]
+visited_at_most problem node most least (Found key left) below same found =
+    let within = found.0.within in (
+      record { held = found.0.held; inside = found.0.inside; within = omega (arith, ints) },
+      narrowed_by_more problem (CostsAtMost problem least) (CostsAtMost problem most) node left found.1 same,
+    )
+visited_at_most problem node most least (Parted having others) below same parted = record {
+  is_having = parted.is_having;
+  is_others = parted.is_others;
+  inside = parted.inside;
+  all = λ places is cheap. parted.all places is (same places is cheap);
+  fewer_having = parted.fewer_having;
+  fewer_others = parted.fewer_others;
+}

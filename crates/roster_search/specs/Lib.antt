@@ -1,3 +1,4 @@
 pub mod Refined
+pub mod Branches
 pub mod Open
 pub mod Limited

@@ -8,7 +8,7 @@ use Rattle.roster_search_fixing.specs.Bounds.{CostsAtMost}
 use Rattle.roster_search.specs.declared.visiting.Visited.{Visited}
 use Rattle.roster_search.specs.declared.visiting.Visited.TheVariants.{Nothing, Found, Parted}
 
--- Two parts of the region with fewer lines. Each roster of it that costs at most so much is in one of them.
+-- Two parts of the region in which less is left to decide. Each roster of it that costs at most so much is in one of them.
 pub record IsParted (problem : Problem) (region : Region) (most : ℤ) (having others : Region) : Type 0 where
   pub is_having : IsRegion problem having
   pub is_others : IsRegion problem others
@@ -32,6 +32,12 @@ IsVisited problem region most (Parted having others) = IsParted problem region m
 abbrev pub IsInSome : Problem → List Region → List ℕ → Type 0
 IsInSome problem [] places = ⊥
 IsInSome problem (region ∷ rest) places = IsIn problem region places ⊎ IsInSome problem rest places
+
+-- regions that are parts of a whole one
+pub record ArePartsOf (problem : Problem) (whole : Region) (parts : List Region) : Type 0 where
+  pub is_region : IsRegion problem whole
+  pub are : All (IsRegion problem) parts
+  pub inside : (places : List ℕ) → IsInSome problem parts places → IsIn problem whole places
 
 -- What is left to search of some rosters: each of them that costs at most so much is in one of the regions,
 -- and no others are there.
@@ -59,7 +65,7 @@ pub record IsExplored (problem : Problem) (Whole Rosters : List ℕ → Type 0) 
   pub found : IfSome best (IsWithinCost problem Whole most)
   pub still : AreOpenOf problem Rosters (limit_of most best) left
 
--- how much there is to search at most: three times as much with a line more
+-- how much there is to search at most: three times as much with a line more, or a pairing that may be open
 abbrev pub weight_of : List Region → ℕ
 weight_of [] = 0
 weight_of (region ∷ rest) = 3 ^ size_of region + weight_of rest

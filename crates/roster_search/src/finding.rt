@@ -4,11 +4,11 @@ ghost use Rattle.std.specs.Prelude.{IfOk};
 ghost use Rattle.roster_search_least.specs.Least.{IsCheapestWithin};
 ghost use Rattle.roster_search_regions.specs.Regions.{IsIn, IsRegion};
 
-use crate::exploring::{Explored, explore, limit};
+use crate::exploring::{Explored, explore, first_nodes, limit};
 use crate::stop::{Never, Stop};
-use crate::visiting::OpenNode;
 use roster_problem::Problem;
 use roster_search_least::Finder;
+use roster_search_prices::Relaxation;
 use roster_search_regions::{DualPrices, Region};
 use roster_values::Roster;
 use std::alloc::{AllocError, Global};
@@ -23,6 +23,7 @@ pub fn find<S: Stop>(
     problem: &Problem,
     region: Region,
     prices: &DualPrices,
+    relaxation: &mut Relaxation,
     most: i64,
     enough: i64,
     stop: &mut S,
@@ -32,9 +33,10 @@ pub fn find<S: Stop>(
         (IsCheapestWithin problem.now (IsIn problem.now region) most enough) }
     ensures goes_on { S.goes_on stop.old stop.new }
 {
-    let mut nodes = Vec::new(alloc);
-    nodes.push(OpenNode::new(region, prices.copy(alloc)?))?;
-    let Explored { best, left } = explore(alloc, problem, nodes, most, enough, stop)?;
+    let nodes = first_nodes(alloc, &region, prices)?;
+    let Explored { best, left } = explore(
+        alloc, problem, &region, nodes, most, enough, relaxation, stop,
+    )?;
     match limit(most, enough, &best, &left) {
         Some(_) => Err(AllocError),
         None => Ok(best),
@@ -52,10 +54,13 @@ impl Finder for Never {
         problem: &Problem,
         region: Region,
         prices: &DualPrices,
+        relaxation: &mut Relaxation,
         most: i64,
         enough: i64,
     ) -> Result<Option<Roster>, AllocError> {
-        find(alloc, problem, region, prices, most, enough, self)
+        find(
+            alloc, problem, region, prices, relaxation, most, enough, self,
+        )
     }
 
     ghost stays = { λ now. tt };

@@ -13,7 +13,9 @@
 //! - `exploring`: open nodes of which the last one is visited first
 //! - `stop`: who is told of the nodes of a search, and may end it
 //! - `visiting`: what is still to be searched, and what comes of it
-//! - `refining`: a region made smaller by prices that rise
+//! - `parting`: what a region is parted by, and its two sides
+//! - `refining`: a region made smaller by good prices
+//! - `rising`: a region made smaller by prices that rise
 //! - `tuning`: the numbers that decide how long a search takes
 #![tactic(auto)]
 
@@ -21,15 +23,17 @@ mod boxes;
 mod exploring;
 mod finding;
 mod limited;
+mod parting;
 mod parts;
 mod refining;
+mod rising;
 mod root;
 mod stop;
 mod tuning;
 mod visiting;
 
 pub use boxes::{least_of_box, least_with};
-pub use exploring::{Explored, explore, limit};
+pub use exploring::{Explored, explore, first_nodes, limit};
 pub use finding::find;
 pub use limited::{Searched, least_within};
 pub use root::root_prices_by_threads;

@@ -10,9 +10,11 @@ use crate::stop::Stop;
 use roster_lines_table::Table;
 use roster_problem::Problem;
 use roster_search_least::{Finder, least_of_region, whole};
+use roster_search_prices::Relaxation;
 use roster_search_regions::{DualPrices, Region};
 use roster_values::Roster;
 use std::alloc::{AllocError, Global};
+use std::sync::Arc;
 
 /// What comes of a search that may be given up.
 #[derive(Drop)]
@@ -89,6 +91,10 @@ impl Stop for Patience {
         }
     }
 
+    fn shown(&mut self) -> Option<Arc<Roster>> {
+        None
+    }
+
     fn found(&mut self, _roster: &Roster) {}
 
     ghost stays = { λ now. tt };
@@ -107,10 +113,13 @@ impl Finder for Patience {
         problem: &Problem,
         region: Region,
         prices: &DualPrices,
+        relaxation: &mut Relaxation,
         most: i64,
         enough: i64,
     ) -> Result<Option<Roster>, AllocError> {
-        find(alloc, problem, region, prices, most, enough, self)
+        find(
+            alloc, problem, region, prices, relaxation, most, enough, self,
+        )
     }
 
     ghost stays = { λ now. tt };

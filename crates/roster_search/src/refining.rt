@@ -1,23 +1,24 @@
-//! Regions made smaller by prices that rise.
+//! Regions made smaller by good prices.
 
-ghost use Rattle.std.specs.Prelude.{◌<◌, IfOk, IfSome, MatchOption, length};
+ghost use Rattle.std.specs.Prelude.{IfOk, IfSome};
 ghost use Rattle.roster_model.specs.Settled.{IsHeld, IsWithinCost};
 ghost use Rattle.roster_search_regions.specs.Prices.{ArePrices};
-ghost use Rattle.roster_search_regions.specs.Regions.{IsDecided, IsIn, IsNarrowed, IsRegion, IsSplit};
+ghost use Rattle.roster_search_regions.specs.Regions.{IsIn, IsNarrowed, IsRegion};
 ghost use Rattle.roster_search_fixing.specs.Bounds.{CostsAtMost};
 ghost use Rattle.roster_search.specs.Refined.{IsFixed, IsRefined};
 
+use crate::rising::risen;
 use crate::root::room;
-use crate::tuning::{FIRST_ROUNDING, MANY_LINES, NODE_STEPS};
+use crate::tuning::MOST_SOLUTIONS;
 use roster_problem::Problem;
-use roster_search_fixing::{is_split, pick, tighten};
+use roster_search_fixing::tighten;
 use roster_search_least::roster_in;
-use roster_search_prices::{Ascent, branch, rounded};
+use roster_search_prices::{Relaxation, rounded};
 use roster_search_regions::{DualPrices, Region};
 use roster_values::Roster;
 use std::alloc::{AllocError, Global};
 
-/// What is known of a region after its prices have risen.
+/// What is known of a region that was made smaller.
 #[derive(Drop)]
 pub(crate) enum Refined {
     /// No roster costs so little.
@@ -28,143 +29,109 @@ pub(crate) enum Refined {
     Part,
 }
 
-/// Raises the prices step by step, leaves out of the region what costs more than it may by them, and
-/// rounds a roster now and then. The best prices of the ascent are good ones for what is left.
+/// Leaves out of the region what costs more than it may by good prices, and rounds a roster: by those of the
+/// relaxation if it has rows, and else by prices that rise. The prices, from which it begins, are then good ones
+/// for what is left.
 pub(crate) fn refine(
     alloc: Global,
     problem: &Problem,
     region: &mut Region,
-    ascent: &mut Ascent,
+    prices: &mut DualPrices,
+    relaxation: &mut Relaxation,
     most: i64,
 ) -> Result<Refined, AllocError>
     requires { IsRegion problem.now region.old }
     ensures { IfOk result (IsRefined problem.now most region.old region.new) }
 {
-    let room = room(region, most);
-    if !fix_first(alloc, problem, region, ascent, most)? {
+    if relaxation.is_on() {
+        relaxed(alloc, problem, region, prices, relaxation, most)
+    } else {
+        risen(alloc, problem, region, prices, most)
+    }
+}
+
+/// `refine`, by prices of a linear program.
+fn relaxed(
+    alloc: Global,
+    problem: &Problem,
+    region: &mut Region,
+    prices: &mut DualPrices,
+    relaxation: &mut Relaxation,
+    most: i64,
+) -> Result<Refined, AllocError>
+    requires { IsRegion problem.now region.old }
+    ensures { IfOk result (IsRefined problem.now most region.old region.new) }
+{
+    if !tighten(alloc, problem, region, prices.prices(), most)? {
         return Ok(Refined::Nothing);
     }
-    for step in 0..NODE_STEPS {
-        if !fix(alloc, problem, region, ascent, most, room)? {
-            return Ok(Refined::Nothing);
-        }
-        if let Some(roster) = cheap_at(alloc, problem, region, ascent, most, room, step)? {
-            return Ok(Refined::Found(roster));
-        }
-        soften(ascent, room, step);
-        ascent.step(problem, region)?;
-    }
-    if !tighten(alloc, problem, region, ascent.best(), most)? {
+    if !fix_by_solutions(alloc, problem, region, relaxation, most)? {
         return Ok(Refined::Nothing);
     }
-    Ok(Refined::Part)
+    prices.take(relaxation.best());
+    match cheap(alloc, problem, region, relaxation.prices(), most)? {
+        Some(roster) => Ok(Refined::Found(roster)),
+        None => Ok(Refined::Part),
+    }
 }
 
-/// Leaves out of the region what costs more than it may by the prices, if that is worth its time. If it
-/// answers no, each roster costs more.
-fn fix(
+/// Leaves out of the region what costs more than it may by the prices of one solution of the program after
+/// another, as long as that is worth it. If it answers no, each roster costs more.
+fn fix_by_solutions(
     alloc: Global,
     problem: &Problem,
     region: &mut Region,
-    ascent: &mut Ascent,
-    most: i64,
-    room: i64,
-) -> Result<bool, AllocError>
-    requires { IsRegion problem.now region.old }
-    ensures { IfOk result (IsFixed problem.now most region.old region.new) }
-{
-    if ascent.is_decided() {
-        return Ok(true);
-    }
-    if !ascent.look(alloc, problem, region, room)? {
-        return Ok(true);
-    }
-    fix_by_prices(alloc, problem, region, ascent, most)
-}
-
-/// Leaves out of a region of many lines what costs more than it may by the prices, before they are looked
-/// at: that is cheaper than a look, and often leaves little to look at. If it answers no, each roster costs
-/// more.
-fn fix_first(
-    alloc: Global,
-    problem: &Problem,
-    region: &mut Region,
-    ascent: &mut Ascent,
+    relaxation: &mut Relaxation,
     most: i64,
 ) -> Result<bool, AllocError>
     requires { IsRegion problem.now region.old }
     ensures { IfOk result (IsFixed problem.now most region.old region.new) }
 {
-    if ascent.lines() <= MANY_LINES {
-        return Ok(true);
+    relaxation.begin(alloc, problem, region)?;
+    for _ in 0..MOST_SOLUTIONS {
+        let before = left_in(problem, region);
+        relaxation.solve(alloc, problem, region)?;
+        relaxation.look(problem, region)?;
+        if !tighten(alloc, problem, region, relaxation.prices(), most)? {
+            return Ok(false);
+        }
+        let is_smaller = left_in(problem, region) < before;
+        if !relaxation.goes_on(problem, region, is_smaller)? {
+            return Ok(true);
+        }
     }
-    fix_by_prices(alloc, problem, region, ascent, most)
-}
-
-/// Leaves out of the region what costs more than it may by the prices. If it answers no, each roster costs
-/// more.
-fn fix_by_prices(
-    alloc: Global,
-    problem: &Problem,
-    region: &mut Region,
-    ascent: &mut Ascent,
-    most: i64,
-) -> Result<bool, AllocError>
-    requires { IsRegion problem.now region.old }
-    ensures { IfOk result (IsFixed problem.now most region.old region.new) }
-{
-    if !tighten(alloc, problem, region, ascent.prices(), most)? {
-        return Ok(false);
-    }
-    ascent.renew(problem, region)?;
     Ok(true)
 }
 
-/// Has the prices count lines as far from the least as the gap says: from the second look on, when the gap
-/// is known well, and then at most.
-fn soften(ascent: &mut Ascent, room: i64, step: usize) {
-    if step == 1 {
-        ascent.begin_at_gap(room);
-    } else {
-        ascent.sharpen_to_gap(room);
+/// How much is left to decide in the region: lines, and whether pairings are open.
+pub(crate) fn left_in(problem: &Problem, region: &Region) -> usize {
+    let mut left: usize = 0;
+    for k in 0..region.persons() {
+        left = left.wrapping_add(region.width(k));
     }
-}
-
-/// After some of the steps, a roster of the region that is rounded from the prices, if it costs at most
-/// so much.
-fn cheap_at(
-    alloc: Global,
-    problem: &Problem,
-    region: &Region,
-    ascent: &Ascent,
-    most: i64,
-    room: i64,
-    step: usize,
-) -> Result<Option<Roster>, AllocError>
-    requires { IsRegion problem.now region.now }
-    ensures { IfOk result (λ roster. IfSome roster
-        (IsWithinCost problem.now (IsIn problem.now region.now) most)) }
-{
-    if step != FIRST_ROUNDING && step != NODE_STEPS - 1 {
-        return Ok(None);
+    for p in 0..problem.pairings().len() {
+        if !region.is_flown(p) && !region.is_left_open(p) {
+            left = left.wrapping_add(1);
+        }
     }
-    cheap(alloc, problem, region, ascent, most, room)
+    left
 }
 
 /// A roster of the region that is rounded from the prices, if it costs at most so much.
-fn cheap(
+pub(crate) fn cheap(
     alloc: Global,
     problem: &Problem,
     region: &Region,
-    ascent: &Ascent,
+    prices: &[i64],
     most: i64,
-    room: i64,
 ) -> Result<Option<Roster>, AllocError>
-    requires { IsRegion problem.now region.now }
+    requires region { IsRegion problem.now region.now }
+    requires prices { ArePrices prices.now }
     ensures { IfOk result (λ roster. IfSome roster
         (IsWithinCost problem.now (IsIn problem.now region.now) most)) }
 {
-    let Some(roster) = rounded_in(alloc, problem, region, ascent.prices(), room)? else {
+    let room = room(region, most);
+    let Some(roster) = rounded_in(alloc, problem, region, prices, room)? else {
         return Ok(None);
     };
     if roster.cost > most {
@@ -191,25 +158,4 @@ fn rounded_in(
         return Ok(None);
     };
     roster_in(alloc, problem, region, places)
-}
-
-/// The person and the pairing to settle next, if all isn't decided.
-pub(crate) fn next_split(
-    alloc: Global,
-    problem: &Problem,
-    region: &Region,
-    prices: &DualPrices,
-) -> Result<Option<(usize, usize)>, AllocError>
-    requires { IsRegion problem.now region.now }
-    ensures { IfOk result (λ split. MatchOption split (IsDecided region.now) (λ split.
-        IsSplit region.now split.0 split.1 × (split.0 < length problem.now.persons)
-        × (split.1 < length problem.now.pairings))) }
-{
-    let (k, p) = branch(alloc, problem, region, prices)?;
-    if k < problem.persons().len() && p < problem.pairings().len() {
-        if is_split(region, k, p) {
-            return Ok(Some((k, p)));
-        }
-    }
-    Ok(pick(problem, region))
 }

@@ -1,14 +1,18 @@
 //! Prices to begin with.
 
-ghost use Rattle.std.specs.Prelude.{◌≡◌, ◌<◌, IfOk, IsTrue, length};
+ghost use Rattle.std.specs.Prelude.{◌≡◌, ◌<◌, IfOk, IsTrue, OnOk, length};
 ghost use Rattle.roster_search_regions.specs.Regions.{IsRegion};
 
-use crate::tuning::{FEW_LINES_TO_FIX, LAST_ROOT_STEP, ROOT_STEPS, STEPS_A_ROUNDING};
+use crate::refining::left_in;
+use crate::tuning::{
+    FEW_LINES_TO_FIX, FEW_ROWS, MOST_SOLUTIONS, ROOT_STEPS, STEPS_A_ROUNDING, STEPS_OF_FEW_ROWS,
+    STEPS_OF_MANY_ROWS,
+};
 use roster_cost::roster_cost;
 use roster_problem::Problem;
 use roster_search_fixing::tighten;
 use roster_search_least::RootPrices;
-use roster_search_prices::Ascent;
+use roster_search_prices::{Ascent, Relaxation, rounded};
 use roster_search_regions::{DualPrices, Region};
 use std::alloc::{AllocError, Global};
 use std::thread::Threads;
@@ -26,6 +30,7 @@ pub(crate) fn root_prices(
 {
     let mut rise = Rise::new(alloc, problem, region, first, limit)?;
     rise.end(alloc, problem, region)?;
+    rise.relax(alloc, problem, region)?;
     Ok(rise.prices(region))
 }
 
@@ -45,6 +50,7 @@ pub fn root_prices_by_threads<R: Threads + Sync>(
 {
     let mut rise = Rise::new(alloc, problem, region, first, limit)?;
     rise.end_by_threads(rt, alloc, threads, problem, region)?;
+    rise.relax_by_threads(rt, alloc, threads, problem, region)?;
     Ok(rise.prices(region))
 }
 
@@ -52,6 +58,9 @@ pub fn root_prices_by_threads<R: Threads + Sync>(
 #[derive(Drop)]
 struct Rise {
     ascent: Ascent,
+    // How many steps it takes at most.
+    steps: usize,
+    relaxation: Relaxation,
     // What is left of the region by the prices.
     part: Region,
     // The cheapest roster that was rounded.
@@ -72,8 +81,11 @@ impl Rise {
         requires { IsRegion problem.now region.now }
         ensures { IfOk result (λ rise. IsRegion problem.now rise.part) }
     {
+        let relaxation = Relaxation::new(alloc, problem, region)?;
         Ok(Rise {
             ascent: Ascent::at_root(alloc, problem, region, first)?,
+            steps: steps_before(&relaxation),
+            relaxation,
             part: region.copy(alloc)?,
             rounded: None,
             most: limit,
@@ -84,8 +96,9 @@ impl Rise {
     fn end(&mut self, alloc: Global, problem: &Problem, region: &Region) -> Result<(), AllocError>
         requires region { IsRegion problem.now region.now }
         requires part { IsRegion problem.now self.old.part }
+        ensures { OnOk result (IsRegion problem.now self.new.part) }
     {
-        for step in 0..ROOT_STEPS {
+        for step in 0..self.steps {
             let room = self.room(region);
             let is_worth = self.ascent.look(alloc, problem, &self.part, room)?;
             if !self.goes_on(alloc, problem, region, is_worth, step)? {
@@ -107,8 +120,9 @@ impl Rise {
         requires region { IsRegion problem.now region.now }
         requires part { IsRegion problem.now self.old.part }
         requires threads { 0 < threads }
+        ensures { OnOk result (IsRegion problem.now self.new.part) }
     {
-        for step in 0..ROOT_STEPS {
+        for step in 0..self.steps {
             let room = self.room(region);
             let is_worth = self
                 .ascent
@@ -137,9 +151,9 @@ impl Rise {
     ) -> Result<bool, AllocError>
         requires region { IsRegion problem.now region.now }
         requires part { IsRegion problem.now self.old.part }
-        ensures { IfOk result (λ on. IsTrue on → IsRegion problem.now self.new.part) }
+        ensures { OnOk result (IsRegion problem.now self.new.part) }
     {
-        if !self.fix(alloc, problem, is_worth)? {
+        if !self.fix(alloc, problem, region, is_worth)? {
             return Ok(false);
         }
         self.moves(alloc, problem, region, step)
@@ -160,10 +174,10 @@ impl Rise {
             self.ascent.step(problem, &self.part)?;
             return Ok(true);
         }
-        if step % STEPS_A_ROUNDING == 0 {
+        if step % STEPS_A_ROUNDING == 0 || self.is_last(step) {
             self.round(alloc, problem, step)?;
         }
-        if step >= LAST_ROOT_STEP || (self.is_at_end(region) && self.ascent.is_full()) {
+        if self.is_last(step) || (self.is_at_end(region) && self.ascent.is_full()) {
             self.ascent.confirm(alloc, problem, &self.part)?;
             return Ok(false);
         }
@@ -177,15 +191,28 @@ impl Rise {
         Ok(true)
     }
 
+    /// Whether it is the last step.
+    fn is_last(&self, step: usize) -> bool {
+        step >= self.steps.saturating_sub(1)
+    }
+
     /// Whether all is decided, or nothing cheaper is left, as far as is known.
     fn is_at_end(&self, region: &Region) -> bool {
         self.ascent.is_decided() || self.ascent.bound() > room(region, self.most.saturating_sub(1))
     }
 
-    /// Leaves out of the part what costs more than may be paid, if that is worth its time. False if all does.
-    fn fix(&mut self, alloc: Global, problem: &Problem, is_worth: bool) -> Result<bool, AllocError>
-        requires { IsRegion problem.now self.old.part }
-        ensures { IfOk result (λ left. IsTrue left → IsRegion problem.now self.new.part) }
+    /// Leaves out of the part what costs more than may be paid, if that is worth its time. False if all does,
+    /// and then the part has all again.
+    fn fix(
+        &mut self,
+        alloc: Global,
+        problem: &Problem,
+        region: &Region,
+        is_worth: bool,
+    ) -> Result<bool, AllocError>
+        requires region { IsRegion problem.now region.now }
+        requires part { IsRegion problem.now self.old.part }
+        ensures { OnOk result (IsRegion problem.now self.new.part) }
     {
         if !is_worth || self.ascent.is_decided() || self.ascent.lines() > FEW_LINES_TO_FIX {
             return Ok(true);
@@ -197,6 +224,7 @@ impl Rise {
             self.ascent.prices(),
             self.most,
         )? {
+            self.part = region.copy(alloc)?;
             return Ok(false);
         }
         self.ascent.renew(problem, &self.part)?;
@@ -228,15 +256,128 @@ impl Rise {
         }
     }
 
+    /// Whether a linear program may tell more: it has rows, and something cheaper may be left. Then it has its
+    /// first lines, by the best prices, and the roster that was rounded.
+    fn begins(
+        &mut self,
+        alloc: Global,
+        problem: &Problem,
+        region: &Region,
+    ) -> Result<bool, AllocError>
+        requires { IsRegion problem.now self.old.part }
+        ensures { IfOk result (λ on. IsTrue on → IsRegion problem.now self.new.part) }
+    {
+        if !self.relaxation.is_on() || self.is_at_end(region) {
+            return Ok(false);
+        }
+        let prices = self.ascent.best();
+        if !tighten(alloc, problem, &mut self.part, prices, self.most)? {
+            return Ok(false);
+        }
+        self.relaxation.take_lines(problem, &self.part, prices)?;
+        if let Some(places) = &self.rounded {
+            self.relaxation.take_roster(problem, &self.part, places)?;
+        }
+        self.relaxation.begin(alloc, problem, &self.part)?;
+        Ok(true)
+    }
+
+    /// Solves a linear program, whose dual prices leave less of the part, as long as that is worth it.
+    fn relax(&mut self, alloc: Global, problem: &Problem, region: &Region) -> Result<(), AllocError>
+        requires { IsRegion problem.now self.old.part }
+    {
+        if !self.begins(alloc, problem, region)? {
+            return Ok(());
+        }
+        for _ in 0..MOST_SOLUTIONS {
+            self.relaxation.solve(alloc, problem, &self.part)?;
+            self.relaxation.look(problem, &self.part)?;
+            if !self.narrows(alloc, problem)? {
+                return Ok(());
+            }
+        }
+        Ok(())
+    }
+
+    /// `relax`, for which so many threads look at the lines.
+    fn relax_by_threads<R: Threads + Sync>(
+        &mut self,
+        rt: &R,
+        alloc: Global,
+        threads: usize,
+        problem: &Problem,
+        region: &Region,
+    ) -> Result<(), AllocError>
+        requires part { IsRegion problem.now self.old.part }
+        requires threads { 0 < threads }
+    {
+        if !self.begins(alloc, problem, region)? {
+            return Ok(());
+        }
+        for _ in 0..MOST_SOLUTIONS {
+            self.relaxation.solve(alloc, problem, &self.part)?;
+            self.relaxation
+                .look_by_threads(rt, alloc, threads, problem, &self.part)?;
+            if !self.narrows(alloc, problem)? {
+                return Ok(());
+            }
+        }
+        Ok(())
+    }
+
+    /// Leaves out of the part what costs more than may be paid by the prices of the linear program, and rounds a
+    /// roster by them at the end. False if that is no longer worth it.
+    fn narrows(&mut self, alloc: Global, problem: &Problem) -> Result<bool, AllocError>
+        requires { IsRegion problem.now self.old.part }
+        ensures { IfOk result (λ on. IsTrue on → IsRegion problem.now self.new.part) }
+    {
+        let before = left_in(problem, &self.part);
+        let prices = self.relaxation.prices();
+        if !tighten(alloc, problem, &mut self.part, prices, self.most)? {
+            return Ok(false);
+        }
+        let is_smaller = left_in(problem, &self.part) < before;
+        if self.relaxation.goes_on(problem, &self.part, is_smaller)? {
+            return Ok(true);
+        }
+        let room = room(&self.part, self.most.saturating_sub(1));
+        if let Some(places) = rounded(
+            alloc,
+            problem,
+            &self.part,
+            self.relaxation.prices(),
+            room,
+            0,
+        )? {
+            self.take(problem, places);
+        }
+        Ok(false)
+    }
+
     /// The prices of the greatest bound.
     fn prices(self, region: &Region) -> RootPrices {
-        let likely = likely(region, self.ascent.bound());
-        let prices = self.ascent.into_best();
+        let bound = self.ascent.bound().max(self.relaxation.bound());
+        let mut prices = self.ascent.into_best();
+        if self.relaxation.bound() >= bound {
+            prices.take(self.relaxation.best());
+        }
         RootPrices {
             prices,
-            likely,
+            relaxation: self.relaxation,
+            likely: likely(region, bound),
             rounded: self.rounded,
         }
+    }
+}
+
+/// How often prices move before a linear program is solved, or at most if there is none.
+fn steps_before(relaxation: &Relaxation) -> usize {
+    if !relaxation.is_on() {
+        ROOT_STEPS
+    } else if relaxation.rows() > FEW_ROWS {
+        STEPS_OF_MANY_ROWS
+    } else {
+        STEPS_OF_FEW_ROWS
     }
 }
 

@@ -5,8 +5,17 @@
 /// 20 crew and 7 days, and 630 with twice as many.
 pub(crate) const ROOT_STEPS: usize = 300;
 
-/// The number of the last of them.
-pub(crate) const LAST_ROOT_STEP: usize = ROOT_STEPS - 1;
+/// How often they move, at most, if a linear program is solved then.
+pub(crate) const STEPS_OF_FEW_ROWS: usize = 30;
+
+/// And if it has more rows than few: good prices to begin with save half of its steps.
+pub(crate) const STEPS_OF_MANY_ROWS: usize = 80;
+
+/// See `STEPS_OF_MANY_ROWS`.
+pub(crate) const FEW_ROWS: usize = 150;
+
+/// How often a linear program is solved at a node, at most.
+pub(crate) const MOST_SOLUTIONS: usize = 100;
 
 /// After so many of these steps a roster is rounded again, unless the look is at a sample. With 8 a `full`
 /// month takes 1 of a hundred longer, and with 16 a `large` one took a third longer.

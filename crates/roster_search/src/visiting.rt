@@ -1,14 +1,17 @@
 //! Open nodes of a search: parts of a region that are still to be searched.
 
-ghost use Rattle.std.specs.Prelude.{◌≡◌, ◌<◌, IfOk, length};
+ghost use Rattle.std.specs.Prelude.{◌≡◌, ◌<◌, IfOk};
 ghost use Rattle.roster_model.specs.Settled.{IsFoundWithin};
-ghost use Rattle.roster_search_regions.specs.Regions.{size_of, Has, IsDecided, IsIn, IsNarrowed, IsRegion, IsSplit};
+ghost use Rattle.roster_search_regions.specs.Regions.{size_of, IsDecided, IsIn, IsNarrowed, IsRegion};
+ghost use Rattle.roster_search.specs.Branches.{IsBranch, IsOnFirst};
 ghost use Rattle.roster_search.specs.Open.{IsVisited};
 
-use crate::refining::{Refined, next_split, refine};
+use crate::parting::{first_side, keep_other_side, next_branch};
+use crate::refining::{Refined, refine};
 use roster_cost::roster_cost;
 use roster_problem::Problem;
-use roster_search_prices::Ascent;
+use roster_search_fixing::cost_at_most;
+use roster_search_prices::{Relaxation, Split};
 use roster_search_regions::{DualPrices, Region};
 use roster_values::{Places, Roster};
 use std::alloc::{AllocError, Global};
@@ -57,29 +60,47 @@ pub(crate) enum Visited {
     Nothing,
     /// A roster that costs little enough, and the node again: what costs less is in it.
     Found(Roster, OpenNode),
-    /// The rosters in which some person has some pairing, and the others.
+    /// The rosters on one side of a branch, and the others.
     Parted(OpenNode, OpenNode),
 }
 
-/// Makes the region as small as prices make it, and then parts it, if all isn't decided.
+/// Visits a node: makes its region as small as prices make it, and then parts it, if all isn't decided.
 pub(crate) fn visit(
     alloc: Global,
     problem: &Problem,
     node: OpenNode,
     most: i64,
+    relaxation: &mut Relaxation,
 ) -> Result<Visited, AllocError>
     requires { IsRegion problem.now node }
     ensures { IfOk result (IsVisited problem.now node most) }
 {
-    let OpenNode { mut region, prices } = node;
-    let mut ascent = Ascent::at_node(alloc, problem, &region, &prices)?;
-    match refine(alloc, problem, &mut region, &mut ascent, most)? {
+    let most = cost_at_most(problem, &node.region, most);
+    visit_at(alloc, problem, node, most, relaxation)
+}
+
+/// `visit`, for a cost that a roster may have.
+fn visit_at(
+    alloc: Global,
+    problem: &Problem,
+    node: OpenNode,
+    most: i64,
+    relaxation: &mut Relaxation,
+) -> Result<Visited, AllocError>
+    requires { IsRegion problem.now node }
+    ensures { IfOk result (IsVisited problem.now node most) }
+{
+    let OpenNode {
+        mut region,
+        mut prices,
+    } = node;
+    match refine(alloc, problem, &mut region, &mut prices, relaxation, most)? {
         Refined::Nothing => Ok(Visited::Nothing),
         Refined::Found(roster) => {
-            let node = OpenNode::new(region, ascent.into_best());
+            let node = OpenNode::new(region, prices);
             Ok(Visited::Found(roster, node))
         }
-        Refined::Part => Ok(part(alloc, problem, region, ascent.into_best(), most)?),
+        Refined::Part => Ok(part(alloc, problem, region, prices, relaxation, most)?),
     }
 }
 
@@ -89,42 +110,40 @@ fn part(
     problem: &Problem,
     region: Region,
     prices: DualPrices,
+    relaxation: &Relaxation,
     most: i64,
 ) -> Result<Visited, AllocError>
     requires { IsRegion problem.now region }
     ensures { IfOk result (IsVisited problem.now region most) }
 {
     let mut region = region;
-    let Some((k, p)) = next_split(alloc, problem, &region, &prices)? else {
+    let Some(branch) = next_branch(alloc, problem, &region, &prices, relaxation)? else {
         let node = OpenNode::new(region, prices);
         return Ok(match only(alloc, problem, &node.region, most)? {
             Some(roster) => Visited::Found(roster, node),
             None => Visited::Nothing,
         });
     };
-    let having = having(alloc, problem, &region, &prices, k, p)?;
-    region.deny(alloc, problem, k, p)?;
-    Ok(Visited::Parted(having, OpenNode::new(region, prices)))
+    let first = first_node(alloc, problem, &region, &prices, branch)?;
+    keep_other_side(alloc, problem, &mut region, branch)?;
+    Ok(Visited::Parted(first, OpenNode::new(region, prices)))
 }
 
-/// The rosters of the region in which person `k` has the pairing at place `p`.
-fn having(
+/// The rosters of the region on the first side of a branch.
+fn first_node(
     alloc: Global,
     problem: &Problem,
     region: &Region,
     prices: &DualPrices,
-    k: usize,
-    p: usize,
+    branch: Split,
 ) -> Result<OpenNode, AllocError>
     requires region { IsRegion problem.now region.now }
-    requires person { k < length problem.now.persons }
-    requires pairing { p < length problem.now.pairings }
-    ensures narrowed { IfOk result (IsNarrowed problem.now (Has k p) region.now) }
-    ensures fewer { IfOk result (λ node. IsSplit region.now k p → size_of node < size_of region.now) }
+    requires branch { IsBranch problem.now region.now branch }
+    ensures narrowed { IfOk result (IsNarrowed problem.now (IsOnFirst problem.now branch) region.now) }
+    ensures fewer { IfOk result (λ node. size_of node < size_of region.now) }
 {
-    let mut having = region.copy(alloc)?;
-    having.give(alloc, problem, k, p)?;
-    Ok(OpenNode::new(having, prices.copy(alloc)?))
+    let first = first_side(alloc, problem, region, branch)?;
+    Ok(OpenNode::new(first, prices.copy(alloc)?))
 }
 
 /// The only roster of a region in which all is decided, if there is one and it costs at most so much.

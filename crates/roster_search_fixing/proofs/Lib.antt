@@ -4,4 +4,5 @@ pub mod BoundLemmas
 pub mod Narrowing
 pub mod PropagationLemmas
 pub mod Fixing
+pub mod UnitLemmas
 pub mod Decisions

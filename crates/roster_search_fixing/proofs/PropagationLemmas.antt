@@ -41,6 +41,13 @@ lacks_has problem region k p places is person lacks there has =
     (ap (λ (line : AllowedLine). is_among line.set p) found.1.2 ∙ among) in
     both_ways (list_any (λ (line : AllowedLine). is_among line.set p) (lines_of region k)) lacks some
 
+-- if one person has it, another hasn't
+pub other_has : (owner k p : ℕ) (places : List ℕ) → k ≢ owner → Has owner p places → HasNot k p places
+other_has owner k p places other has too =
+    let both : Some k ≡ Some owner = sym too ∙ has in
+    let same : k ≡ owner = cc in
+    other same
+
 -- the number of a pairing is a person's or the one for open
 pub number_of : (problem : Problem) (region : Region) (p : ℕ) (places : List ℕ) → IsIn problem region places
     → p < length problem.pairings

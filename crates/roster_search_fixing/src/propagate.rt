@@ -100,11 +100,17 @@ fn settle(
         (IsNarrowed problem.now Anything region.old region.new) (IsEmpty problem.now region.old)) }
 {
     if let Some(k) = owner(problem, region, p) {
+        if region.is_left_open(p) {
+            return Ok(false);
+        }
         region.fly(problem, p);
         deny_others(alloc, problem, region, k, p)?;
         return Ok(true);
     }
     if region.is_left_open(p) {
+        if region.is_flown(p) {
+            return Ok(false);
+        }
         let nobody = usize::from(open_number(problem));
         deny_others(alloc, problem, region, nobody, p)?;
         return Ok(true);
@@ -187,11 +193,11 @@ fn claims_in(region: &Region) -> Claims {
 
 /// Whether something may follow for the pairing at place `p`. Nothing rests on the answer.
 fn is_due(region: &Region, claims: &Claims, p: usize) -> bool {
+    if region.is_left_open(p) {
+        return claims.possible.has(p) || region.is_flown(p);
+    }
     if claims.certain.has(p) {
         return claims.contested.has(p) || !region.is_flown(p);
-    }
-    if region.is_left_open(p) {
-        return claims.possible.has(p);
     }
     if claims.possible.has(p) {
         return !claims.contested.has(p) && region.is_flown(p);

@@ -1,7 +1,8 @@
 -- How a cheapest roster of a region is closed in on.
-use Rattle.std.proofs.Common.{◌≡◌, ℕ, ◌+◌, ◌-◌, ◌<◌, inl, inr, List, Option, Some, ℤ, pos, ◌+ℤ◌, ◌<ℤ◌, subst, arith}
+use Rattle.std.proofs.Common.{◌≡◌, ℕ, ◌+◌, ◌-◌, ◌<◌, inl, inr, List, Option, Some, ℤ, pos, ◌+ℤ◌, ◌<ℤ◌, ◌≤ℤ◌, subst, arith}
 use borrow.Author.Differences.{up, down}
 use Rattle.std.proofs.lemmas.Int.{ints}
+use Rattle.roster_model.specs.Costs.{cost_of}
 use Rattle.roster_model.specs.Problem.{Problem}
 use Rattle.roster_model.specs.Rosters.{Key}
 use Rattle.roster_model.specs.Settled.{CostsMore}
@@ -15,11 +16,13 @@ pub found_in_copy : (problem : Problem) (here copied : Region) (most enough : �
 found_in_copy problem here copied most enough found same is =
     subst (λ region. IsCheapestWithin problem (IsIn problem region) most enough found) same is
 
--- if none costs so little, each costs more
+-- if none costs so little, each costs at least what one may cost that costs more
 pub raised_least : (problem : Problem) (Region : List ℕ → Type 0) (most low : ℤ)
-    → CostsMore problem Region most → low ≡ most +ℤ pos 1 → CostsAtLeast problem Region low
-raised_least problem Region most low none next =
-    λ others legal inside. let above = none others legal inside in omega (arith, ints)
+    → CostsMore problem Region most
+    → ((places : List ℕ) → Region places → most <ℤ cost_of problem places → low ≤ℤ cost_of problem places)
+    → CostsAtLeast problem Region low
+raised_least problem Region most low none least =
+    λ others legal inside. least others inside (none others legal inside)
 
 -- what is found is a cheapest one, if none costs less than is enough
 pub cheapest_found : (problem : Problem) (Region : List ℕ → Type 0) (most least limit : ℤ) (key : Key)

@@ -10,9 +10,9 @@ use Rattle.roster_model.specs.Problem.{Problem}
 use Rattle.roster_model.specs.Rosters.{Key, key_of}
 use Rattle.roster_model.specs.Settled.{CostsMore, IsFoundWithin, IsHeld, IsWithinCost, Settles}
 use Rattle.roster_model.proofs.KeyLemmas.{key_le-refl}
-use Rattle.roster_search_least.specs.Least.{IsCheapestBelow, IsLeastBelow}
+use Rattle.roster_search_least.specs.Least.{IsCheapestBelow, IsCheapestWithin, IsLeastBelow}
 use Rattle.roster_search_least.proofs.Keys.{by_cost, no_dearer}
-use Rattle.roster_search_regions.specs.Regions.{Has, HasNot, IsIn, IsNarrowed, Region}
+use Rattle.roster_search_regions.specs.Regions.{Has, HasNot, IsIn, IsNarrowed, IsWhollyIn, Region}
 use Rattle.roster_search_fixing.specs.Bounds.{CostsAtMost, IsAllAbove}
 
 -- what a test says where its answer is known
@@ -136,3 +136,16 @@ least_below problem Region limit cheapest least is settled =
       },
       omega (arith, ints),
     )
+
+-- what is found in the part of a region that meets a condition
+pub found_kept : (problem : Problem) (Kept : List ℕ → Type 0) (old new : Region) (most enough : ℤ)
+    (found : Option Key) → IsNarrowed problem Kept old new → IsWhollyIn problem new Kept
+    → IsCheapestWithin problem (IsIn problem new) most enough found
+    → IsFoundWithin problem (λ places. IsIn problem old places × Kept places) most found
+found_kept problem Kept old new most enough None narrowed all none =
+    λ others legal inside. none others legal (narrowed.kept others inside.0 inside.1)
+found_kept problem Kept old new most enough (Some key) narrowed all found = record {
+  held = found.0.held;
+  inside = (narrowed.inside key.places found.0.inside, all key.places found.0.inside);
+  within = found.0.within;
+}

@@ -7,6 +7,8 @@ ghost use Rattle.roster_search_least.specs.Least.{CostsAtLeast, IsCheapestBelow}
 use crate::finder::Finder;
 use crate::tuning::STEP_GROWTH;
 use roster_problem::Problem;
+use roster_search_fixing::cost_above;
+use roster_search_prices::Relaxation;
 use roster_search_regions::{DualPrices, Region};
 use roster_values::Roster;
 use std::alloc::{AllocError, Global};
@@ -15,13 +17,15 @@ use std::alloc::{AllocError, Global};
 /// at least that. No roster of the region may cost less than `least`.
 ///
 /// It asks for one that costs less than is likely, as there will be none, and goes on from there in ever
-/// larger steps: a search ends soon if little more may be paid than must be. What costs no more than must be
+/// larger steps: a search ends soon if little more may be paid than must be. Numbers that no roster can cost
+/// are left out. What costs no more than must be
 /// paid is enough, and what else is found is a cheapest one.
 pub(crate) fn cheapest<F: Finder>(
     alloc: Global,
     problem: &Problem,
     region: &Region,
     prices: &DualPrices,
+    relaxation: &mut Relaxation,
     least: i64,
     likely: i64,
     limit: i64,
@@ -39,9 +43,17 @@ pub(crate) fn cheapest<F: Finder>(
     let mut step = 0;
     while low < limit {
         let most = raised(low, limit, wanted);
-        match finder.find(alloc, problem, region.copy(alloc)?, prices, most, low)? {
+        match finder.find(
+            alloc,
+            problem,
+            region.copy(alloc)?,
+            prices,
+            relaxation,
+            most,
+            low,
+        )? {
             Some(roster) => return Ok(Some(roster)),
-            None => low = most + 1,
+            None => low = cost_above(problem, region, most),
         }
         wanted = low.saturating_add(step);
         step = larger(step);

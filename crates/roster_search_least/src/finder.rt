@@ -5,6 +5,7 @@ ghost use Rattle.roster_search_regions.specs.Regions.{IsIn, IsRegion};
 ghost use Rattle.roster_search_least.specs.Least.{IsCheapestWithin};
 
 use roster_problem::Problem;
+use roster_search_prices::Relaxation;
 use roster_search_regions::{DualPrices, Region};
 use roster_values::Roster;
 use std::alloc::{AllocError, Global};
@@ -18,14 +19,15 @@ pub trait Finder {
     ghost goes_on: { Self → Self → Type 0 };
 
     /// A roster of the region that costs at most so much, with its cost: a cheapest one, or one that costs no
-    /// more than is enough; or none, and then each of them costs more. Any prices will do for it; good ones
-    /// make it short.
+    /// more than is enough; or none, and then each of them costs more. Any prices and any relaxation will do for
+    /// it; good ones make it short.
     fn find(
         &mut self,
         alloc: Global,
         problem: &Problem,
         region: Region,
         prices: &DualPrices,
+        relaxation: &mut Relaxation,
         most: i64,
         enough: i64,
     ) -> Result<Option<Roster>, AllocError>

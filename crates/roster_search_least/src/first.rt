@@ -10,6 +10,7 @@ ghost use Rattle.roster_search_least.specs.Least.{CostsAtLeast};
 
 use crate::finder::Finder;
 use roster_problem::{Problem, open_number};
+use roster_search_prices::Relaxation;
 use roster_search_regions::{DualPrices, Region};
 use roster_values::Roster;
 use std::alloc::{AllocError, Global};
@@ -25,6 +26,7 @@ pub(crate) fn first<F: Finder>(
     region: &mut Region,
     roster: &mut Roster,
     prices: &DualPrices,
+    relaxation: &mut Relaxation,
     finder: &mut F,
 ) -> Result<(), AllocError>
     requires finder { F.may_find }
@@ -36,7 +38,9 @@ pub(crate) fn first<F: Finder>(
     ensures goes_on { F.goes_on finder.old finder.new }
 {
     for p in 0..problem.pairings().len() {
-        settle(alloc, problem, region, roster, prices, p, finder)?;
+        settle(
+            alloc, problem, region, roster, prices, relaxation, p, finder,
+        )?;
         if is_empty(problem, region) {
             return Ok(());
         }
@@ -65,6 +69,7 @@ fn settle<F: Finder>(
     region: &mut Region,
     roster: &mut Roster,
     prices: &DualPrices,
+    relaxation: &mut Relaxation,
     p: usize,
     finder: &mut F,
 ) -> Result<(), AllocError>
@@ -75,7 +80,9 @@ fn settle<F: Finder>(
         (IsSettledAt problem.now p region.old roster.old region.new roster.new) }
     ensures goes_on { F.goes_on finder.old finder.new }
 {
-    if let Some(earlier) = earlier_at(alloc, problem, region, roster, prices, p, finder)? {
+    if let Some(earlier) = earlier_at(
+        alloc, problem, region, roster, prices, relaxation, p, finder,
+    )? {
         *roster = earlier;
     }
     Ok(())
@@ -89,6 +96,7 @@ fn earlier_at<F: Finder>(
     region: &mut Region,
     roster: &Roster,
     prices: &DualPrices,
+    relaxation: &mut Relaxation,
     p: usize,
     finder: &mut F,
 ) -> Result<Option<Roster>, AllocError>
@@ -102,7 +110,9 @@ fn earlier_at<F: Finder>(
     let number = roster.places.as_slice()[p];
     let cost = roster.cost;
     for k in 0..usize::from(number) {
-        match with_person(alloc, problem, region, k, p, prices, cost, finder)? {
+        match with_person(
+            alloc, problem, region, k, p, prices, relaxation, cost, finder,
+        )? {
             Some(earlier) => {
                 region.give(alloc, problem, k, p)?;
                 return Ok(Some(earlier));
@@ -123,6 +133,7 @@ fn with_person<F: Finder>(
     k: usize,
     p: usize,
     prices: &DualPrices,
+    relaxation: &mut Relaxation,
     most: i64,
     finder: &mut F,
 ) -> Result<Option<Roster>, AllocError>
@@ -139,7 +150,7 @@ fn with_person<F: Finder>(
     }
     let mut given = region.copy(alloc)?;
     given.give(alloc, problem, k, p)?;
-    finder.find(alloc, problem, given, prices, most, most)
+    finder.find(alloc, problem, given, prices, relaxation, most, most)
 }
 
 /// Whether some line that the region leaves person `k` has the pairing at place `p`.

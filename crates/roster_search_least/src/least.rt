@@ -13,16 +13,19 @@ use crate::first::first;
 use roster_cost::{cost_without_pairings, lines_are_near, roster_cost, shares_add_up};
 use roster_problem::Problem;
 use roster_search_fixing::{is_in, tighten};
+use roster_search_prices::Relaxation;
 use roster_search_regions::{DualPrices, Region};
 use roster_values::{Places, Roster};
 use std::alloc::{AllocError, Global};
 
-/// Good prices for a region, what its least roster likely costs, and the places of the cheapest one that was
-/// rounded. Nothing rests on any of them.
+/// Good prices for a region, the linear program that makes good ones for its parts, what the least roster likely
+/// costs, and the places of the cheapest one that was rounded. Nothing rests on any of them.
 #[derive(Drop)]
 pub struct RootPrices {
     /// The prices.
     pub prices: DualPrices,
+    /// The linear program.
+    pub relaxation: Relaxation,
     /// What the least roster likely costs, in cost units.
     pub likely: i64,
     /// The places of the roster that was rounded, if there is one.
@@ -48,16 +51,33 @@ pub fn least_of_region<F: Finder>(
     let mut region = region;
     let RootPrices {
         prices,
+        mut relaxation,
         likely,
         rounded,
     } = root;
     let known = known_below(alloc, problem, &region, rounded, limit)?;
     match cheapest_from(
-        alloc, problem, &region, &prices, likely, known, limit, finder,
+        alloc,
+        problem,
+        &region,
+        &prices,
+        &mut relaxation,
+        likely,
+        known,
+        limit,
+        finder,
     )? {
         Some(roster) => {
             let mut roster = roster;
-            first_of_all(alloc, problem, &mut region, &mut roster, &prices, finder)?;
+            first_of_all(
+                alloc,
+                problem,
+                &mut region,
+                &mut roster,
+                &prices,
+                &mut relaxation,
+                finder,
+            )?;
             Ok(Some(roster))
         }
         None => Ok(None),
@@ -115,6 +135,7 @@ fn cheapest_from<F: Finder>(
     problem: &Problem,
     region: &Region,
     prices: &DualPrices,
+    relaxation: &mut Relaxation,
     likely: i64,
     known: Option<Roster>,
     limit: i64,
@@ -138,6 +159,7 @@ fn cheapest_from<F: Finder>(
         problem,
         region,
         prices,
+        relaxation,
         i64::MIN,
         likely,
         most,
@@ -156,6 +178,7 @@ fn first_of_all<F: Finder>(
     region: &mut Region,
     roster: &mut Roster,
     prices: &DualPrices,
+    relaxation: &mut Relaxation,
     finder: &mut F,
 ) -> Result<(), AllocError>
     requires finder { F.may_find }
@@ -169,7 +192,7 @@ fn first_of_all<F: Finder>(
     if !tighten(alloc, problem, region, prices.prices(), roster.cost)? {
         return Ok(());
     }
-    first(alloc, problem, region, roster, prices, finder)
+    first(alloc, problem, region, roster, prices, relaxation, finder)
 }
 
 /// What a legal roster costs fits an `i64`, and is less than the greatest.

@@ -174,6 +174,15 @@ impl Columns {
         Ok(())
     }
 
+    /// The same columns.
+    pub(crate) fn copy(&self) -> Result<Columns, AllocError> {
+        Ok(Columns {
+            list: self.list.clone()?,
+            ones: self.ones.clone()?,
+            greatest: self.greatest,
+        })
+    }
+
     /// How many there are.
     pub(crate) fn len(&self) -> usize {
         self.list.len()

@@ -42,6 +42,20 @@ impl Inverse {
         Ok(inverse)
     }
 
+    /// The same inverse.
+    pub(crate) fn copy(&self, alloc: Global) -> Result<Inverse, AllocError> {
+        let mut rows = Vec::with_capacity(alloc, self.rows.len())?;
+        for row in &self.rows {
+            rows.push(row.clone()?)?;
+        }
+        Ok(Inverse {
+            rows,
+            image: self.image.clone()?,
+            cells: Vec::new(alloc),
+            sums: self.sums.clone()?,
+        })
+    }
+
     /// Begins anew with unit columns.
     pub(crate) fn begin(&mut self, right: &[i64]) {
         for (i, row) in self.rows.iter_mut().enumerate() {

@@ -51,6 +51,17 @@ fn empty_lines(alloc: Global, persons: usize) -> Result<Vec<PersonSets>, AllocEr
     Ok(sets)
 }
 
+/// The same sets of each person.
+fn copy_all(alloc: Global, persons: &[PersonSets]) -> Result<Vec<PersonSets>, AllocError>
+    ensures { IfOk result (λ copies. copies.items ≡ persons.now) }
+{
+    let mut copies = Vec::with_capacity(alloc, persons.len())?;
+    for sets in persons {
+        copies.push(sets.copy()?)?;
+    }
+    Ok(copies)
+}
+
 impl Master {
     /// A program of the empty lines of persons, which cost so much, and of open pairings at these penalties:
     /// all in parts of a cost unit, of which it has so many.
@@ -71,6 +82,20 @@ impl Master {
         };
         master.take_prices();
         Ok(master)
+    }
+
+    /// The same program, as it was left by the last solution.
+    pub fn copy(&self, alloc: Global) -> Result<Master, AllocError>
+        ensures { IfOk result (λ copy. copy ≡ self.now) }
+    {
+        let prices = Vec::from_slice(alloc, self.prices.as_slice())?;
+        let persons = copy_all(alloc, &self.persons)?;
+        let simplex = self.simplex.copy(alloc)?;
+        Ok(Master {
+            persons,
+            prices,
+            simplex,
+        })
     }
 
     /// How many persons there are.

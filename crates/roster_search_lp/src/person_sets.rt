@@ -31,6 +31,15 @@ impl PersonSets {
         Ok(PersonSets { sets })
     }
 
+    /// The same sets.
+    pub(crate) fn copy(&self) -> Result<PersonSets, AllocError>
+        ensures { IfOk result (λ sets. sets ≡ self.now) }
+    {
+        Ok(PersonSets {
+            sets: self.sets.clone()?,
+        })
+    }
+
     /// Whether the set is among them.
     pub(crate) fn has(&self, set: &Set) -> bool
         ensures { result ≡ has_set set.now self.now }

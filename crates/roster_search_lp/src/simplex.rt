@@ -81,6 +81,28 @@ impl Simplex {
         Ok(simplex)
     }
 
+    /// The same program with the same basis.
+    pub(crate) fn copy(&self, alloc: Global) -> Result<Simplex, AllocError> {
+        Ok(Simplex {
+            persons: self.persons,
+            pairings: self.pairings,
+            columns: self.columns.copy()?,
+            right: self.right.clone()?,
+            inverse: self.inverse.copy(alloc)?,
+            basis: self.basis.clone()?,
+            costs: self.costs.clone()?,
+            duals: self.duals.clone()?,
+            candidates: Vec::new(alloc),
+            taken: self.taken.clone()?,
+            before: self.before.clone()?,
+            scale: self.scale,
+            counts: self.counts,
+            raises: self.raises,
+            pivots: self.pivots,
+            steps: self.steps,
+        })
+    }
+
     /// How many rows there are.
     pub(crate) fn size(&self) -> usize {
         self.basis.len()

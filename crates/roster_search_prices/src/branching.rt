@@ -11,6 +11,15 @@ use roster_problem::Problem;
 use roster_search_regions::{DualPrices, Region};
 use std::alloc::{AllocError, Global};
 
+/// What a region may be parted by.
+#[derive(Clone, Copy)]
+pub enum Split {
+    /// Whether a person has a pairing: the person's place and the pairing's.
+    Holder(usize, usize),
+    /// Whether the pairing at this place is flown or left open.
+    Flown(usize),
+}
+
 /// A person and a pairing, and what weighs against settling whether that person has it.
 #[derive(Clone, Copy)]
 struct Candidate {
@@ -19,14 +28,14 @@ struct Candidate {
     p: usize,
 }
 
-/// The person and the pairing that it is best to settle next: some of the person's lines have the pairing,
-/// and some haven't. It gives (0, 0) if there are none.
+/// What it is best to settle next: a person and a pairing that some of the person's lines have, and some
+/// haven't; the first of both if there are none.
 pub fn branch(
     alloc: Global,
     problem: &Problem,
     region: &Region,
     prices: &DualPrices,
-) -> Result<(usize, usize), AllocError>
+) -> Result<Split, AllocError>
     requires { IsRegion problem.now region.now }
 {
     let scope = Scope::new(alloc, problem, region, prices.prices())?;
@@ -43,7 +52,7 @@ fn branch_in(
     scope: &Scope,
     crowds: &[u64],
     look: &mut Look,
-) -> Result<(usize, usize), AllocError>
+) -> Result<Split, AllocError>
     requires { IsRegion problem.now region.now }
 {
     let softness = prices.softness().saturating_add(1);
@@ -61,7 +70,7 @@ fn branch_in(
             best = better(region, look, scope, crowds, k, best);
         }
     }
-    Ok((best.k, best.p))
+    Ok(Split::Holder(best.k, best.p))
 }
 
 /// How much weighs against each pairing, by how many persons of the scope can have it.

@@ -13,6 +13,11 @@
 //! - `ascent`: prices on their way up
 //! - `looking`: looks at lines, which tell the bound that prices give
 //! - `branching`: which choice of a person to settle next
+//! - `program_rows`: which persons and pairings have rows in a linear program
+//! - `seeking`: lines that cost little at some prices
+//! - `relaxation`: a linear program over some lines of a region, whose dual prices are good ones
+//! - `relaxing`: what several threads do for it, and what it says of shares
+//! - `shares`: which choice of a person to settle next, by its shares
 //! - `rounding`: rosters by prices
 #![tactic(auto)]
 
@@ -24,10 +29,17 @@ mod near;
 mod person_lines;
 mod picking;
 mod powers;
+mod program_rows;
+mod relaxation;
+mod relaxing;
 mod rounding;
 mod scope;
+mod seeking;
+mod shares;
 mod tuning;
 
 pub use ascent::Ascent;
-pub use branching::branch;
+pub use branching::{Split, branch};
+pub use relaxation::Relaxation;
 pub use rounding::rounded;
+pub use shares::branch_by_shares;

@@ -1,21 +1,27 @@
 -- The region of the lines whose numbers are in ranges.
-use Rattle.std.proofs.Common.{◌≡◌, ℕ, ◌+◌, ◌-◌, ◌<◌, ◌≤◌, List, [], length, drop, get_or, take, ℤ, pos, ◌*ℤ◌, sym, ap, ◌∙◌, subst, arith}
-use Rattle.std.specs.Prelude.{All, Contains, Some, slice_get}
+use Prim.Native.Nat.{◌∣◌}
+use Rattle.std.proofs.Common.{◌≡◌, ℕ, ◌+◌, ◌-◌, ◌<◌, ◌≤◌, List, [], length, drop, get_or, take, ℤ, pos, ◌+ℤ◌, ◌-ℤ◌, ◌*ℤ◌, sym, ap, ◌∙◌, subst, arith}
+use Rattle.std.specs.Prelude.{All, Contains, Some, slice_get, option_map}
 use Rattle.std.proofs.lemmas.List.{drop-map, get_or-drop, get_or-map, get_or-take, length-drop, length-map, length-take}
 use Rattle.std.proofs.lemmas.Bool.{false≢true}
 use Rattle.std.proofs.lemmas.Simd.{map-map}
-use Rattle.std.proofs.lemmas.Option.{get_or_from_slice_get, slice_get-get_or, slice_get_within}
-use Rattle.std.specs.List.{take-map}
-use Rattle.roster_model.specs.Places.{set_of}
+use Rattle.std.proofs.lemmas.Int.{ints}
+use Rattle.std.proofs.lemmas.Option.{get_or_from_slice_get, slice_get-get_or, slice_get-map, slice_get_within}
+use Rattle.std.specs.List.{range_with_len, take-map}
+use Rattle.roster_model.specs.Costs.{cost_of, line_cost, open_penalties, total}
+use Rattle.roster_model.specs.Places.{open_number, set_of}
 use Rattle.roster_model.specs.Problem.{Problem}
 use Rattle.roster_model.specs.Rosters.{IsLegalRoster}
 use Rattle.roster_model.specs.Rules.{is_among}
 use Rattle.roster_lines_table.specs.Entries.{Entry, sets_of as sets_in}
 use Rattle.roster_lines_table.specs.Person.{lines_at, AreListed}
-use Rattle.roster_search_regions.specs.Building.{allowed_between, allowed_in}
-use Rattle.roster_search_regions.specs.Regions.{AllowedLine, Region, sets_of, idle_cost, IsAllowedLine, IsIn, IsInRanges, IsRegion}
+use Rattle.roster_model.proofs.CostLemmas.{total-both}
+use Rattle.roster_search_regions.specs.Building.{allowed_between, allowed_in, extra_in, AreDividedBefore}
+use Rattle.roster_search_regions.specs.Regions.{AllowedLine, Region, extra_of, sets_of, idle_cost, IsAllowedLine, IsIn, IsInRanges, IsRegion}
 use Rattle.roster_search_regions.proofs.Copied.{no_entry}
 use Rattle.roster_search_regions.proofs.Tables.{entry-extra, entry-line}
+use Rattle.roster_search_regions.proofs.Multiples.{multiple_by, multiple_penalties, multiple_sum, multiple_total}
+use Rattle.roster_search_regions.specs.Units.{IsMultiple}
 
 -- ---- what stands between two numbers
 
@@ -68,6 +74,27 @@ lines-between problem table scale k low high is person j d inside =
     } in
     subst (IsAllowedLine problem scale k) (sym line) here
 
+-- ---- what a roster costs
+
+-- the law of shares, at one roster
+abbrev pub IsShared : Problem → List ℕ → Type 0
+IsShared problem places =
+    cost_of problem places ≡ pos (open_penalties (open_number problem) problem.pairings places) +ℤ total (λ k. line_cost problem k (set_of k places)) (range_with_len 0 (length problem.persons))
+
+difference : (a b : ℤ) → a ≡ (a -ℤ b) +ℤ b
+difference a b = omega (arith, ints)
+
+cost-above : (problem : Problem) (places : List ℕ) → IsShared problem places
+    → cost_of problem places -ℤ idle_cost problem ≡ pos (open_penalties (open_number problem) problem.pairings places) +ℤ total (λ k. extra_of problem k (set_of k places)) (range_with_len 0 (length problem.persons))
+unfolding idle_cost
+cost-above problem places shared =
+    let split =
+    total-both (λ k. line_cost problem k (set_of k places)) (λ k. extra_of problem k (set_of k places))
+    (λ k. line_cost problem k [])
+    (λ k. difference (line_cost problem k (set_of k places)) (line_cost problem k []))
+    (range_with_len 0 (length problem.persons)) in
+    omega (arith, ints, shared, split)
+
 -- ---- the region of ranges
 
 -- each person has the lines of the person's range
@@ -80,6 +107,11 @@ pub record HasRanges (problem : Problem) (table : List (List Entry)) (ranges : L
   pub idle : region.idle ≡ idle_cost problem
   pub left_open : region.left_open ≡ []
   pub flown : region.flown ≡ []
+  pub some : 0 < region.unit
+  pub penalties : All (λ pairing. region.unit ∣ pairing.penalty) problem.pairings
+  pub divided : (k : ℕ) → k < length problem.persons
+      → AreDividedBefore region.unit (get_or ranges k (0, 0)).1 (lines_at table k)
+  pub shared : (places : List ℕ) → IsShared problem places
 
 module _ (problem : Problem) (table : List (List Entry)) (ranges : List (ℕ × ℕ)) (region : Region)
     (has : HasRanges problem table ranges region) where
@@ -88,15 +120,6 @@ module _ (problem : Problem) (table : List (List Entry)) (ranges : List (ℕ × 
       let person : k < length problem.persons =
       omega (arith, slice_get_within region.choices k lines at, has.covers) in
       (person, sym (get_or_from_slice_get region.choices k lines [] at) ∙ has.each k person)
-
-  pub ranges-region : IsRegion problem region
-  ranges-region = record {
-    covers = has.covers;
-    each = λ k lines at.
-        let is = here k lines at in
-        subst (All (IsAllowedLine problem region.scale k)) (sym is.1) (lines-between problem table region.scale k (get_or ranges k (0, 0)).0 (get_or ranges k (0, 0)).1 has.is is.0);
-    idle = has.idle;
-  }
 
   pub ranges-in : (places : List ℕ) → IsIn problem region places
       → IsLegalRoster problem places × IsInRanges table ranges places
@@ -113,6 +136,47 @@ module _ (problem : Problem) (table : List (List Entry)) (ranges : List (ℕ × 
         Contains-between (sets_in (lines_at table k)) range.0 range.1 (set_of k places)
         (subst (λ (ss : List (List ℕ)). Contains ss (set_of k places)) sets chosen),
   )
+
+  units-of-line : (places : List ℕ) → IsIn problem region places → (k : ℕ) → k < length problem.persons
+      → IsMultiple region.unit (extra_of problem k (set_of k places))
+  units-of-line places there k person =
+      let entries : List Entry = lines_at table k in
+      let range : ℕ × ℕ = get_or ranges k (0, 0) in
+      let ranged = slice_get-get_or ranges k (0, 0) (omega (arith, person, has.ranged)) in
+      let found = (ranges-in places there).1 k range ranged in
+      let i : ℕ = found.0 in
+      let within : i < length entries = omega (arith, slice_get_within (sets_in entries) i (set_of k places) found.3, length-map entries (λ (e : Entry). e.set)) in
+      let entry : Entry = get_or entries i no_entry in
+      let at = slice_get-get_or entries i no_entry within in
+      let sets : Some entry.set ≡ Some (set_of k places) =
+      sym (slice_get-map (λ (e : Entry). e.set) entries i ∙ ap (option_map (λ (e : Entry). e.set)) at)
+      ∙ found.3 in
+      let same : entry.set ≡ set_of k places = cc in
+      subst (λ (set : List ℕ). IsMultiple region.unit (extra_of problem k set)) same
+      (subst (IsMultiple region.unit) (entry-extra problem table k i entry has.is person at)
+      (multiple_by region.unit (extra_in entries entry) has.some (has.divided k person i no_entry found.2 within)))
+
+  ranges-units : (places : List ℕ) → IsIn problem region places
+      → IsMultiple region.unit (cost_of problem places -ℤ region.idle)
+  ranges-units places there =
+      let penalties : ℕ = open_penalties (open_number problem) problem.pairings places in
+      let extras : ℕ → ℤ = λ k. extra_of problem k (set_of k places) in
+      let persons : ℤ = total extras (range_with_len 0 (length problem.persons)) in
+      let is = ap (λ (idle : ℤ). cost_of problem places -ℤ idle) has.idle ∙ cost-above problem places (has.shared places) in
+      subst (IsMultiple region.unit) (sym is)
+      (multiple_sum region.unit (pos penalties) persons
+      (multiple_penalties region.unit (open_number problem) problem.pairings places (λ j d inside. multiple_by region.unit (pos (get_or problem.pairings j d).penalty) has.some (has.penalties j d inside)))
+      (multiple_total region.unit extras 0 (length problem.persons) (λ k low high. units-of-line places there k (omega arith))))
+
+  pub ranges-region : IsRegion problem region
+  ranges-region = record {
+    covers = has.covers;
+    each = λ k lines at.
+        let is = here k lines at in
+        subst (All (IsAllowedLine problem region.scale k)) (sym is.1) (lines-between problem table region.scale k (get_or ranges k (0, 0)).0 (get_or ranges k (0, 0)).1 has.is is.0);
+    idle = has.idle;
+    units = ranges-units;
+  }
 
   pub in-ranges : (places : List ℕ) → IsLegalRoster problem places → IsInRanges table ranges places
       → IsIn problem region places

@@ -4,8 +4,10 @@ pub mod RowLemmas
 pub mod SumLemmas
 pub mod Write
 pub mod ListLemmas
+pub mod Undecided
 pub mod RegionLemmas
 pub mod Copied
 pub mod Counted
+pub mod Multiples
 pub mod Tables
 pub mod Boxes

@@ -13,6 +13,7 @@ use Rattle.roster_model.specs.Problem.{Problem}
 use Rattle.roster_model.specs.Rules.{is_among}
 use Rattle.roster_model.proofs.PlacesLemmas.{is_among-set_of}
 use Rattle.roster_search_regions.specs.Regions.{AllowedLine, lines_of, sets_of, size_of, with_lines, Has, HasNot, IsAllowedLine, IsIn, IsNarrowed, IsRegion, Region}
+use Rattle.roster_search_regions.proofs.Undecided.{undecided_flown, undecided_left_open}
 use Rattle.roster_search_regions.proofs.ListLemmas.{Contains-filter, Contains-from_filter, Contains-from_map, Contains-map, length-filter-le, length-filter-lt, passes-from_filter}
 
 -- ---- who has a pairing
@@ -92,6 +93,23 @@ pub narrowed_by_filter : (problem : Problem) (Kept : List ℕ → Type 0) (regio
 narrowed_by_filter problem Kept region k test is inside passes =
     let old : List AllowedLine = lines_of region k in
     let new : List AllowedLine = filter test old in
+    let inside' : (places : List ℕ) → IsIn problem (with_lines region k new) places → IsIn problem region places =
+    λ places there. record {
+      legal = there.legal;
+      chosen = λ j lines at. elim (cases_eq j k) [
+        | inl here ↦
+            let same : old ≡ lines =
+            lines_of_is region k lines (ap (slice_get region.choices) (sym here) ∙ at) in
+            let now = there.chosen k new (slice_get-get_or (set region.choices k new) k new (omega (arith, length-set region.choices k new)) ∙ ap Some (get_or-set_same region.choices k new new inside)) in
+            let found = Contains-from_map (λ (line : AllowedLine). line.set) new (set_of k places) now in
+            subst (λ i. Contains (sets_of lines) (set_of i places)) (sym here)
+            (subst (λ ls. Contains (sets_of ls) (set_of k places)) same
+            (subst (Contains (sets_of old)) found.2 (Contains-map (λ (line : AllowedLine). line.set) old found.0 (Contains-from_filter test old found.0 found.1))))
+        | inr other ↦ there.chosen j lines (with_lines_other region k j new other ∙ at)
+      ];
+      left_open = there.left_open;
+      flown = there.flown;
+    } in
     record {
       region = record {
         covers = length-set region.choices k new ∙ is.covers;
@@ -105,23 +123,9 @@ narrowed_by_filter problem Kept region k test is inside passes =
           | inr other ↦ is.each j lines (sym (with_lines_other region k j new other) ∙ at)
         ];
         idle = is.idle;
+        units = λ places there. is.units places (inside' places there);
       };
-      inside = λ places there. record {
-        legal = there.legal;
-        chosen = λ j lines at. elim (cases_eq j k) [
-          | inl here ↦
-              let same : old ≡ lines =
-              lines_of_is region k lines (ap (slice_get region.choices) (sym here) ∙ at) in
-              let now = there.chosen k new (slice_get-get_or (set region.choices k new) k new (omega (arith, length-set region.choices k new)) ∙ ap Some (get_or-set_same region.choices k new new inside)) in
-              let found = Contains-from_map (λ (line : AllowedLine). line.set) new (set_of k places) now in
-              subst (λ i. Contains (sets_of lines) (set_of i places)) (sym here)
-              (subst (λ ls. Contains (sets_of ls) (set_of k places)) same
-              (subst (Contains (sets_of old)) found.2 (Contains-map (λ (line : AllowedLine). line.set) old found.0 (Contains-from_filter test old found.0 found.1))))
-          | inr other ↦ there.chosen j lines (with_lines_other region k j new other ∙ at)
-        ];
-        left_open = there.left_open;
-        flown = there.flown;
-      };
+      inside = inside';
       kept = λ places there keeps. record {
         legal = there.legal;
         chosen = λ j lines at. elim (cases_eq j k) [
@@ -187,24 +191,44 @@ among_last set next p members =
     or_true true = refl
     or_true false = refl
 
+inside_left_open : (problem : Problem) (region : Region) (p : ℕ) (next : List ℕ)
+    → ((q : ℕ) → is_among next q ≡ (is_among region.left_open q || eqb p q)) → (places : List ℕ)
+    → IsIn problem (record region { left_open = next }) places → IsIn problem region places
+inside_left_open problem region p next members places there = record {
+  legal = there.legal;
+  chosen = there.chosen;
+  left_open = λ q among. there.left_open q (members q ∙ ap (λ b. b || eqb p q) among);
+  flown = there.flown;
+}
+
+inside_flown : (problem : Problem) (region : Region) (p : ℕ) (next : List ℕ)
+    → ((q : ℕ) → is_among next q ≡ (is_among region.flown q || eqb p q)) → (places : List ℕ)
+    → IsIn problem (record region { flown = next }) places → IsIn problem region places
+inside_flown problem region p next members places there = record {
+  legal = there.legal;
+  chosen = there.chosen;
+  left_open = there.left_open;
+  flown = λ q among. there.flown q (members q ∙ ap (λ b. b || eqb p q) among);
+}
+
 pub narrowed_left_open : (problem : Problem) (region : Region) (p : ℕ) (next : List ℕ)
     → IsRegion problem region → ((q : ℕ) → is_among next q ≡ (is_among region.left_open q || eqb p q))
     → IsNarrowed problem (Has (open_number problem) p) region (record region { left_open = next })
 narrowed_left_open problem region p next is members = record {
-  region = record { covers = is.covers; each = is.each; idle = is.idle };
-  inside = λ places there. record {
-    legal = there.legal;
-    chosen = there.chosen;
-    left_open = λ q among. there.left_open q (members q ∙ ap (λ b. b || eqb p q) among);
-    flown = there.flown;
+  region = record {
+    covers = is.covers;
+    each = is.each;
+    idle = is.idle;
+    units = λ places there. is.units places (inside_left_open problem region p next members places there);
   };
+  inside = inside_left_open problem region p next members;
   kept = λ places there has. record {
     legal = there.legal;
     chosen = there.chosen;
     left_open = λ q among. one_more (λ q. slice_get places q ≡ Some (open_number problem)) region.left_open next p members has there.left_open q among;
     flown = there.flown;
   };
-  size = omega arith;
+  size = omega (arith, undecided_left_open region.left_open region.flown next p members);
   scale = refl;
 }
 
@@ -212,19 +236,19 @@ pub narrowed_flown : (problem : Problem) (region : Region) (p : ℕ) (next : Lis
     → ((q : ℕ) → is_among next q ≡ (is_among region.flown q || eqb p q))
     → IsNarrowed problem (HasNot (open_number problem) p) region (record region { flown = next })
 narrowed_flown problem region p next is members = record {
-  region = record { covers = is.covers; each = is.each; idle = is.idle };
-  inside = λ places there. record {
-    legal = there.legal;
-    chosen = there.chosen;
-    left_open = there.left_open;
-    flown = λ q among. there.flown q (members q ∙ ap (λ b. b || eqb p q) among);
+  region = record {
+    covers = is.covers;
+    each = is.each;
+    idle = is.idle;
+    units = λ places there. is.units places (inside_flown problem region p next members places there);
   };
+  inside = inside_flown problem region p next members;
   kept = λ places there hasnot. record {
     legal = there.legal;
     chosen = there.chosen;
     left_open = there.left_open;
     flown = λ q among. one_more (λ q. slice_get places q ≢ Some (open_number problem)) region.flown next p members hasnot there.flown q among;
   };
-  size = omega arith;
+  size = omega (arith, undecided_flown region.left_open region.flown next p members);
   scale = refl;
 }

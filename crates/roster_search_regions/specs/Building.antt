@@ -1,5 +1,6 @@
 -- The lines of a table as those of a region.
-use Rattle.std.specs.Prelude.{ℕ, List, map, take, drop, get_or, length, slice_index_or, ◌<◌, ℤ, pos, ◌-ℤ◌, ◌*ℤ◌, All}
+use Prim.Native.Nat.{◌∣◌}
+use Rattle.std.specs.Prelude.{ℕ, List, map, take, drop, get_or, length, slice_index_or, ◌<◌, ℤ, pos, ◌-ℤ◌, ◌*ℤ◌, unsigned_abs, All}
 use Rattle.roster_cost.specs.Amounts.{IsWithin}
 use Rattle.roster_lines_table.specs.Entries.{Entry, costs_of}
 use Rattle.roster_search_regions.specs.declared.choice.TheConstants.{MOST_EXTRA}
@@ -32,3 +33,9 @@ abbrev pub AreCountedBefore : ℕ → ℕ → List Entry → Type 0
 AreCountedBefore scale high entries =
     (i : ℕ) (d : Entry) → i < high → i < length entries
     → IsWithin MOST_EXTRA (pos scale *ℤ extra_in entries (get_or entries i d))
+
+-- what each of the first so many entries costs more than the first one, or less, is divided by the number
+abbrev pub AreDividedBefore : ℕ → ℕ → List Entry → Type 0
+AreDividedBefore unit high entries =
+    (i : ℕ) (d : Entry) → i < high → i < length entries
+    → unit ∣ unsigned_abs (extra_in entries (get_or entries i d))

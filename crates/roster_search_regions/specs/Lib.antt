@@ -1,3 +1,4 @@
+pub mod Units
 pub mod Regions
 pub mod Trees
 pub mod Marks

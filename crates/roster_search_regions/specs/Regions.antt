@@ -1,14 +1,16 @@
 -- Regions of rosters: for each person some of their lines, and for each pairing whether it may be open.
-use Rattle.std.specs.Prelude.{◌≡◌, ◌≢◌, ℕ, ◌<◌, ◌≤◌, true, false, List, [], Some, ℤ, pos, ◌-ℤ◌, ◌*ℤ◌, All, Contains, length, map, slice_get, slice_index_or, slice_set, sum_by}
-use Rattle.std.specs.List.{list_any, list_all, range_with_len}
+use Rattle.std.specs.Prelude.{◌≡◌, ◌≢◌, ℕ, ◌+◌, ◌<◌, ◌≤◌, true, false, not, ◌||◌, List, [], Some, ℤ, pos, ◌-ℤ◌, ◌*ℤ◌, All, Contains, length, map, slice_get, slice_index_or, slice_set, sum_by}
+use Rattle.std.specs.List.{count_by, list_any, list_all, range_with_len}
+use Rattle.roster_model.specs.declared.limits.TheConstants.{MOST_PAIRINGS}
 use Rattle.roster_model.specs.Problem.{Problem}
-use Rattle.roster_model.specs.Costs.{line_cost, total}
+use Rattle.roster_model.specs.Costs.{cost_of, line_cost, total}
 use Rattle.roster_model.specs.Lines.{IsLine}
 use Rattle.roster_model.specs.Places.{open_number, set_of}
 use Rattle.roster_model.specs.Rosters.{IsLegalRoster}
 use Rattle.roster_model.specs.Rules.{is_among}
 use Rattle.roster_lines_table.specs.Entries.{Entry, sets_of as sets_in}
 use Rattle.roster_lines_table.specs.Person.{lines_at}
+use Rattle.roster_search_regions.specs.Units.{IsMultiple}
 
 -- a line that a person may still have, and what it costs more than the empty one, in parts of a cost unit
 pub record AllowedLine : Type 0 where
@@ -19,14 +21,15 @@ abbrev pub allowed : List ℕ → ℤ → AllowedLine
 allowed set extra = record { set = set; extra = extra }
 
 -- For each person, in book order, the lines that are allowed; the pairings that must be open, and those
--- that must not be; how many parts a cost unit has; and what it costs that nobody has a pairing,
--- penalties aside.
+-- that must not be; how many parts a cost unit has; what it costs that nobody has a pairing, penalties
+-- aside; and a number of cost units that divides what rosters cost more than that, or less.
 pub record Region : Type 0 where
   pub choices : List (List AllowedLine)
   pub left_open : List ℕ
   pub flown : List ℕ
   pub scale : ℕ
   pub idle : ℤ
+  pub unit : ℕ
 
 -- the lines of person k
 abbrev pub lines_of : Region → ℕ → List AllowedLine
@@ -53,13 +56,6 @@ pub record IsAllowedLine (problem : Problem) (scale k : ℕ) (line : AllowedLine
   pub is_line : IsLine problem k line.set
   pub extra : line.extra ≡ pos scale *ℤ extra_of problem k line.set
 
--- the region has lines of each person
-pub record IsRegion (problem : Problem) (region : Region) : Type 0 where
-  pub covers : length region.choices ≡ length problem.persons
-  pub each : (k : ℕ) (lines : List AllowedLine) → slice_get region.choices k ≡ Some lines
-      → All (IsAllowedLine problem region.scale k) lines
-  pub idle : region.idle ≡ idle_cost problem
-
 -- The places are in the region: a legal roster in which each person has one of the sets, and in which
 -- those pairings are open that must be, and none that must not.
 pub record IsIn (problem : Problem) (region : Region) (places : List ℕ) : Type 0 where
@@ -70,9 +66,28 @@ pub record IsIn (problem : Problem) (region : Region) (places : List ℕ) : Type
       → slice_get places p ≡ Some (open_number problem)
   pub flown : (p : ℕ) → is_among region.flown p ≡ true → slice_get places p ≢ Some (open_number problem)
 
--- how many lines are left, of all persons
+-- the region has lines of each person, and what each of its rosters costs is so many units from `idle`
+pub record IsRegion (problem : Problem) (region : Region) : Type 0 where
+  pub covers : length region.choices ≡ length problem.persons
+  pub each : (k : ℕ) (lines : List AllowedLine) → slice_get region.choices k ≡ Some lines
+      → All (IsAllowedLine problem region.scale k) lines
+  pub idle : region.idle ≡ idle_cost problem
+  pub units : (places : List ℕ) → IsIn problem region places
+      → IsMultiple region.unit (cost_of problem places -ℤ region.idle)
+
+-- it isn't said whether the pairing at place p is open
+pub record IsUndecidedAt (region : Region) (p : ℕ) : Type 0 where
+  pub left_open : is_among region.left_open p ≡ false
+  pub flown : is_among region.flown p ≡ false
+
+-- of how many pairings that isn't said
+unfoldable pub undecided_in : List ℕ → List ℕ → ℕ
+undecided_in left_open flown =
+    count_by (λ p. not (is_among left_open p || is_among flown p)) (range_with_len 0 MOST_PAIRINGS)
+
+-- how much is left to decide: the lines that are left, of all persons, and those pairings
 abbrev pub size_of : Region → ℕ
-size_of region = sum_by length region.choices
+size_of region = sum_by length region.choices + undecided_in region.left_open region.flown
 
 -- The new region is part of the old one, and has all of it that meets the condition.
 pub record IsNarrowed (problem : Problem) (Kept : List ℕ → Type 0) (old new : Region) : Type 0 where

@@ -17,8 +17,9 @@ use crate::path::Path;
 use crate::region::Region;
 use crate::shared::Shared;
 use crate::tree::Tree;
+use crate::units::unit_of;
 use crate::writer::Writer;
-use roster_cost::{cost_without_pairings, lines_are_near};
+use roster_cost::{cost_without_pairings, lines_are_near, shares_add_up};
 use roster_lines_table::{Lines, Table};
 use roster_problem::Problem;
 use roster_values::Set;
@@ -108,7 +109,7 @@ fn on_the_way(depth: usize, last: u16) -> Choice
 }
 
 /// What line `i` costs more than the first one.
-fn above_first(lines: &Lines, i: usize) -> i64
+pub(crate) fn above_first(lines: &Lines, i: usize) -> i64
     requires near { All (λ entry. IsWithin most_extra (extra_in lines.now entry)) lines.now }
     requires inside { i < length lines.now }
     ensures value { (entry : Entry) → slice_get lines.now i ≡ Some entry
@@ -257,7 +258,9 @@ impl Region {
         ensures same { IfOk result (λ region. (places : List ℕ) → IsIn problem.now region places
             ↔ (IsLegalRoster problem.now places × IsInRanges table.now ranges.now places)) }
     {
+        shares_add_up();
         let scale = scale_of(problem, table, ranges);
+        let unit = unit_of(problem, table, ranges);
         let mut persons = Vec::new(alloc);
         for k in 0..problem.persons().len() {
             let tree = tree_of(alloc, table, k, ranges[k], scale)?;
@@ -269,6 +272,7 @@ impl Region {
             flown: Set::empty(),
             scale,
             idle: cost_without_pairings(problem),
+            unit,
         })
     }
 }

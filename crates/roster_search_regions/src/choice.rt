@@ -3,6 +3,9 @@
 /// How many parts a cost unit is counted in, at most.
 pub const MOST_SCALE: u32 = 16384;
 
+/// What divides the costs of all rosters, at most, in cost units.
+pub const MOST_UNIT: u64 = 1 << 62;
+
 /// What a line costs more than the empty one, or less, at most, in parts of a cost unit.
 pub(crate) const MOST_EXTRA: u64 = 1 << 52;
 

@@ -14,6 +14,7 @@
 //! - `tree`: the lines that a person may still have
 //! - `shared`: trees that several regions have
 //! - `region`: regions, and what makes them smaller
+//! - `units`: what divides the costs of all rosters
 //! - `build`: regions of the lines whose numbers are in ranges
 //! - `reading`: lists read past their ends
 //! - `dual_prices`: dual prices of pairings, and one step of them
@@ -34,9 +35,10 @@ mod rows;
 mod shared;
 mod sums;
 mod tree;
+mod units;
 mod writer;
 
-pub use choice::{Choice, MOST_SCALE, MOST_VALUE};
+pub use choice::{Choice, MOST_SCALE, MOST_UNIT, MOST_VALUE};
 pub use choices::Choices;
 pub use dual_prices::{DualPrices, scaled_penalty};
 pub use reading::number_at;

@@ -6,10 +6,10 @@ ghost use Rattle.roster_model.specs.Rules.{is_among};
 ghost use Rattle.roster_cost.specs.Amounts.{IsWithin};
 ghost use Rattle.roster_search_regions.specs.Prices.{value_of, ArePrices};
 ghost use Rattle.roster_search_regions.specs.Regions.{lines_of, size_of, with_lines, Has, HasNot, IsNarrowed};
-ghost use Rattle.roster_search_regions.specs.Regions.{IsRegion, IsSplit, IsWhollyIn};
+ghost use Rattle.roster_search_regions.specs.Regions.{IsRegion, IsSplit, IsUndecidedAt, IsWhollyIn};
 ghost use Rattle.roster_search_regions.specs.Trees.{agrees, lines_in, AreCertain, ArePossible, HasJust, Offers};
 
-use crate::choice::{MOST_SCALE, MOST_VALUE};
+use crate::choice::{MOST_SCALE, MOST_UNIT, MOST_VALUE};
 use crate::choices::Choices;
 use crate::shared::Shared;
 use crate::tree::Tree;
@@ -30,6 +30,7 @@ pub struct Region {
     pub(crate) flown: Set,
     pub(crate) scale: u32,
     pub(crate) idle: i64,
+    pub(crate) unit: u64,
 }
 
 impl Model for Region {
@@ -43,12 +44,13 @@ impl Model for Region {
       flown = r.flown;
       scale = r.scale;
       idle = r.idle;
+      unit = r.unit;
     } };
 
-    ghost use Rattle.std.specs.Prelude.{◌≤◌};
-    ghost use Rattle.roster_search_regions.specs.declared.choice.TheConstants.{MOST_SCALE};
+    ghost use Rattle.std.specs.Prelude.{◌<◌, ◌≤◌};
+    ghost use Rattle.roster_search_regions.specs.declared.choice.TheConstants.{MOST_SCALE, MOST_UNIT};
 
-    ghost invariant = { λ r. r.scale ≤ MOST_SCALE };
+    ghost invariant = { λ r. (r.scale ≤ MOST_SCALE) × (0 < r.unit) × (r.unit ≤ MOST_UNIT) };
 }
 
 impl Region {
@@ -65,6 +67,15 @@ impl Region {
         ensures { result ≡ self.now.idle }
     {
         self.idle
+    }
+
+    /// What each of its rosters costs more than `idle`, or less, is so many times this number of cost units.
+    pub fn unit(&self) -> u64
+        ensures value { result ≡ self.now.unit }
+        ensures some { 0 < result }
+        ensures bound { result ≤ MOST_UNIT }
+    {
+        self.unit
     }
 
     /// How many persons there are.
@@ -175,6 +186,7 @@ impl Region {
             flown: self.flown,
             scale: self.scale,
             idle: self.idle,
+            unit: self.unit,
         })
     }
 
@@ -269,6 +281,7 @@ impl Region {
         ensures narrowed { IsNarrowed problem.now (Has (open_number problem.now) p) self.old self.new }
         ensures all { IsWhollyIn problem.now self.new (Has (open_number problem.now) p) }
         ensures lines { self.new.choices ≡ self.old.choices }
+        ensures fewer { IsUndecidedAt self.old p → size_of self.new < size_of self.old }
     {
         prove!(problem.pairings().len() <= MOST_PAIRINGS);
         self.left_open = self.left_open.with(p).unwrap();
@@ -282,6 +295,7 @@ impl Region {
             self.old self.new }
         ensures all { IsWhollyIn problem.now self.new (HasNot (open_number problem.now) p) }
         ensures lines { self.new.choices ≡ self.old.choices }
+        ensures fewer { IsUndecidedAt self.old p → size_of self.new < size_of self.old }
     {
         prove!(problem.pairings().len() <= MOST_PAIRINGS);
         self.flown = self.flown.with(p).unwrap();

@@ -1,4 +1,6 @@
--- Open nodes that threads explore.
+-- Open nodes that threads explore. A share of the list in two keeps `AreOpenOf` (`AreDealt`), and its ends
+-- are put together again after the join. So do rounds, since what is left of what is left is what is left.
+-- An empty list says that no roster costs so little.
 use Rattle.std.proofs.Common.{◌≡◌, ℕ, ◌⊎◌, inl, inr, All, Bool, true, false, if◌then◌else◌, IfSome, MatchOption, List, [], ◌∷◌, ◌++◌, reverse, Option, Some, None, ℤ, int_lt, ◌<ℤ◌, ◌≤ℤ◌, refl, sym, subst, arith}
 use Rattle.std.proofs.lemmas.Int.{ints}
 use Rattle.std.proofs.lemmas.List.{reverse-append, reverse-reverse}
@@ -8,8 +10,8 @@ use Rattle.roster_model.specs.Problem.{Problem}
 use Rattle.roster_model.specs.Rosters.{Key}
 use Rattle.roster_model.specs.Settled.{IsWithinCost}
 use Rattle.roster_search_regions.specs.Regions.{IsIn, IsRegion, Region}
-use Rattle.roster_search.specs.Open.{limit_of, AreOpenOf, IsExplored, IsInSome}
-use Rattle.roster_search.proofs.OpenLemmas.{explored_in, explored_more, explored_on, limit_within, open_below, some_before, some_cases, some_either, some_last, some_left, some_right}
+use Rattle.roster_search.specs.Open.{limit_of, AreOpenOf, ArePartsOf, IsExplored, IsInSome}
+use Rattle.roster_search.proofs.OpenLemmas.{explored_more, explored_on, limit_within, open_below, some_before, some_cases, some_either, some_last, some_left, some_right}
 use Rattle.roster_search_threads.specs.Explored.{cheaper_of, AreDealt}
 
 -- ---- two lists
@@ -204,60 +206,65 @@ both_open problem most mine theirs first second all same here there = record {
   ]);
 }
 
-pub both_explored : (problem : Problem) (most : ℤ) (mine theirs : List Region) (one two : Option Key)
-    (first second all : List Region) → all ≡ first ++ second
-    → IsExplored problem (IsInSome problem mine) (IsInSome problem mine) most one first
-    → IsExplored problem (IsInSome problem theirs) (IsInSome problem theirs) most two second
-    → IsExplored problem (IsInSome problem (mine ++ theirs)) (IsInSome problem (mine ++ theirs)) most (cheaper_of one two) all
-both_explored problem most mine theirs one two first second all same mine_is theirs_is =
-    let Both = IsInSome problem (mine ++ theirs) in
-    let here =
-    explored_in problem (IsInSome problem mine) Both (IsInSome problem mine) most one first (λ places is. some_left problem mine theirs places is) mine_is in
-    let there =
-    explored_in problem (IsInSome problem theirs) Both (IsInSome problem theirs) most two second (λ places is. some_right problem mine theirs places is) theirs_is in
+pub both_explored : (problem : Problem) (Whole : List ℕ → Type 0) (most : ℤ) (mine theirs : List Region)
+    (one two : Option Key) (first second all : List Region) → all ≡ first ++ second
+    → IsExplored problem Whole (IsInSome problem mine) most one first
+    → IsExplored problem Whole (IsInSome problem theirs) most two second
+    → IsExplored problem Whole (IsInSome problem (mine ++ theirs)) most (cheaper_of one two) all
+both_explored problem Whole most mine theirs one two first second all same here there =
     let limit = limit_of most (cheaper_of one two) in
     record {
-      found = cheaper_found (IsWithinCost problem Both most) one two here.found there.found;
+      found = cheaper_found (IsWithinCost problem Whole most) one two here.found there.found;
       still = both_open problem limit mine theirs first second all same
-          (open_below problem (IsInSome problem mine) (limit_of most one) limit first (below_first problem Both most one two there.found) here.still)
-          (open_below problem (IsInSome problem theirs) (limit_of most two) limit second (below_second problem Both most one two here.found) there.still);
+          (open_below problem (IsInSome problem mine) (limit_of most one) limit first (below_first problem Whole most one two there.found) here.still)
+          (open_below problem (IsInSome problem theirs) (limit_of most two) limit second (below_second problem Whole most one two here.found) there.still);
     }
+
+-- what is dealt are parts
+pub parts_dealt : (problem : Problem) (whole : Region) (nodes mine theirs : List Region)
+    → ArePartsOf problem whole nodes → AreDealt problem nodes mine theirs
+    → ArePartsOf problem whole mine × ArePartsOf problem whole theirs
+parts_dealt problem whole nodes mine theirs parts dealt = (
+  record {
+    is_region = parts.is_region;
+    are = dealt.are_mine;
+    inside = λ places is. parts.inside places (dealt.inside places (inl is));
+  },
+  record {
+    is_region = parts.is_region;
+    are = dealt.are_theirs;
+    inside = λ places is. parts.inside places (dealt.inside places (inr is));
+  },
+)
 
 -- what is dealt has what was there
-pub explored_dealt : (problem : Problem) (most : ℤ) (nodes mine theirs : List Region) (best : Option Key)
-    (left : List Region) → AreDealt problem nodes mine theirs
-    → IsExplored problem (IsInSome problem (mine ++ theirs)) (IsInSome problem (mine ++ theirs)) most best left
-    → IsExplored problem (IsInSome problem nodes) (IsInSome problem nodes) most best left
-explored_dealt problem most nodes mine theirs best left dealt explored =
-    let inside : (places : List ℕ) → IsInSome problem (mine ++ theirs) places → IsInSome problem nodes places =
-    λ places is. dealt.inside places (some_either problem mine theirs places is) in
-    let wide =
-    explored_in problem (IsInSome problem (mine ++ theirs)) (IsInSome problem nodes) (IsInSome problem (mine ++ theirs)) most best left inside explored in
-    record {
-      found = wide.found;
-      still = record {
-        are = explored.still.are;
-        inside = λ places is. inside places (explored.still.inside places is);
-        all = λ places is cheap. explored.still.all places (elim (dealt.all places is) [
-          | inl first ↦ some_left problem mine theirs places first
-          | inr second ↦ some_right problem mine theirs places second
-        ]) cheap;
-      };
-    }
+pub explored_dealt : (problem : Problem) (Whole : List ℕ → Type 0) (most : ℤ) (nodes mine theirs : List Region)
+    (best : Option Key) (left : List Region) → AreDealt problem nodes mine theirs
+    → IsExplored problem Whole (IsInSome problem (mine ++ theirs)) most best left
+    → IsExplored problem Whole (IsInSome problem nodes) most best left
+explored_dealt problem Whole most nodes mine theirs best left dealt explored = record {
+  found = explored.found;
+  still = record {
+    are = explored.still.are;
+    inside = λ places is. dealt.inside places (some_either problem mine theirs places (explored.still.inside places is));
+    all = λ places is cheap. explored.still.all places (elim (dealt.all places is) [
+      | inl first ↦ some_left problem mine theirs places first
+      | inr second ↦ some_right problem mine theirs places second
+    ]) cheap;
+  };
+}
 
--- ---- one round after another
+-- ---- one search after another
 
-pub explored_round : (problem : Problem) (nodes : List Region) (most : ℤ) (best found after : Option Key)
-    (mid new : List Region)
-    → IsExplored problem (IsInSome problem nodes) (IsInSome problem nodes) most best mid
-    → IsExplored problem (IsInSome problem mid) (IsInSome problem mid) (limit_of most best) found new
+pub explored_next : (problem : Problem) (Whole : List ℕ → Type 0) (nodes : List Region) (most : ℤ)
+    (best found after : Option Key) (mid new : List Region)
+    → IsExplored problem Whole (IsInSome problem nodes) most best mid
+    → IsExplored problem Whole (IsInSome problem mid) (limit_of most best) found new
     → MatchOption found (after ≡ best) (λ key. after ≡ Some key)
-    → IsExplored problem (IsInSome problem nodes) (IsInSome problem nodes) most after new
-explored_round problem nodes most best None after mid new first next same =
-    let Here = IsInSome problem nodes in
-    subst (λ best. IsExplored problem Here Here most best new) (sym same)
-    (explored_on problem Here Here most best mid new first (explored_in problem (IsInSome problem mid) Here (IsInSome problem mid) (limit_of most best) None new first.still.inside next))
-explored_round problem nodes most best (Some key) after mid new first next same =
-    let Here = IsInSome problem nodes in
-    subst (λ best. IsExplored problem Here Here most best new) (sym same)
-    (explored_more problem Here Here most best key mid new first (explored_in problem (IsInSome problem mid) Here (IsInSome problem mid) (limit_of most best) (Some key) new first.still.inside next))
+    → IsExplored problem Whole (IsInSome problem nodes) most after new
+explored_next problem Whole nodes most best None after mid new first next same =
+    subst (λ best. IsExplored problem Whole (IsInSome problem nodes) most best new) (sym same)
+    (explored_on problem Whole (IsInSome problem nodes) most best mid new first next)
+explored_next problem Whole nodes most best (Some key) after mid new first next same =
+    subst (λ best. IsExplored problem Whole (IsInSome problem nodes) most best new) (sym same)
+    (explored_more problem Whole (IsInSome problem nodes) most best key mid new first next)

@@ -2,14 +2,15 @@
 use Rattle.std.specs.Prelude.{ℕ, ◌⊎◌, All, if◌then◌else◌, List, Option, Some, None, ℤ, int_lt}
 use Rattle.roster_model.specs.Problem.{Problem}
 use Rattle.roster_model.specs.Rosters.{Key}
-use Rattle.roster_search_regions.specs.Regions.{IsRegion, Region}
+use Rattle.roster_search_regions.specs.Regions.{IsIn, IsRegion, Region}
 use Rattle.roster_search.specs.Open.{IsExplored, IsInSome}
 use Rattle.roster_search.specs.declared.exploring.Explored.{Explored}
 
--- what comes of the rosters in some regions: one that costs at most so much, and what is left of the cheaper ones
-abbrev pub AreExplored : Problem → List Region → ℤ → Explored → Type 0
-AreExplored problem nodes most explored =
-    IsExplored problem (IsInSome problem nodes) (IsInSome problem nodes) most explored.best explored.left.items
+-- What comes of the rosters in some parts of a whole region: one of the whole that costs at most so much, and
+-- what is left of the cheaper ones.
+abbrev pub AreExplored : Problem → Region → List Region → ℤ → Explored → Type 0
+AreExplored problem whole nodes most explored =
+    IsExplored problem (IsIn problem whole) (IsInSome problem nodes) most explored.best explored.left.items
 
 -- the cheaper of two rosters, if there are both: the first if they cost the same
 abbrev pub cheaper_of : Option Key → Option Key → Option Key

@@ -1,91 +1,49 @@
 //! Threads that find one roster together.
 
-ghost use Rattle.std.specs.Prelude.{◌≡◌, ◌∷◌, ◌++◌, [], All, IfOk, List, MatchOption, Some};
+ghost use Rattle.std.specs.Prelude.{◌≡◌, ◌∷◌, ◌++◌, [], IfOk, List};
 ghost use Rattle.std.specs.Thread.{IsSync};
 ghost use Rattle.roster_search_least.specs.Least.{IsCheapestWithin};
-ghost use Rattle.roster_search_regions.specs.Regions.{IsIn, IsRegion, Region as PlainRegion};
+ghost use Rattle.roster_search_regions.specs.Regions.{IsIn, Region as PlainRegion};
+ghost use Rattle.roster_search.specs.Open.{ArePartsOf};
 ghost use Rattle.roster_search_threads.specs.Explored.{AreExplored};
 
-use crate::exploring::{Round, explore_by_threads};
+use crate::exploring::{explore_together, or_best};
+use crate::idle::{Halves, Idle};
+use crate::member::MOST_TIMES;
+use roster_incumbent::{Gate, Incumbent, Point};
 use roster_problem::Problem;
-use roster_search::{Explored, Never, OpenNode, explore, limit};
+use roster_search::{Explored, Never, explore, first_nodes, limit};
 use roster_search_least::Finder;
+use roster_search_prices::Relaxation;
 use roster_search_regions::{DualPrices, Region};
-use roster_values::Roster;
+use roster_values::{Places, Roster};
 use std::alloc::{AllocError, Global};
-use std::sync::atomic::{AtomicUsize, Ordering};
+use std::sync::{Arc, Wait};
 use std::thread::Threads;
-
-/// More rounds than any search has time for.
-const MOST_ROUNDS: usize = 1 << 32;
 
 /// A thread, and those that help it while they have nothing else to do.
 #[derive(Drop)]
-pub(crate) struct Crew<'r, R> {
+pub(crate) struct Crew<'r, R, G> {
     rt: &'r R,
-    // How many threads have nothing to do.
-    idle: &'r AtomicUsize,
+    idle: &'r Idle,
+    // The worker that the thread is, and the gate that it passes.
+    worker: usize,
+    gate: &'r G,
 }
 
-impl<'r, R: Threads + Sync> Crew<'r, R> {
-    /// The calling thread, helped by those that have nothing to do.
-    pub(crate) fn new(rt: &'r R, idle: &'r AtomicUsize) -> Crew<'r, R> {
-        Crew { rt, idle }
-    }
-
-    /// What comes of the open nodes in one round: the cheapest roster in them that was found and costs at most
-    /// so much, and what is left to search. Helpers are taken if there are more nodes than one, and let go at
-    /// the end.
-    fn round(
-        &self,
-        alloc: Global,
-        problem: &Problem,
-        nodes: Vec<OpenNode>,
-        most: i64,
-        enough: i64,
-    ) -> Result<Explored, AllocError>
-        requires { All (IsRegion problem.now) nodes.items }
-        ensures { IfOk result (AreExplored problem.now nodes.items most) }
-    {
-        let helpers = taken(self.idle, nodes.len().saturating_sub(1));
-        let round = Round::new();
-        let threads = helpers.saturating_add(1);
-        let explored = explore_by_threads(
-            self.rt, alloc, problem, nodes, most, enough, threads, self.idle, &round,
-        );
-        self.idle.fetch_add(helpers, Ordering::SeqCst);
-        explored
-    }
-
-    /// What comes of the open nodes in all rounds. Each roster that is found lowers what others may cost.
-    fn explore_in_rounds(
-        &self,
-        alloc: Global,
-        problem: &Problem,
-        nodes: Vec<OpenNode>,
-        most: i64,
-        enough: i64,
-    ) -> Result<Explored, AllocError>
-        requires { All (IsRegion problem.now) nodes.items }
-        ensures { IfOk result (AreExplored problem.now nodes.items most) }
-    {
-        let mut explored = Explored {
-            best: None,
-            left: nodes,
-        };
-        for _ in 0..MOST_ROUNDS {
-            let Some(less) = limit(most, enough, &explored.best, &explored.left) else {
-                break;
-            };
-            let Explored { best, left } = explored;
-            let next = self.round(alloc, problem, left, less, enough)?;
-            explored = or_best(next, best);
+impl<'r, R: Threads + Wait + Sync, G> Crew<'r, R, G> {
+    /// The calling thread, which is this worker, helped by those that have nothing to do.
+    pub(crate) fn new(rt: &'r R, idle: &'r Idle, worker: usize, gate: &'r G) -> Crew<'r, R, G> {
+        Crew {
+            rt,
+            idle,
+            worker,
+            gate,
         }
-        Ok(explored)
     }
 }
 
-impl<'r, R: Threads + Sync> Finder for Crew<'r, R> {
+impl<'r, R: Threads + Wait + Sync, G: Gate> Finder for Crew<'r, R, G> {
     ghost may_find = { IsSync R.row };
 
     ghost goes_on = { λ old new. Unit };
@@ -96,13 +54,28 @@ impl<'r, R: Threads + Sync> Finder for Crew<'r, R> {
         problem: &Problem,
         region: Region,
         prices: &DualPrices,
+        relaxation: &mut Relaxation,
         most: i64,
         enough: i64,
     ) -> Result<Option<Roster>, AllocError> {
-        let mut nodes = Vec::new(alloc);
-        nodes.push(OpenNode::new(region, prices.copy(alloc)?))?;
-        let explored = self.explore_in_rounds(alloc, problem, nodes, most, enough)?;
-        end_alone(alloc, problem, explored, most, enough)
+        self.gate.pass(self.worker, Point::Base);
+        let nodes = first_nodes(alloc, &region, prices)?;
+        let best = nothing_found(alloc)?;
+        let explored = explore_together(
+            self.rt,
+            alloc,
+            problem,
+            &region,
+            nodes,
+            most,
+            enough,
+            relaxation,
+            MOST_TIMES,
+            &best,
+            self.idle,
+            &Halves::one(),
+        )?;
+        end_alone(alloc, problem, &region, explored, most, enough, relaxation)
     }
 
     ghost stays = { λ now. tt };
@@ -110,51 +83,37 @@ impl<'r, R: Threads + Sync> Finder for Crew<'r, R> {
     ghost follows = { λ old mid new first then. tt };
 }
 
-/// Some of the idle threads, at most so many, which are no longer counted as idle.
-fn taken(idle: &AtomicUsize, most: usize) -> usize {
-    if most == 0 {
-        return 0;
-    }
-    let all = idle.swap(0, Ordering::SeqCst);
-    let taken = all.min(most);
-    idle.fetch_add(all.saturating_sub(taken), Ordering::SeqCst);
-    taken
+/// An incumbent that no search takes for a roster.
+fn nothing_found(alloc: Global) -> Result<Incumbent, AllocError> {
+    let nothing = Roster {
+        places: Places::new(Vec::new(alloc)),
+        cost: i64::MAX,
+    };
+    Ok(Incumbent::new(Arc::new(alloc, nothing)?))
 }
 
-/// What is explored, with the best roster before if no better one was found.
-fn or_best(explored: Explored, best: Option<Roster>) -> Explored
-    ensures left { result.left.items ≡ explored.left.items }
-    ensures best { MatchOption explored.best (result.best ≡ best) (λ found. result.best ≡ Some found) }
-{
-    let Explored { best: found, left } = explored;
-    match found {
-        Some(found) => Explored {
-            best: Some(found),
-            left,
-        },
-        None => Explored { best, left },
-    }
-}
-
-/// The best roster, once its search is over. If anything is left, as more rounds are over than any search has
-/// time for, one thread ends it.
+/// The best roster of the region, once its search is over. If anything is left, one thread ends it.
 fn end_alone(
     alloc: Global,
     problem: &Problem,
+    whole: &Region,
     explored: Explored,
     most: i64,
     enough: i64,
+    relaxation: &mut Relaxation,
 ) -> Result<Option<Roster>, AllocError>
-    requires { All (IsRegion problem.now) explored.left.items }
-    ensures { IfOk result (λ found. (node : PlainRegion) (nodes : List PlainRegion)
-        → nodes ≡ [] ++ node ∷ [] → AreExplored problem.now nodes most explored
-        → IsCheapestWithin problem.now (IsIn problem.now node) most enough found) }
+    requires { ArePartsOf problem.now whole.now explored.left.items }
+    ensures { IfOk result (λ found. (nodes : List PlainRegion) → nodes ≡ [] ++ whole.now ∷ []
+        → AreExplored problem.now whole.now nodes most explored
+        → IsCheapestWithin problem.now (IsIn problem.now whole.now) most enough found) }
 {
     let Explored { best, left } = explored;
     let Some(less) = limit(most, enough, &best, &left) else {
         return Ok(best);
     };
-    let rest = explore(alloc, problem, left, less, enough, &mut Never)?;
+    let rest = explore(
+        alloc, problem, whole, left, less, enough, relaxation, &mut Never,
+    )?;
     let Explored { best, left } = or_best(rest, best);
     match limit(most, enough, &best, &left) {
         Some(_) => Err(AllocError),

@@ -1,143 +1,163 @@
-//! Open nodes, which threads explore until one finds a roster or has nothing left, or others are idle.
+//! Open nodes, which threads explore together: one hands half of its nodes over to another.
 
-ghost use Rattle.std.specs.Prelude.{◌≡◌, ◌<◌, ◌++◌, All, IfOk, List, ℤ};
+ghost use Rattle.std.specs.Prelude.{◌≡◌, ◌<◌, ◌++◌, All, IfOk, List, MatchOption, Some, ℤ};
 ghost use Rattle.std.specs.Thread.{IsSync};
 ghost use Rattle.roster_model.specs.Problem.{Problem as PlainProblem};
-ghost use Rattle.roster_search_regions.specs.Regions.{IsRegion, Region};
+ghost use Rattle.roster_search_regions.specs.Regions.{IsRegion, Region as PlainRegion};
+ghost use Rattle.roster_search.specs.Open.{ArePartsOf};
 ghost use Rattle.roster_search_threads.specs.Explored.{cheaper_of, AreDealt, AreExplored};
 
+use crate::idle::{Halves, Idle};
+use crate::member::Member;
+use roster_incumbent::Incumbent;
 use roster_problem::Problem;
-use roster_search::{Explored, OpenNode, Stop, explore};
+use roster_search::{Explored, OpenNode, explore, limit};
+use roster_search_prices::Relaxation;
+use roster_search_regions::Region;
 use roster_values::Roster;
 use std::alloc::{AllocError, Global};
-use std::sync::atomic::{AtomicUsize, Ordering};
+use std::sync::Wait;
 use std::thread::{Threads, join};
 
-/// A thread stops for others once it has looked at so many lines: they take some milliseconds, and to start a
-/// thread takes some fifty microseconds.
-const FEWEST_LINES: usize = 1 << 15;
-
-/// What threads that explore together tell one another. No answer rests on it.
-#[derive(Drop)]
-pub(crate) struct Round {
-    // How many have nothing left.
-    ended: AtomicUsize,
-    // How many rosters are found.
-    found: AtomicUsize,
-}
-
-impl Round {
-    /// A round that nobody has ended.
-    pub(crate) fn new() -> Round {
-        Round {
-            ended: AtomicUsize::new(0),
-            found: AtomicUsize::new(0),
-        }
-    }
-
-    /// Whether a thread that has looked at so many lines goes on. It doesn't if a roster is found, which
-    /// lowers what all may pay; nor, after a while, if one has nothing left, or others, of which so many are
-    /// idle, have nothing to do.
-    fn goes_on(&self, idle: &AtomicUsize, lines: usize) -> bool {
-        if self.found.load(Ordering::SeqCst) > 0 {
-            return false;
-        }
-        lines < FEWEST_LINES
-            || self.ended.load(Ordering::SeqCst) == 0 && idle.load(Ordering::SeqCst) == 0
-    }
-}
-
-/// One thread of a round.
-#[derive(Drop)]
-struct Member<'a> {
-    idle: &'a AtomicUsize,
-    round: &'a Round,
-    // At how many lines it has looked.
-    lines: usize,
-}
-
-impl<'a> Stop for Member<'a> {
-    ghost goes_on = { λ old new. Unit };
-
-    fn node(&mut self, lines: usize, _others: usize) -> bool {
-        let goes_on = self.round.goes_on(self.idle, self.lines);
-        self.lines = self.lines.saturating_add(lines);
-        goes_on
-    }
-
-    fn found(&mut self, _roster: &Roster) {
-        self.round.found.fetch_add(1, Ordering::SeqCst);
-    }
-
-    ghost stays = { λ now. tt };
-
-    ghost follows = { λ old mid new first then. tt };
-}
-
-/// Explores the open nodes by so many threads, until the round ends: the cheapest roster in them that was found
-/// and costs at most so much, and what is left to search.
-pub(crate) fn explore_by_threads<R: Threads + Sync>(
+/// Explores the open nodes, which are parts of the whole region: the cheapest roster of the whole that was
+/// found and costs at most so much, and what is left to search.
+///
+/// The thread explores them by itself until others have nothing to do. Then one of these takes half of what
+/// is left, so often in a row at most. What anyone finds lowers what all may pay. Each half has a copy of the
+/// relaxation.
+#[cycle(together)]
+pub(crate) fn explore_together<R: Threads + Wait + Sync>(
     rt: &R,
     alloc: Global,
     problem: &Problem,
+    whole: &Region,
     nodes: Vec<OpenNode>,
     most: i64,
     enough: i64,
-    threads: usize,
-    idle: &AtomicUsize,
-    round: &Round,
+    relaxation: &mut Relaxation,
+    times: usize,
+    best: &Incumbent,
+    idle: &Idle,
+    halves: &Halves,
 ) -> Result<Explored, AllocError>
-    requires { All (IsRegion problem.now) nodes.items }
-    ensures { IfOk result (AreExplored problem.now nodes.items most) }
+    requires { ArePartsOf problem.now whole.now nodes.items }
+    ensures { IfOk result (AreExplored problem.now whole.now nodes.items most) }
 {
-    if threads < 2 {
-        return Ok(explore_alone(alloc, problem, nodes, most, enough, idle, round)?);
-    }
+    let mut member = Member::new(rt, alloc, best, idle, times);
+    let Explored { best: found, left } = explore(
+        alloc,
+        problem,
+        whole,
+        nodes,
+        most,
+        enough,
+        relaxation,
+        &mut member,
+    )?;
+    let Some(less) = limit(most, enough, &found, &left) else {
+        halves.end(idle);
+        return Ok(Explored { best: found, left });
+    };
+    let next = explore_halves(
+        rt, alloc, problem, whole, left, less, enough, relaxation, times, best, idle,
+    )?;
+    halves.end(idle);
+    Ok(or_best(next, found))
+}
+
+/// Explores the open nodes, each half of them by a thread of its own.
+#[cycle(together)]
+fn explore_halves<R: Threads + Wait + Sync>(
+    rt: &R,
+    alloc: Global,
+    problem: &Problem,
+    whole: &Region,
+    nodes: Vec<OpenNode>,
+    most: i64,
+    enough: i64,
+    relaxation: &Relaxation,
+    times: usize,
+    best: &Incumbent,
+    idle: &Idle,
+) -> Result<Explored, AllocError>
+    requires { ArePartsOf problem.now whole.now nodes.items }
+    ensures { IfOk result (AreExplored problem.now whole.now nodes.items most) }
+{
+    let Some(fewer) = times.checked_sub(1) else {
+        return Ok(unexplored(nodes));
+    };
     let (mine, theirs) = dealt(alloc, problem, nodes)?;
-    let half = half_of(threads);
-    let rest = threads - half;
+    let halves = Halves::both();
+    let halves = &halves;
     let here = move || -> Result<Explored, AllocError>
-        requires { IsSync R.row × All (IsRegion problem.now) mine.items }
-        ensures { IfOk result (AreExplored problem.entry.now mine.items most) }
-    { explore_by_threads(rt, alloc, problem, mine, most, enough, half, idle, round) };
+        requires { IsSync R.row × ArePartsOf problem.now whole.now mine.items }
+        ensures { IfOk result (AreExplored problem.entry.now whole.entry.now mine.items most) }
+    {
+        explore_half(
+            rt, alloc, problem, whole, mine, most, enough, relaxation, fewer, best, idle, halves,
+        )
+    };
     let there = move || -> Result<Explored, AllocError>
-        requires { IsSync R.row × All (IsRegion problem.now) theirs.items }
-        ensures { IfOk result (AreExplored problem.entry.now theirs.items most) }
-    { explore_by_threads(rt, alloc, problem, theirs, most, enough, rest, idle, round) };
+        requires { IsSync R.row × ArePartsOf problem.now whole.now theirs.items }
+        ensures { IfOk result (AreExplored problem.entry.now whole.entry.now theirs.items most) }
+    {
+        explore_half(
+            rt, alloc, problem, whole, theirs, most, enough, relaxation, fewer, best, idle, halves,
+        )
+    };
     let (here, there) = join(rt, here, there);
     both(here?, there?)
 }
 
-/// Explores the open nodes by one thread, until the round ends.
-fn explore_alone(
+/// `explore_together` of one half, with a relaxation of its own.
+#[cycle(together)]
+fn explore_half<R: Threads + Wait + Sync>(
+    rt: &R,
     alloc: Global,
     problem: &Problem,
+    whole: &Region,
     nodes: Vec<OpenNode>,
     most: i64,
     enough: i64,
-    idle: &AtomicUsize,
-    round: &Round,
+    relaxation: &Relaxation,
+    times: usize,
+    best: &Incumbent,
+    idle: &Idle,
+    halves: &Halves,
 ) -> Result<Explored, AllocError>
-    requires { All (IsRegion problem.now) nodes.items }
-    ensures { IfOk result (AreExplored problem.now nodes.items most) }
+    requires { ArePartsOf problem.now whole.now nodes.items }
+    ensures { IfOk result (AreExplored problem.now whole.now nodes.items most) }
 {
-    let mut member = Member {
-        idle: &*idle,
-        round: &*round,
-        lines: 0,
-    };
-    let explored = explore(alloc, problem, nodes, most, enough, &mut member)?;
-    round.ended.fetch_add(1, Ordering::SeqCst);
-    Ok(explored)
+    let mut own = relaxation.copy(alloc)?;
+    explore_together(
+        rt, alloc, problem, whole, nodes, most, enough, &mut own, times, best, idle, halves,
+    )
 }
 
-/// Half of the threads, of two at least.
-fn half_of(threads: usize) -> usize
-    requires { 1 < threads }
-    ensures some { 0 < result }
-    ensures fewer { result < threads }
+/// Nothing is found, and all is left.
+fn unexplored(nodes: Vec<OpenNode>) -> Explored
+    ensures { (problem : PlainProblem) (whole : PlainRegion) (most : ℤ)
+        → ArePartsOf problem whole nodes.items → AreExplored problem whole nodes.items most result }
 {
-    threads / 2
+    Explored {
+        best: None,
+        left: nodes,
+    }
+}
+
+/// What is explored, with the best roster before if no better one was found.
+pub(crate) fn or_best(explored: Explored, best: Option<Roster>) -> Explored
+    ensures left { result.left.items ≡ explored.left.items }
+    ensures best { MatchOption explored.best (result.best ≡ best) (λ found. result.best ≡ Some found) }
+{
+    let Explored { best: found, left } = explored;
+    match found {
+        Some(found) => Explored {
+            best: Some(found),
+            left,
+        },
+        None => Explored { best, left },
+    }
 }
 
 /// The open nodes in two lists, in turn and in their order.
@@ -167,9 +187,10 @@ fn dealt(
 
 /// What comes of two lists of open nodes.
 fn both(here: Explored, there: Explored) -> Result<Explored, AllocError>
-    ensures { IfOk result (λ both. (problem : PlainProblem) (mine theirs : List Region) (most : ℤ)
-        → AreExplored problem mine most here → AreExplored problem theirs most there
-        → AreExplored problem (mine ++ theirs) most both) }
+    ensures { IfOk result (λ both. (problem : PlainProblem) (whole : PlainRegion)
+        (mine theirs : List PlainRegion) (most : ℤ)
+        → AreExplored problem whole mine most here → AreExplored problem whole theirs most there
+        → AreExplored problem whole (mine ++ theirs) most both) }
 {
     let best = cheaper(here.best, there.best);
     let mut left = here.left;

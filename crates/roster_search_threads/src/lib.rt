@@ -6,13 +6,17 @@
 //!
 //! - `bases`: the least roster of all, united from those of the bases
 //! - `shared`: bases that several threads search
-//! - `crew`: threads that find one roster together, in rounds
-//! - `exploring`: one round
+//! - `crew`: threads that find one roster together
+//! - `exploring`: open nodes that they explore, each handing half of its own over
+//! - `member`: one of these threads
+//! - `idle`: threads that have nothing to do
 #![tactic(auto)]
 
 mod bases;
 mod crew;
 mod exploring;
+mod idle;
+mod member;
 mod shared;
 
 pub use bases::search_bases;

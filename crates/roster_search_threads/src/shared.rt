@@ -8,7 +8,9 @@ ghost use Rattle.roster_search_least.specs.Parts.{AreBaseParts, IsInPart};
 ghost use Rattle.roster_lines_table.specs.Person.{AreListed};
 
 use crate::crew::Crew;
+use crate::idle::Idle;
 use roster_bases::{has_crew, is_person_of};
+use roster_incumbent::Gate;
 use roster_lines_table::Table;
 use roster_model::limits::MOST_BASES;
 use roster_problem::Problem;
@@ -17,17 +19,19 @@ use roster_search_least::{LeastOfBase, least_in, region_of_base};
 use roster_search_regions::DualPrices;
 use roster_values::Roster;
 use std::alloc::{AllocError, Global};
+use std::sync::Wait;
 use std::sync::atomic::{AtomicUsize, Ordering};
 use std::thread::{Threads, map_indices};
 
 /// The least rosters of bases, found by so many threads. What is missing is searched by the caller.
-pub(crate) fn parts_by_threads<R: Threads + Sync>(
+pub(crate) fn parts_by_threads<R: Threads + Wait + Sync, G: Gate + Sync>(
     rt: &R,
     alloc: Global,
     problem: &Problem,
     table: &Table,
     ranges: &[(usize, usize)],
     threads: usize,
+    gate: &G,
 ) -> Result<Vec<LeastOfBase>, AllocError>
     requires table { AreListed problem.now table.now }
     requires ranges { length ranges.now ≡ length table.now }
@@ -37,14 +41,18 @@ pub(crate) fn parts_by_threads<R: Threads + Sync>(
     let bases = by_size(alloc, problem, table)?;
     let bases = bases.as_slice();
     let next = AtomicUsize::new(0);
-    let idle = AtomicUsize::new(0);
+    let idle = Idle::nobody();
     let each = threads_a_base(problem, threads);
-    let turns = |_: usize| -> Result<Vec<LeastOfBase>, AllocError>
+    let turns = |worker: usize| -> Result<Vec<LeastOfBase>, AllocError>
         requires { IsSync R.row × AreListed problem.now table.now
             × (length ranges.now ≡ length table.now) × (0 < each) }
         ensures { IfOk result (λ parts.
             AreBaseParts problem.entry.now table.entry.now ranges.entry.now parts.items) }
-    { parts_in_turn(rt, alloc, each, problem, table, ranges, bases, &next, &idle) };
+    {
+        parts_in_turn(
+            rt, alloc, each, problem, table, ranges, bases, &next, &idle, worker, gate,
+        )
+    };
     let lists = map_indices(rt, alloc, threads, &turns)?;
     gathered(alloc, problem, table, ranges, lists)
 }
@@ -95,7 +103,7 @@ fn threads_a_base(problem: &Problem, threads: usize) -> usize
 }
 
 /// The least rosters of the bases that nobody else has taken, one after another. Then the thread is idle.
-fn parts_in_turn<R: Threads + Sync>(
+fn parts_in_turn<R: Threads + Wait + Sync, G: Gate>(
     rt: &R,
     alloc: Global,
     threads: usize,
@@ -104,7 +112,9 @@ fn parts_in_turn<R: Threads + Sync>(
     ranges: &[(usize, usize)],
     bases: &[usize],
     next: &AtomicUsize,
-    idle: &AtomicUsize,
+    idle: &Idle,
+    worker: usize,
+    gate: &G,
 ) -> Result<Vec<LeastOfBase>, AllocError>
     requires table { AreListed problem.now table.now }
     requires ranges { length ranges.now ≡ length table.now }
@@ -118,26 +128,27 @@ fn parts_in_turn<R: Threads + Sync>(
             break;
         }
         let base = bases[turn];
+        let mut crew = Crew::new(rt, idle, worker, gate);
         let least = least_of_base_by_threads(
-            rt, alloc, threads, idle, problem, table, ranges, base,
+            rt, alloc, threads, problem, table, ranges, base, &mut crew,
         )?;
         parts.push((base, least))?;
     }
-    idle.fetch_add(1, Ordering::SeqCst);
+    idle.add();
     Ok(parts)
 }
 
 /// The least roster in which the persons of one base have lines in their ranges and all others no pairing,
 /// if there is one. So many threads look at the lines; those that have nothing to do help to search.
-fn least_of_base_by_threads<R: Threads + Sync>(
+fn least_of_base_by_threads<R: Threads + Wait + Sync, G: Gate>(
     rt: &R,
     alloc: Global,
     threads: usize,
-    idle: &AtomicUsize,
     problem: &Problem,
     table: &Table,
     ranges: &[(usize, usize)],
     base: usize,
+    crew: &mut Crew<'_, R, G>,
 ) -> Result<Option<Roster>, AllocError>
     requires table { AreListed problem.now table.now }
     requires ranges { length ranges.now ≡ length table.now }
@@ -148,16 +159,7 @@ fn least_of_base_by_threads<R: Threads + Sync>(
     let region = region_of_base(alloc, problem, table, ranges, base)?;
     let first = DualPrices::of_penalties(alloc, problem, &region)?;
     let root = root_prices_by_threads(rt, alloc, threads, problem, &region, &first, i64::MAX)?;
-    least_in(
-        alloc,
-        problem,
-        table,
-        ranges,
-        base,
-        region,
-        root,
-        &mut Crew::new(rt, idle),
-    )
+    least_in(alloc, problem, table, ranges, base, region, root, crew)
 }
 
 /// All that the threads found; or that memory ran out for one of them.

@@ -64,9 +64,9 @@ row_behind-requires-clause-tail c =
     let at =
     found_at c.args.tails.now.items (length c.pairings-count.result.now - from)
     (length problem.pairings - from) c.index-tail.result.now c.index-tail.ensures (omega (arith, count))
-    (omega (arith, count, inv.longer, c.requires.some, c.all_from-from.ensures)) in
+    (omega (arith, count, inv.longer, c.requires.some, c.all_from-from.ensures.place)) in
     subst (λ n. IsTail network c.args.values.now n c.index-tail.result.now)
-    (omega (arith, count, c.all_from-from.ensures))
+    (omega (arith, count, c.all_from-from.ensures.place))
     (inv.are_tails.each (length problem.pairings - from) c.index-tail.result.now (omega arith) at)
 
 pub row_behind-requires-clause-near : goal.row_behind-requires-clause-near
@@ -79,7 +79,7 @@ row_behind-requires-clause-near c =
     subst (All (IsWithin (MOST_TARGET_TERM + length c.args.tails.now.items * MOST_CHAIN_VALUE)))
     (sym c.index-tail.ensures)
     (inv.are_tails.within (length c.pairings-count.result.now - from) c.index-tail.result.now
-    (omega (arith, count, inv.longer, c.requires.some, c.all_from-from.ensures))) in
+    (omega (arith, count, inv.longer, c.requires.some, c.all_from-from.ensures.place))) in
     All-within-more (MOST_TARGET_TERM + length c.args.tails.now.items * MOST_CHAIN_VALUE) _ c.index-tail.result.now
     (omega (arith, long, inv.longer)) tail
 

@@ -1,4 +1,5 @@
 use Rattle.std.proofs.Common.{◌+◌, pos, neg_ℤ, ◌-ℤ◌, ◌^◌}
+use Rattle.roster_search_regions.specs.Regions.{IsIn}
 use Rattle.roster_search_least.proofs.CheapestLemmas.{distance_up}
 use Rattle.roster_search.specs.Open.{limit_of, weight_of, IsExplored, IsInSome}
 use Rattle.roster_search.proofs.exploring.explore.Given as goal
@@ -6,7 +7,7 @@ use Rattle.roster_search.proofs.exploring.explore.Given as goal
 -- what is found, and what is left
 abbrev pub invariant-loop-most : goal.invariant-loop-most
 invariant-loop-most g l = record {
-  explored : IsExplored l.problem (IsInSome l.problem l.fn.nodes.items) (IsInSome l.problem l.fn.nodes.items) l.most l.best l.left.items;
+  explored : IsExplored l.problem (IsIn l.problem l.whole) (IsInSome l.problem l.fn.nodes.items) l.most l.best l.left.items;
   goes_on : g.S.Stop.goes_on l.initial.stop l.stop;
 }
 

@@ -1,27 +1,19 @@
-use Rattle.std.proofs.Common.{w64, ℤ, to_z, of_z, subst}
-use Rattle.std.proofs.lemmas.Int.{to_z-of_z}
-use Rattle.roster_model.specs.Settled.{CostsMore}
+use Rattle.std.proofs.Common.{w64, ℤ, List, ℕ, to_z, of_z, subst, arith}
+use Rattle.std.proofs.lemmas.Int.{ints, to_z-of_z}
+use Rattle.roster_search_least.proofs.FindLemmas.{if_ok}
 use Rattle.roster_search_regions.specs.Regions.{IsIn}
+use Rattle.roster_search_fixing.specs.Bounds.{CostsAtMost}
 use Rattle.roster_search.specs.Open.{IsVisited}
-use Rattle.roster_search.specs.Refined.{IsRefined}
-use Rattle.roster_search.proofs.OpenLemmas.{visited_in_part}
+use Rattle.roster_search.proofs.OpenLemmas.{visited_at_most}
 use Rattle.roster_search.proofs.visiting.visit.Goals as goal
 
-pub returns-in-Nothing : goal.returns-in-Nothing
-returns-in-Nothing c =
+pub returns : goal.returns
+returns c =
     let problem = c.args.problem.now in
-    let most : ℤ = to_z w64 (of_z w64 c.args.most) in
-    let refined = subst (λ region. IsRefined problem most region c.refine.new.region c.in_ok-refine.field-0) c.node.view_is c.in_ok-refine.ensures in
-    let above = subst (IsRefined problem most c.args.node c.refine.new.region) c.in-Nothing.is refined in
-    subst (CostsMore problem (IsIn problem c.args.node)) (to_z-of_z w64 c.args.most c.ranges.most)
-    (λ others legal inside. above others inside)
-
-pub returns-in_ok-part-in-Part : goal.returns-in_ok-part-in-Part
-returns-in_ok-part-in-Part c =
-    let problem = c.args.problem.now in
-    let most : ℤ = to_z w64 (of_z w64 c.args.most) in
-    let refined = subst (λ region. IsRefined problem most region c.refine.new.region c.in_ok-refine.field-0) c.node.view_is c.in_ok-refine.ensures in
-    let left = subst (IsRefined problem most c.args.node c.refine.new.region) c.in-Part.is refined in
-    subst (λ most. IsVisited problem c.args.node most c.in_ok-part-in-Part.field-0)
-    (to_z-of_z w64 c.args.most c.ranges.most)
-    (visited_in_part problem most c.args.node c.refine.new.region c.in_ok-part-in-Part.field-0 left c.in_ok-part-in-Part.ensures)
+    let node = c.args.node in
+    let low : ℤ = to_z w64 (of_z w64 c.cost_at_most-most.result) in
+    let most : ℤ = c.args.most in
+    let at = subst (λ m. (places : List ℕ) → IsIn problem c.node.inside.region places → CostsAtMost problem m places → CostsAtMost problem c.cost_at_most-most.result places) (to_z-of_z w64 c.args.most c.ranges.most) c.cost_at_most-most.ensures.same in
+    let same = subst (λ region. (places : List ℕ) → IsIn problem region places → CostsAtMost problem most places → CostsAtMost problem c.cost_at_most-most.result places) c.node.view_is at in
+    if_ok c.visit_at.result (IsVisited problem node low) (IsVisited problem node most) c.visit_at.ensures
+    (λ visited is. visited_at_most problem node most low visited (omega (arith, ints, c.cost_at_most-most.ensures.most)) (λ places there within. let few = same places there within in omega (arith, ints, few)) is)

@@ -1,5 +1,7 @@
 use Rattle.std.proofs.Common.{◌≡◌, true, w64, to_z, of_z, subst, rules}
+use Rattle.std.specs.Prelude.{◌<ℤ◌, MatchOption}
 use Rattle.std.proofs.lemmas.Int.{to_z-of_z}
+use Rattle.roster_model.specs.Costs.{cost_of}
 use Rattle.std.proofs.lemmas.Option.{MatchOption-at_some}
 use Rattle.roster_search_regions.specs.Regions.{IsNarrowed}
 use Rattle.roster_search_fixing.specs.Bounds.{CostsAtMost, IsAllAbove}
@@ -31,3 +33,15 @@ returns-in_ok-fix_lines-in-Some-2 c =
     narrowed_then problem Costs c.args.region.now c.propagate.new.region c.fix_pairings.new.region
     (narrowed_by_less problem Costs c.args.region.now c.propagate.new.region first)
     (narrowed_then problem Costs c.propagate.new.region c.fix_lines.new.region c.fix_pairings.new.region lines pairings)
+
+pub returns-in-None : goal.returns-in-None
+returns-in-None c places there =
+    let problem = c.args.problem.now in
+    let yes : c.in_ok-propagate.field-0 ≡ true = search rules in
+    let first =
+    match_true c.in_ok-propagate.field-0
+    (IsNarrowed problem Anything c.args.region.now c.propagate.new.region)
+    (IsEmpty problem c.args.region.now) yes c.in_ok-propagate.ensures in
+    let above = subst (λ found. MatchOption found (IsAllAbove problem c.propagate.new.region (to_z w64 (of_z w64 c.args.most))) (λ bounds. IsUse problem c.propagate.new.region c.args.prices.now bounds (to_z w64 (of_z w64 c.args.most)))) c.in-None.is c.in_ok-bounds_of.ensures in
+    subst (λ most. most <ℤ cost_of problem places) (to_z-of_z w64 c.args.most c.ranges.most)
+    (above places (first.kept places there tt))

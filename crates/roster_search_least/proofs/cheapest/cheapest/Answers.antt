@@ -28,6 +28,12 @@ loop-low-preserved g c =
     let low : ℤ = to_z w64 c.loop-low.low-bits in
     let none = subst (IsCheapestWithin problem Here most low) c.in-None.is (found_in_copy problem c.args.region.now c.in_ok-copy.field-0 most low c.in_ok-roster.field-0 c.in_ok-copy.ensures c.in_ok-roster.ensures.found) in
     record {
-      least = raised_least problem Here most _ none (omega (arith, ints, c.raised-most.ensures.below));
+      least = raised_least problem Here most _ none (λ places there above.
+          let least = c.cost_above-low.ensures.least places there (omega (arith, ints, above)) in
+          omega (arith, ints, least));
       goes_on = g.met.F.Finder.follows _ _ _ c.loop-low.invariant.goes_on c.find.ensures.goes_on;
     }
+
+pub returns-in_err-roster-clause-goes_on : goal.returns-in_err-roster-clause-goes_on
+returns-in_err-roster-clause-goes_on g c =
+    g.met.F.Finder.follows _ _ _ c.loop-low.invariant.goes_on c.find.ensures.goes_on

@@ -1,10 +1,25 @@
-use Rattle.std.proofs.Common.{◌≡◌, ◌++◌, List, [], ◌∷◌, ℤ, w64, to_z, of_z, subst}
+use Rattle.std.proofs.Common.{List, ℤ, w64, to_z, of_z, subst}
 use Rattle.std.specs.Prelude.{IfOk}
 use Rattle.std.proofs.lemmas.Int.{to_z-of_z}
 use Rattle.roster_search_least.specs.Least.{IsCheapestWithin}
 use Rattle.roster_search_regions.specs.Regions.{IsIn, Region}
 use Rattle.roster_search_least.proofs.FindLemmas.{if_ok}
+use Rattle.roster_search.proofs.OpenLemmas.{one_part, parts_left}
 use Rattle.roster_search_threads.proofs.crew.CrewFinder.find.Goals as goal
+
+pub explore_together-requires : goal.explore_together-requires
+explore_together-requires g c = (
+  c.requires.may_find,
+  one_part c.args.problem.now c.args.region c.in_ok-nodes.nodes.items c.requires.region c.in_ok-nodes.ensures,
+)
+
+pub end_alone-requires : goal.end_alone-requires
+end_alone-requires g c =
+    let problem = c.args.problem.now in
+    let nodes : List Region = c.in_ok-nodes.nodes.items in
+    let explored = c.in_ok-explored.ensures in
+    let parts = one_part problem c.args.region nodes c.requires.region c.in_ok-nodes.ensures in
+    parts_left problem c.args.region nodes c.in_ok-explored.explored.left.items _ parts explored.still
 
 pub returns-clause-found : goal.returns-clause-found
 returns-clause-found g c =
@@ -13,8 +28,7 @@ returns-clause-found g c =
     let Here = IsIn problem region in
     let most : ℤ = to_z w64 (of_z w64 c.args.most) in
     let enough : ℤ = to_z w64 (of_z w64 c.args.enough) in
-    let nodes : List Region = c.push.new.self.items in
-    let same : nodes ≡ [] ++ region ∷ [] = subst (λ node. nodes ≡ [] ++ node ∷ []) c.new.ensures (subst (λ xs. nodes ≡ xs ++ c.new.result ∷ []) c.new-nodes.ensures.items c.in_ok-push.ensures.items) in
-    let found = if_ok c.end_alone.result _ (IsCheapestWithin problem Here most enough) c.end_alone.ensures (λ found is. is region nodes same c.in_ok-explored.ensures) in
+    let nodes : List Region = c.in_ok-nodes.nodes.items in
+    let found = if_ok c.end_alone.result _ (IsCheapestWithin problem Here most enough) c.end_alone.ensures (λ found is. is nodes c.in_ok-nodes.ensures c.in_ok-explored.ensures) in
     subst (λ most. IfOk c.end_alone.result (IsCheapestWithin problem Here most c.args.enough)) (to_z-of_z w64 c.args.most c.ranges.most)
     (subst (λ enough. IfOk c.end_alone.result (IsCheapestWithin problem Here most enough)) (to_z-of_z w64 c.args.enough c.ranges.enough) found)

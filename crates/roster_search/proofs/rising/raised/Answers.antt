@@ -6,7 +6,7 @@ use Rattle.roster_search_regions.specs.Regions.{IsIn, IsNarrowed}
 use Rattle.roster_search_fixing.specs.Bounds.{CostsAtMost, IsAllAbove}
 use Rattle.roster_search_fixing.proofs.Narrowing.{narrowed_then}
 use Rattle.roster_search_least.proofs.FindLemmas.{above_part, says_no, says_yes, within_part}
-use Rattle.roster_search.proofs.refining.refine.Goals as goal
+use Rattle.roster_search.proofs.rising.raised.Goals as goal
 
 pub returns-then-not-branch : goal.returns-then-not-branch
 returns-then-not-branch c =

@@ -1,6 +1,6 @@
 use Rattle.roster_search_regions.specs.Regions.{IsNarrowed}
 use Rattle.roster_search_fixing.specs.Bounds.{CostsAtMost}
-use Rattle.roster_search.proofs.refining.refine.Given as goal
+use Rattle.roster_search.proofs.rising.raised.Given as goal
 
 -- what is left has all that is cheap
 abbrev pub invariant-loop-step : goal.invariant-loop-step

@@ -1,0 +1,116 @@
+//! What a region is parted by, and its two sides.
+
+ghost use Rattle.std.specs.Prelude.{◌<◌, IfOk, IsTrue, MatchOption, OnOk};
+ghost use Rattle.roster_search_regions.specs.Regions.{size_of, IsDecided, IsNarrowed, IsRegion};
+ghost use Rattle.roster_search.specs.Branches.{IsBranch, IsOnFirst, IsOnOther};
+
+use roster_problem::Problem;
+use roster_search_fixing::{is_split, pick};
+use roster_search_prices::{Relaxation, Split, branch, branch_by_shares};
+use roster_search_regions::{DualPrices, Region};
+use std::alloc::{AllocError, Global};
+
+/// What to settle next, if all isn't decided.
+pub(crate) fn next_branch(
+    alloc: Global,
+    problem: &Problem,
+    region: &Region,
+    prices: &DualPrices,
+    relaxation: &Relaxation,
+) -> Result<Option<Split>, AllocError>
+    requires { IsRegion problem.now region.now }
+    ensures { IfOk result (λ next. MatchOption next (IsDecided region.now)
+        (IsBranch problem.now region.now)) }
+{
+    let wanted = likely_branch(alloc, problem, region, prices, relaxation)?;
+    if is_branch(problem, region, wanted) {
+        return Ok(Some(wanted));
+    }
+    Ok(pick(problem, region).map(|pair| Split::Holder(pair.0, pair.1)))
+}
+
+/// What it is best to settle next, as the relaxation says, if it has rows, or the prices.
+fn likely_branch(
+    alloc: Global,
+    problem: &Problem,
+    region: &Region,
+    prices: &DualPrices,
+    relaxation: &Relaxation,
+) -> Result<Split, AllocError>
+    requires { IsRegion problem.now region.now }
+{
+    if relaxation.is_on() {
+        branch_by_shares(alloc, problem, region, relaxation)
+    } else {
+        branch(alloc, problem, region, prices)
+    }
+}
+
+/// Whether the region can be parted so: both are left.
+fn is_branch(problem: &Problem, region: &Region, branch: Split) -> bool
+    requires { IsRegion problem.now region.now }
+    ensures { IsTrue result → IsBranch problem.now region.now branch }
+{
+    match branch {
+        Split::Holder(k, p) => {
+            if k < problem.persons().len() && p < problem.pairings().len() {
+                return is_split(region, k, p);
+            }
+            false
+        }
+        Split::Flown(p) => {
+            if region.is_flown(p) || region.is_left_open(p) {
+                return false;
+            }
+            p < problem.pairings().len()
+        }
+    }
+}
+
+/// The rosters of the region on the first side of a branch: in them the person has the pairing, or the pairing
+/// is flown.
+pub(crate) fn first_side(
+    alloc: Global,
+    problem: &Problem,
+    region: &Region,
+    branch: Split,
+) -> Result<Region, AllocError>
+    requires region { IsRegion problem.now region.now }
+    requires branch { IsBranch problem.now region.now branch }
+    ensures narrowed { IfOk result (IsNarrowed problem.now (IsOnFirst problem.now branch) region.now) }
+    ensures fewer { IfOk result (λ side. size_of side < size_of region.now) }
+{
+    let mut side = region.copy(alloc)?;
+    match branch {
+        Split::Holder(k, p) => {
+            side.give(alloc, problem, k, p)?;
+            Ok(side)
+        }
+        Split::Flown(p) => {
+            side.fly(problem, p);
+            Ok(side)
+        }
+    }
+}
+
+/// Leaves in the region the rosters on the other side of a branch.
+pub(crate) fn keep_other_side(
+    alloc: Global,
+    problem: &Problem,
+    region: &mut Region,
+    branch: Split,
+) -> Result<(), AllocError>
+    requires region { IsRegion problem.now region.old }
+    requires branch { IsBranch problem.now region.old branch }
+    ensures narrowed { OnOk result (IsNarrowed problem.now (IsOnOther problem.now branch)
+        region.old region.new) }
+    ensures fewer { OnOk result (size_of region.new < size_of region.old) }
+{
+    match branch {
+        Split::Holder(k, p) => region.deny(alloc, problem, k, p),
+        Split::Flown(p) => {
+            region.leave_open(problem, p);
+            Ok(())
+        }
+    }
+}

@@ -1,0 +1,149 @@
+//! Which choice of a person to settle next, by shares of a linear program.
+
+ghost use Rattle.std.specs.Prelude.{◌<◌, length};
+ghost use Rattle.roster_search_regions.specs.Regions.{IsRegion};
+
+use crate::branching::Split;
+use crate::relaxation::Relaxation;
+use crate::tuning::{
+    BEST_SHARE_OF_LINES, LEAST_SHARE, MOST_SHARE_OF_LINES, SHARE_PER_DOUBLING, SHARE_PER_PERSON,
+};
+use roster_problem::Problem;
+use roster_search_regions::Region;
+use std::alloc::{AllocError, Global};
+
+/// A half, in thousandths.
+const HALF: u32 = 500;
+
+/// A person and a pairing, and what weighs against settling whether that person has it. What isn't settled in
+/// the solution comes before what is.
+#[derive(Clone, Copy)]
+struct Pick {
+    is_settled: bool,
+    weight: u32,
+    k: usize,
+    p: usize,
+}
+
+impl Pick {
+    // Whether it is better than the other one.
+    fn is_before(&self, other: &Pick) -> bool {
+        if self.is_settled == other.is_settled {
+            self.weight < other.weight
+        } else {
+            other.is_settled
+        }
+    }
+}
+
+/// What it is best to settle next, by the last solution of the program: a pairing of which it leaves a part open;
+/// or else a person and a pairing that some of the person's lines have, and some haven't; the first of both if there
+/// are none.
+pub fn branch_by_shares(
+    alloc: Global,
+    problem: &Problem,
+    region: &Region,
+    relaxation: &Relaxation,
+) -> Result<Split, AllocError>
+    requires { IsRegion problem.now region.now }
+{
+    if let Some(p) = half_open(region, relaxation) {
+        return Ok(Split::Flown(p));
+    }
+    let crowds = crowds(alloc, problem, region, relaxation)?;
+    let mut shares = vec![in alloc; 0_u32; crowds.len()]?;
+    let mut best = Pick {
+        is_settled: true,
+        weight: u32::MAX,
+        k: 0,
+        p: 0,
+    };
+    for (row, k) in relaxation.persons().iter().enumerate() {
+        let k = *k;
+        if k < problem.persons().len() && region.width(k) > 1 {
+            relaxation.put_shares(row, &mut shares);
+            best = better(region, relaxation.pairings(), &shares, &crowds, k, best);
+        }
+    }
+    Ok(Split::Holder(best.k, best.p))
+}
+
+/// The pairing of which the last solution leaves a part open that is nearest to a half, if the region leaves it to
+/// be decided.
+fn half_open(region: &Region, relaxation: &Relaxation) -> Option<usize> {
+    let mut best = None;
+    let mut least = HALF - LEAST_SHARE;
+    for p in relaxation.pairings() {
+        let distance = relaxation.open_share(*p).abs_diff(HALF);
+        if distance < least && !region.is_flown(*p) && !region.is_left_open(*p) {
+            least = distance;
+            best = Some(*p);
+        }
+    }
+    best
+}
+
+/// How much weighs against each pairing with a row, by how many persons can have it.
+fn crowds(
+    alloc: Global,
+    problem: &Problem,
+    region: &Region,
+    relaxation: &Relaxation,
+) -> Result<Vec<u32>, AllocError>
+    requires { IsRegion problem.now region.now }
+{
+    let mut crowds = vec![in alloc; 0_u32; relaxation.pairings().len()]?;
+    for k in relaxation.persons() {
+        if *k < problem.persons().len() {
+            let possible = region.possible(*k);
+            for (row, p) in relaxation.pairings().iter().enumerate() {
+                if possible.has(*p) && row < crowds.len() {
+                    crowds[row] = crowds[row].saturating_add(SHARE_PER_PERSON);
+                }
+            }
+        }
+    }
+    Ok(crowds)
+}
+
+/// The best of a pick and those of person `k`, of whose lines pairings have these shares.
+fn better(
+    region: &Region,
+    pairings: &[usize],
+    shares: &[u32],
+    crowds: &[u32],
+    k: usize,
+    old: Pick,
+) -> Pick
+    requires { k < length region.now.choices }
+{
+    let possible = region.possible(k);
+    let certain = region.certain(k);
+    let lines = doublings(region.width(k)).saturating_mul(SHARE_PER_DOUBLING);
+    let mut best = old;
+    for (row, p) in pairings.iter().enumerate() {
+        let p = *p;
+        if row >= crowds.len() || row >= shares.len() || !possible.has(p) || certain.has(p) {
+            continue;
+        }
+        let share = shares[row];
+        let pick = Pick {
+            is_settled: share < LEAST_SHARE || share > MOST_SHARE_OF_LINES,
+            weight: share
+                .abs_diff(BEST_SHARE_OF_LINES)
+                .saturating_add(crowds[row])
+                .saturating_add(lines),
+            k,
+            p,
+        };
+        if pick.is_before(&best) {
+            best = pick;
+        }
+    }
+    best
+}
+
+/// How often one has to be doubled to come to so many, rounded down.
+fn doublings(number: usize) -> u32 {
+    if number == 0 { 0 } else { number.ilog2() }
+}
