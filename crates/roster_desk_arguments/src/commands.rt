@@ -1,11 +1,25 @@
 //! The commands and their options, on `clap`.
 
+ghost use Rattle.std.specs.Prelude.{◌≡◌, false, IfOk};
+ghost use Rattle.clap.specs.Words.{app_of, new_app, rule_of, with_rule, with_subcommand};
+ghost use Rattle.clap.specs.declared.builder.command.Command.TheViews as views;
+ghost use Rattle.roster_desk_arguments.specs.Line.{assigns_app, book_rule, bounded_plan_app, chart_app};
+ghost use Rattle.roster_desk_arguments.specs.Line.{desk_app, diff_app};
+ghost use Rattle.roster_desk_arguments.specs.Line.{effort_rule, fault_app, keep_rule, limits_app, needed_rule};
+ghost use Rattle.roster_desk_arguments.specs.Line.{pairing_rule, person_rule, persons_rule, plan_app};
+ghost use Rattle.roster_desk_arguments.specs.Line.{planner_app, progress_rule, report_rule, sets_rule};
+ghost use Rattle.roster_desk_arguments.specs.Line.{shower_app, start_rule, table_app, warn_app, why_app};
+ghost use Rattle.roster_desk_arguments.specs.Line.{workers_rule};
+
 use clap::{Arg, ArgAction, Command, builder};
 use roster_model::limits::{MOST_LINES, MOST_WORKERS};
 use std::alloc::{AllocError, Global};
 
 /// The book, which most commands have.
-fn book<'a>(alloc: Global) -> Arg<'a> {
+fn book<'a>(alloc: Global) -> Arg<'a>
+    ensures rule { rule_of result ≡ book_rule }
+    ensures local { result.global ≡ false }
+{
     Arg::new(alloc, "book")
         .value_name("BOOK")
         .required(true)
@@ -13,14 +27,20 @@ fn book<'a>(alloc: Global) -> Arg<'a> {
 }
 
 /// The report that gives the roster, which a command may have.
-fn report<'a>(alloc: Global) -> Arg<'a> {
+fn report<'a>(alloc: Global) -> Arg<'a>
+    ensures rule { rule_of result ≡ report_rule }
+    ensures local { result.global ≡ false }
+{
     Arg::new(alloc, "report").value_name("REPORT").help(
         "The path of a report or plan that gives the roster, or -; without it the book gives it",
     )
 }
 
 /// A report that a command has.
-fn needed<'a>(alloc: Global, id: &'a str) -> Arg<'a> {
+fn needed<'a>(alloc: Global, id: &'a str) -> Arg<'a>
+    ensures rule { rule_of result ≡ needed_rule id.entry.now }
+    ensures local { result.global ≡ false }
+{
     Arg::new(alloc, id)
         .value_name("REPORT")
         .required(true)
@@ -28,7 +48,10 @@ fn needed<'a>(alloc: Global, id: &'a str) -> Arg<'a> {
 }
 
 /// The person, of whom alone lines are wanted.
-fn person<'a>(alloc: Global) -> Arg<'a> {
+fn person<'a>(alloc: Global) -> Arg<'a>
+    ensures rule { rule_of result ≡ person_rule }
+    ensures local { result.global ≡ false }
+{
     Arg::new(alloc, "person")
         .long("person")
         .value_name("PERSON")
@@ -36,7 +59,10 @@ fn person<'a>(alloc: Global) -> Arg<'a> {
 }
 
 /// How much is tried.
-fn effort<'a>(alloc: Global) -> Arg<'a> {
+fn effort<'a>(alloc: Global) -> Arg<'a>
+    ensures rule { rule_of result ≡ effort_rule }
+    ensures local { result.global ≡ false }
+{
     Arg::new(alloc, "effort")
         .long("effort")
         .value_name("N")
@@ -46,7 +72,10 @@ fn effort<'a>(alloc: Global) -> Arg<'a> {
 }
 
 /// How many threads may share the work.
-fn workers<'a>(alloc: Global) -> Arg<'a> {
+fn workers<'a>(alloc: Global) -> Arg<'a>
+    ensures rule { rule_of result ≡ workers_rule }
+    ensures local { result.global ≡ false }
+{
     Arg::new(alloc, "workers")
         .long("workers")
         .value_name("N")
@@ -56,7 +85,10 @@ fn workers<'a>(alloc: Global) -> Arg<'a> {
 }
 
 /// How many legal sets a person may have in a step.
-fn sets<'a>(alloc: Global) -> Arg<'a> {
+fn sets<'a>(alloc: Global) -> Arg<'a>
+    ensures rule { rule_of result ≡ sets_rule }
+    ensures local { result.global ≡ false }
+{
     Arg::new(alloc, "sets")
         .long("sets")
         .value_name("N")
@@ -65,7 +97,10 @@ fn sets<'a>(alloc: Global) -> Arg<'a> {
 }
 
 /// The report that a plan begins with.
-fn start<'a>(alloc: Global) -> Arg<'a> {
+fn start<'a>(alloc: Global) -> Arg<'a>
+    ensures rule { rule_of result ≡ start_rule }
+    ensures local { result.global ≡ false }
+{
     Arg::new(alloc, "start")
         .long("start")
         .value_name("REPORT")
@@ -73,7 +108,10 @@ fn start<'a>(alloc: Global) -> Arg<'a> {
 }
 
 /// Whether a plan tells how far it is.
-fn progress<'a>(alloc: Global) -> Arg<'a> {
+fn progress<'a>(alloc: Global) -> Arg<'a>
+    ensures rule { rule_of result ≡ progress_rule }
+    ensures local { result.global ≡ false }
+{
     Arg::new(alloc, "progress")
         .long("progress")
         .action(ArgAction::SetTrue)
@@ -81,186 +119,257 @@ fn progress<'a>(alloc: Global) -> Arg<'a> {
 }
 
 /// Where the best plan so far is kept.
-fn keep<'a>(alloc: Global) -> Arg<'a> {
+fn keep<'a>(alloc: Global) -> Arg<'a>
+    ensures rule { rule_of result ≡ keep_rule }
+    ensures local { result.global ≡ false }
+{
     Arg::new(alloc, "keep").long("keep").value_name("FILE").help(
         "A file that has the best plan so far, also if Ctrl-C breaks the run off",
     )
 }
 
-/// A command with its arguments, and with examples of it.
-fn command<'a>(
-    alloc: Global,
-    name: &'a str,
-    about: &'a str,
-    examples: &'a str,
-    args: Vec<Arg<'a>>,
-) -> Result<Command<'a>, AllocError> {
-    Command::new(alloc, name)
-        .about(about)
-        .after_help(examples)
-        .args(args)
+/// The pairing, of which alone lines are wanted.
+fn pairing<'a>(alloc: Global) -> Arg<'a>
+    ensures rule { rule_of result ≡ pairing_rule }
+    ensures local { result.global ≡ false }
+{
+    Arg::new(alloc, "pairing")
+        .long("pairing")
+        .value_name("PAIRING")
+        .help("Only this pairing, open or not")
 }
 
-/// `plan`, with its book, what it may take, its start, and what is told and kept on the way.
-fn plan<'a>(alloc: Global) -> Result<Command<'a>, AllocError> {
-    command(
+/// Whether a table has a row for each person.
+fn persons<'a>(alloc: Global) -> Arg<'a>
+    ensures rule { rule_of result ≡ persons_rule }
+    ensures local { result.global ≡ false }
+{
+    Arg::new(alloc, "persons")
+        .long("persons")
+        .action(ArgAction::SetTrue)
+        .help("A row for each person, with sums")
+}
+
+/// A command without arguments so far, and with examples of it.
+fn command<'a>(alloc: Global, name: &'a str, about: &'a str, examples: &'a str) -> Command<'a>
+    ensures app { app_of result ≡ new_app name.entry.now }
+    ensures local { (views.out-Command result).has_globals ≡ false }
+{
+    Command::new(alloc, name).about(about).after_help(examples)
+}
+
+/// The command with one argument more.
+fn with<'a>(command: Command<'a>, arg: Arg<'a>) -> Result<Command<'a>, AllocError>
+    requires command { (views.out-Command command).has_globals ≡ false }
+    requires arg { arg.global ≡ false }
+    ensures app { IfOk result (λ c. app_of c ≡ with_rule (app_of command.entry) (rule_of arg.entry)) }
+    ensures local { IfOk result (λ c. (views.out-Command c).has_globals ≡ false) }
+{
+    command.arg(arg)
+}
+
+/// `plan`, with its book and what it may take.
+fn bounded_plan<'a>(alloc: Global) -> Result<Command<'a>, AllocError>
+    ensures app { IfOk result (λ c. app_of c ≡ bounded_plan_app) }
+    ensures local { IfOk result (λ c. (views.out-Command c).has_globals ≡ false) }
+{
+    let plan = command(
         alloc,
         "plan",
         "Writes a legal roster of the book, however large it is, and a bound of its cost",
         "Examples:
   roster-desk plan book.csv > plan.txt
   roster-desk plan --effort 9 --start plan.txt --keep better.txt book.csv",
-        vec![in alloc;
-            book(alloc),
-            effort(alloc),
-            workers(alloc),
-            sets(alloc),
-            start(alloc),
-            progress(alloc),
-            keep(alloc),
-        ]?,
-    )
+    );
+    let plan = with(plan, book(alloc))?;
+    let plan = with(plan, effort(alloc))?;
+    let plan = with(plan, workers(alloc))?;
+    with(plan, sets(alloc))
+}
+
+/// `plan`, with its start, and what is told and kept on the way, too.
+fn plan<'a>(alloc: Global) -> Result<Command<'a>, AllocError>
+    ensures app { IfOk result (λ c. app_of c ≡ plan_app) }
+    ensures local { IfOk result (λ c. (views.out-Command c).has_globals ≡ false) }
+{
+    let plan = with(bounded_plan(alloc)?, start(alloc))?;
+    let plan = with(plan, progress(alloc))?;
+    with(plan, keep(alloc))
 }
 
 /// `why`, with its book and report, and what it may be asked of.
-fn why<'a>(alloc: Global) -> Result<Command<'a>, AllocError> {
-    let pairing = Arg::new(alloc, "pairing")
-        .long("pairing")
-        .value_name("PAIRING")
-        .help("Only this pairing, open or not");
-    command(
+fn why<'a>(alloc: Global) -> Result<Command<'a>, AllocError>
+    ensures app { IfOk result (λ c. app_of c ≡ why_app) }
+    ensures local { IfOk result (λ c. (views.out-Command c).has_globals ≡ false) }
+{
+    let why = command(
         alloc,
         "why",
         "Tells of each open pairing who could have it at what cost, and why others mustn't",
         "Examples:
   roster-desk why book.csv plan.txt
   roster-desk why --pairing OUT-BACK --person ANNA book.csv plan.txt",
-        vec![in alloc; book(alloc), report(alloc), pairing, person(alloc)]?,
-    )
+    );
+    let why = with(why, book(alloc))?;
+    let why = with(why, report(alloc))?;
+    let why = with(why, pairing(alloc))?;
+    with(why, person(alloc))
 }
 
 /// `limits`, with its book and report, and whom it may be asked of.
-fn limits<'a>(alloc: Global) -> Result<Command<'a>, AllocError> {
-    command(
+fn limits<'a>(alloc: Global) -> Result<Command<'a>, AllocError>
+    ensures app { IfOk result (λ c. app_of c ≡ limits_app) }
+    ensures local { IfOk result (λ c. (views.out-Command c).has_globals ≡ false) }
+{
+    let limits = command(
         alloc,
         "limits",
         "Tells how much of each limit each person uses, and what is left",
         "Examples:
   roster-desk limits book.csv plan.txt
   roster-desk limits --person ANNA book.csv plan.txt",
-        vec![in alloc; book(alloc), report(alloc), person(alloc)]?,
-    )
+    );
+    let limits = with(limits, book(alloc))?;
+    let limits = with(limits, report(alloc))?;
+    with(limits, person(alloc))
 }
 
 /// `table`, with its book and report, and what its rows are.
-fn table<'a>(alloc: Global) -> Result<Command<'a>, AllocError> {
-    let persons = Arg::new(alloc, "persons")
-        .long("persons")
-        .action(ArgAction::SetTrue)
-        .help("A row for each person, with sums");
-    command(
+fn table<'a>(alloc: Global) -> Result<Command<'a>, AllocError>
+    ensures app { IfOk result (λ c. app_of c ≡ table_app) }
+    ensures local { IfOk result (λ c. (views.out-Command c).has_globals ≡ false) }
+{
+    let table = command(
         alloc,
         "table",
         "Writes CSV for a spreadsheet: who has which pairings, duties and leaves, and when",
         "Examples:
   roster-desk table book.csv plan.txt > table.csv
   roster-desk table --persons book.csv plan.txt > persons.csv",
-        vec![in alloc; book(alloc), report(alloc), persons]?,
-    )
+    );
+    let table = with(table, book(alloc))?;
+    let table = with(table, report(alloc))?;
+    with(table, persons(alloc))
 }
 
 /// `chart`, with its book and report.
-fn chart<'a>(alloc: Global) -> Result<Command<'a>, AllocError> {
-    command(
+fn chart<'a>(alloc: Global) -> Result<Command<'a>, AllocError>
+    ensures app { IfOk result (λ c. app_of c ≡ chart_app) }
+    ensures local { IfOk result (λ c. (views.out-Command c).has_globals ≡ false) }
+{
+    let chart = command(
         alloc,
         "chart",
         "Draws the roster as a page for a browser",
         "Examples:
   roster-desk chart book.csv plan.txt > chart.html",
-        vec![in alloc; book(alloc), report(alloc)]?,
-    )
+    );
+    let chart = with(chart, book(alloc))?;
+    with(chart, report(alloc))
 }
 
 /// `diff`, with its book and its two reports.
-fn diff<'a>(alloc: Global) -> Result<Command<'a>, AllocError> {
-    command(
+fn diff<'a>(alloc: Global) -> Result<Command<'a>, AllocError>
+    ensures app { IfOk result (λ c. app_of c ≡ diff_app) }
+    ensures local { IfOk result (λ c. (views.out-Command c).has_globals ≡ false) }
+{
+    let diff = command(
         alloc,
         "diff",
         "Tells which pairings move from one roster to another, and what that changes",
         "Examples:
   roster-desk diff book.csv plan.txt better.txt",
-        vec![in alloc;
-            book(alloc),
-            needed(alloc, "report"),
-            needed(alloc, "other"),
-        ]?,
-    )
+    );
+    let diff = with(diff, book(alloc))?;
+    let diff = with(diff, needed(alloc, "report"))?;
+    with(diff, needed(alloc, "other"))
 }
 
 /// `assigns`, with its report.
-fn assigns<'a>(alloc: Global) -> Result<Command<'a>, AllocError> {
-    command(
+fn assigns<'a>(alloc: Global) -> Result<Command<'a>, AllocError>
+    ensures app { IfOk result (λ c. app_of c ≡ assigns_app) }
+    ensures local { IfOk result (λ c. (views.out-Command c).has_globals ≡ false) }
+{
+    let assigns = command(
         alloc,
         "assigns",
         "Writes the assign records that give a book the roster of a report or plan",
         "Examples:
   roster-desk assigns plan.txt > assigns.csv",
-        vec![in alloc; needed(alloc, "report")]?,
-    )
+    );
+    with(assigns, needed(alloc, "report"))
 }
 
 /// `fault`, with its book.
-fn fault<'a>(alloc: Global) -> Result<Command<'a>, AllocError> {
-    command(
+fn fault<'a>(alloc: Global) -> Result<Command<'a>, AllocError>
+    ensures app { IfOk result (λ c. app_of c ≡ fault_app) }
+    ensures local { IfOk result (λ c. (views.out-Command c).has_globals ≡ false) }
+{
+    let fault = command(
         alloc,
         "fault",
         "Tells which records of a refused book have faults, and what is wanted in their fields",
         "Examples:
   roster-desk fault book.csv",
-        vec![in alloc; book(alloc)]?,
-    )
+    );
+    with(fault, book(alloc))
 }
 
 /// `warn`, with its book.
-fn warn<'a>(alloc: Global) -> Result<Command<'a>, AllocError> {
-    command(
+fn warn<'a>(alloc: Global) -> Result<Command<'a>, AllocError>
+    ensures app { IfOk result (λ c. app_of c ≡ warn_app) }
+    ensures local { IfOk result (λ c. (views.out-Command c).has_globals ≡ false) }
+{
+    let warn = command(
         alloc,
         "warn",
         "Tells what is likely a mistake in a book without a fault",
         "Examples:
   roster-desk warn book.csv",
-        vec![in alloc; book(alloc)]?,
-    )
+    );
+    with(warn, book(alloc))
 }
 
-/// Adds a command.
-fn add<'a>(
-    commands: &mut Vec<Command<'a>>,
-    command: Result<Command<'a>, AllocError>,
-) -> Result<(), AllocError> {
-    commands.push(command?)?;
-    Ok(())
+/// The command line with one command more.
+fn with_command<'a>(line: Command<'a>, command: Command<'a>) -> Result<Command<'a>, AllocError>
+    requires line { (views.out-Command line).has_globals ≡ false }
+    requires command { (views.out-Command command).has_globals ≡ false }
+    ensures app { IfOk result
+        (λ c. app_of c ≡ with_subcommand (app_of line.entry) (app_of command.entry).top) }
+    ensures local { IfOk result (λ c. (views.out-Command c).has_globals ≡ false) }
+{
+    line.subcommand(command)
 }
 
-/// Adds all commands.
-fn add_all<'a>(alloc: Global, commands: &mut Vec<Command<'a>>) -> Result<(), AllocError> {
-    add(commands, plan(alloc))?;
-    add(commands, why(alloc))?;
-    add(commands, limits(alloc))?;
-    add(commands, table(alloc))?;
-    add(commands, chart(alloc))?;
-    add(commands, diff(alloc))?;
-    add(commands, assigns(alloc))?;
-    add(commands, fault(alloc))?;
-    add(commands, warn(alloc))
+/// The program's command line with the commands that plan, and that tell of one roster in words.
+fn planner<'a>(alloc: Global) -> Result<Command<'a>, AllocError>
+    ensures app { IfOk result (λ c. app_of c ≡ planner_app) }
+    ensures local { IfOk result (λ c. (views.out-Command c).has_globals ≡ false) }
+{
+    let line = Command::new(alloc, "roster-desk")
+        .about("Helps a planner with the books of roster")
+        .subcommand_required(true);
+    let line = with_command(line, plan(alloc)?)?;
+    let line = with_command(line, why(alloc)?)?;
+    with_command(line, limits(alloc)?)
+}
+
+/// That with the commands that show rosters.
+fn shower<'a>(alloc: Global) -> Result<Command<'a>, AllocError>
+    ensures app { IfOk result (λ c. app_of c ≡ shower_app) }
+    ensures local { IfOk result (λ c. (views.out-Command c).has_globals ≡ false) }
+{
+    let line = with_command(planner(alloc)?, table(alloc)?)?;
+    let line = with_command(line, chart(alloc)?)?;
+    with_command(line, diff(alloc)?)
 }
 
 /// The program's command line.
-pub(crate) fn desk<'a>(alloc: Global) -> Result<Command<'a>, AllocError> {
-    let mut commands = Vec::new(alloc);
-    add_all(alloc, &mut commands)?;
-    Command::new(alloc, "roster-desk")
-        .about("Helps a planner with the books of roster")
-        .subcommand_required(true)
-        .subcommands(commands)
+pub(crate) fn desk<'a>(alloc: Global) -> Result<Command<'a>, AllocError>
+    ensures app { IfOk result (λ c. app_of c ≡ desk_app) }
+    ensures local { IfOk result (λ c. (views.out-Command c).has_globals ≡ false) }
+{
+    let line = with_command(shower(alloc)?, assigns(alloc)?)?;
+    let line = with_command(line, fault(alloc)?)?;
+    with_command(line, warn(alloc)?)
 }

@@ -1,11 +1,18 @@
 //! What the words of the command line ask for.
 
-ghost use Rattle.std.specs.Prelude.{IfSome};
-ghost use Rattle.roster_desk_arguments.specs.Found.{AsksPage, AsksPlan, AsksRecords, AsksRoster, HasNames};
+ghost use Rattle.std.specs.Prelude.{◌≡◌, ◌≢◌, ℕ, [], codes, false, true, IfErr, IfOk, IfSome, List, map, None};
+ghost use Rattle.std.specs.Prelude.{Some, option_map, string_bytes};
+ghost use Rattle.clap.specs.ValueTests.{is_unsigned_in};
+ghost use Rattle.clap.specs.Words.{fault_of, first_of, found_of, one_of, rows_of, subcommand_rows_of};
+ghost use Rattle.clap.specs.Words.{HasKind, Kinds, Row};
+ghost use Rattle.roster_desk_arguments.specs.Line.{desk_app, number_spelled, spelling, spelling_of_page};
+ghost use Rattle.roster_desk_arguments.specs.Line.{spelling_of_question, Asks, AsksIn, HasNames, IsNumberIn};
+ghost use Rattle.roster_desk_arguments.specs.Line.{NamesMemory, TellsKind};
 
 use crate::commands::desk;
+use clap::ArgMatches;
 use clap::error::ErrorKind;
-use clap::{ArgMatches, Command};
+use roster_model::limits::MOST_WORKERS;
 use std::alloc::{AllocError, Global};
 
 /// How much is tried if nothing is said of it.
@@ -110,24 +117,31 @@ pub enum LineFault {
 }
 
 impl From<AllocError> for LineFault {
+    ghost use Rattle.std.specs.Prelude.{◌≡◌};
+    ghost use Rattle.roster_desk_arguments.specs.declared.line.LineFault.TheVariants.{Memory};
+
+    ghost from_gives = { λ _ e. e ≡ Memory };
+
     fn from(_e: AllocError) -> LineFault {
         LineFault::Memory
     }
 }
 
 /// What the words ask for. The first word is the program's name.
-pub fn read_line<'a>(alloc: Global, words: &'a [String]) -> Result<Line<'a>, LineFault> {
+pub fn read_line<'a>(alloc: Global, words: &'a [String]) -> Result<Line<'a>, LineFault>
+    ensures asked { IfOk result (Asks (map string_bytes words.entry.now)) }
+    ensures faultless { IfOk result (λ _. fault_of desk_app (map string_bytes words.entry.now) ≡ []) }
+    ensures refused { IfErr result NamesMemory }
+    // What clap refuses, it refuses for one of its own reasons.
+    ensures kind { fault_of desk_app (map string_bytes words.entry.now) ≢ []
+        → IfErr result (TellsKind (fault_of desk_app (map string_bytes words.entry.now))) }
+{
     let mut command = desk(alloc)?;
-    line_of(&mut command, words)
-}
-
-/// What the words ask for by the program's command line.
-fn line_of<'a>(command: &mut Command<'a>, words: &'a [String]) -> Result<Line<'a>, LineFault> {
-    let found = match command.try_get_matches_from_mut(words) {
-        Ok(matches) => asked(&matches),
+    let matches = match command.try_get_matches_from_mut(words) {
+        Ok(matches) => matches,
         Err(error) => return Err(refusal(error)),
     };
-    match found {
+    match asked(&matches) {
         Some(line) => Ok(line),
         None => Err(LineFault::Refused(command.error(
             ErrorKind::InvalidSubcommand,
@@ -137,13 +151,16 @@ fn line_of<'a>(command: &mut Command<'a>, words: &'a [String]) -> Result<Line<'a
 }
 
 /// The command in the matches.
-fn asked<'a>(matches: &ArgMatches<'a>) -> Option<Line<'a>> {
+fn asked<'a>(matches: &ArgMatches<'a>) -> Option<Line<'a>>
+    ensures { IfSome result (λ line. (rows : List Row)
+        × (subcommand_rows_of matches.now ≡ Some (spelling line, rows)) × AsksIn rows line) }
+{
     let (command, found) = matches.subcommand()?;
     match command {
         "plan" => planned(found),
         "why" => why(found),
         "limits" => limits(found),
-        "table" => told(found, rows_of(found)),
+        "table" => told(found, rows_of_table(found)),
         "chart" => told(found, Question::Chart),
         "diff" => differences(found),
         "assigns" => assigns(found),
@@ -153,17 +170,60 @@ fn asked<'a>(matches: &ArgMatches<'a>) -> Option<Line<'a>> {
     }
 }
 
+/// The value of the argument in the matches, if it has one.
+fn value<'a>(found: &ArgMatches<'a>, name: &str) -> Option<&'a str>
+    ensures { option_map (λ text. text.now) result ≡ first_of name.now (rows_of (found_of found.now)) }
+{
+    found.get_str(name)
+}
+
+/// The number that is the value of the argument in the matches, if it has one.
+fn number(found: &ArgMatches<'_>, name: &str) -> Option<usize>
+    ensures given { (low high : ℕ) (text : List ℕ) → one_of name.now (rows_of (found_of found.now)) ≡ Some text
+        → is_unsigned_in low high text ≡ true → result ≡ Some (number_spelled text) }
+    ensures left_out { one_of name.now (rows_of (found_of found.now)) ≡ None → result ≡ None }
+{
+    found.get_one::<usize>(name)
+}
+
+/// Whether the flag is given in the matches.
+fn flag(found: &ArgMatches<'_>, name: &str) -> bool
+    ensures given { one_of name.now (rows_of (found_of found.now)) ≡ Some (codes "true") → result ≡ true }
+    ensures left_out { one_of name.now (rows_of (found_of found.now)) ≡ Some (codes "false")
+        → result ≡ false }
+{
+    found.get_flag(name)
+}
+
+/// How much is tried, by the matches.
+fn effort(found: &ArgMatches<'_>) -> u32
+    ensures { IsNumberIn (rows_of (found_of found.now)) (codes "effort") 0 9 USUAL_EFFORT result }
+{
+    match number(found, "effort") {
+        Some(effort) if effort <= 9 => effort as u32,
+        _ => USUAL_EFFORT,
+    }
+}
+
+/// How many threads may share the work, by the matches.
+fn workers(found: &ArgMatches<'_>) -> usize
+    ensures { IsNumberIn (rows_of (found_of found.now)) (codes "workers") 1 MOST_WORKERS 1 result }
+{
+    number(found, "workers").unwrap_or(1)
+}
+
 /// The plan in the matches.
 fn planned<'a>(found: &ArgMatches<'a>) -> Option<Line<'a>>
-    ensures { IfSome result (AsksPlan found.now) }
+    ensures named { IfSome result (λ line. spelling line ≡ codes "plan") }
+    ensures asks { IfSome result (AsksIn (rows_of (found_of found.now))) }
 {
-    let book = found.get_str("book")?;
-    let effort = found.get_one::<u32>("effort").unwrap_or(USUAL_EFFORT);
-    let workers = found.get_one::<usize>("workers").unwrap_or(1);
-    let sets = found.get_one::<usize>("sets");
-    let start = found.get_str("start");
-    let progress = found.get_flag("progress");
-    let keep = found.get_str("keep");
+    let book = value(found, "book")?;
+    let effort = effort(found);
+    let workers = workers(found);
+    let sets = number(found, "sets");
+    let start = value(found, "start");
+    let progress = flag(found, "progress");
+    let keep = value(found, "keep");
     Some(Line::Plan(PlanLine {
         book,
         effort,
@@ -177,34 +237,38 @@ fn planned<'a>(found: &ArgMatches<'a>) -> Option<Line<'a>>
 
 /// The question that `why` in the matches asks.
 fn why<'a>(found: &ArgMatches<'a>) -> Option<Line<'a>>
-    ensures { IfSome result (AsksRoster found.now) }
+    ensures named { IfSome result (λ line. spelling line ≡ codes "why") }
+    ensures asks { IfSome result (AsksIn (rows_of (found_of found.now))) }
 {
-    let pairing = found.get_str("pairing");
-    let person = found.get_str("person");
+    let pairing = value(found, "pairing");
+    let person = value(found, "person");
     told(found, Question::Why { pairing, person })
 }
 
 /// The question that `limits` in the matches asks.
 fn limits<'a>(found: &ArgMatches<'a>) -> Option<Line<'a>>
-    ensures { IfSome result (AsksRoster found.now) }
+    ensures named { IfSome result (λ line. spelling line ≡ codes "limits") }
+    ensures asks { IfSome result (AsksIn (rows_of (found_of found.now))) }
 {
-    let person = found.get_str("person");
+    let person = value(found, "person");
     told(found, Question::Limits { person })
 }
 
 /// The question that `diff` in the matches asks.
 fn differences<'a>(found: &ArgMatches<'a>) -> Option<Line<'a>>
-    ensures { IfSome result (AsksRoster found.now) }
+    ensures named { IfSome result (λ line. spelling line ≡ codes "diff") }
+    ensures asks { IfSome result (AsksIn (rows_of (found_of found.now))) }
 {
-    let other = found.get_str("other")?;
+    let other = value(found, "other")?;
     told(found, Question::Differences { other })
 }
 
 /// What the rows of the table in the matches are.
-fn rows_of<'a>(found: &ArgMatches<'a>) -> Question<'a>
-    ensures { HasNames found.now result }
+fn rows_of_table<'a>(found: &ArgMatches<'a>) -> Question<'a>
+    ensures named { spelling_of_question result ≡ codes "table" }
+    ensures asks { HasNames (rows_of (found_of found.now)) result }
 {
-    if found.get_flag("persons") {
+    if flag(found, "persons") {
         Question::Persons
     } else {
         Question::Table
@@ -213,11 +277,12 @@ fn rows_of<'a>(found: &ArgMatches<'a>) -> Question<'a>
 
 /// The question, of the book and the report in the matches.
 fn told<'a>(found: &ArgMatches<'a>, question: Question<'a>) -> Option<Line<'a>>
-    requires { HasNames found.now question }
-    ensures { IfSome result (AsksRoster found.now) }
+    requires { HasNames (rows_of (found_of found.now)) question }
+    ensures named { IfSome result (λ line. spelling line ≡ spelling_of_question question.entry) }
+    ensures asks { IfSome result (AsksIn (rows_of (found_of found.now))) }
 {
-    let book = found.get_str("book")?;
-    let report = found.get_str("report");
+    let book = value(found, "book")?;
+    let report = value(found, "report");
     Some(Line::Tell(TellLine {
         question,
         book,
@@ -227,22 +292,27 @@ fn told<'a>(found: &ArgMatches<'a>, question: Question<'a>) -> Option<Line<'a>>
 
 /// The report in the matches, of which `assign` records are wanted.
 fn assigns<'a>(found: &ArgMatches<'a>) -> Option<Line<'a>>
-    ensures { IfSome result (AsksRecords found.now) }
+    ensures named { IfSome result (λ line. spelling line ≡ codes "assigns") }
+    ensures asks { IfSome result (AsksIn (rows_of (found_of found.now))) }
 {
-    let report = found.get_str("report")?;
+    let report = value(found, "report")?;
     Some(Line::Assigns(report))
 }
 
 /// The book in the matches, and what is to be told of it.
 fn of_records<'a>(found: &ArgMatches<'a>, page: Page) -> Option<Line<'a>>
-    ensures { IfSome result (AsksPage found.now) }
+    ensures named { IfSome result (λ line. spelling line ≡ spelling_of_page page) }
+    ensures asks { IfSome result (AsksIn (rows_of (found_of found.now))) }
 {
-    let book = found.get_str("book")?;
+    let book = value(found, "book")?;
     Some(Line::Page(PageLine { book, page }))
 }
 
 /// clap's want of memory by its own name.
-fn refusal(error: clap::Error) -> LineFault {
+fn refusal(error: clap::Error) -> LineFault
+    ensures named { NamesMemory result }
+    ensures kept { (kinds : Kinds) → HasKind kinds error → TellsKind kinds result }
+{
     match error.kind() {
         ErrorKind::OutOfMemory => LineFault::Memory,
         _ => LineFault::Refused(error),

@@ -1,6 +1,7 @@
 -- What is wrong with a report, line by line, and with its roster of a book. The first line that has something
 -- wrong is told: of those that can't be of any report before those that aren't of the book.
 use Rattle.std.specs.Prelude.{ℕ, Bool, true, false, List, [], ◌∷◌, ◌++◌, ◌+◌, ◌==◌, ◌&&◌, ◌||◌, if◌then◌else◌, not, Option, Some, None, option_map, is_some, is_none, length, codes, take, drop, nat_lt, ⊤, ◌≡◌}
+use Rattle.std.specs.Borrow.{Bor}
 use Rattle.std.specs.List.{list_all, list_any}
 use Rattle.std.specs.Char.{is_ascii_digit}
 use Rattle.std.specs.Option.{option_or}
@@ -10,7 +11,7 @@ use Rattle.roster_model.specs.Form.{is_identifier}
 use Rattle.roster_model.specs.Problem.{Problem}
 use Rattle.roster_model.specs.Record.{place_named}
 use Rattle.roster_model.specs.declared.limits.TheConstants.{MOST_PAIRINGS}
-use Rattle.roster_desk_reports.specs.Text.{Given, is_crew, lines_of, names_of, numbered_by_text, text_of, word_at, words_of}
+use Rattle.roster_desk_reports.specs.Text.{Given, is_crew, lines_of, names_of, numbered_by_text, text_of, texts, word_at, words_of}
 use Rattle.roster_desk_reports.specs.declared.fault.ReportFault.{ReportFault}
 use Rattle.roster_desk_reports.specs.declared.fault.ReportFault.TheVariants.{At, Memory}
 use Rattle.roster_desk_reports.specs.declared.fault.Wrong.{Wrong}
@@ -100,6 +101,10 @@ other_fault words = if is_known (word_at words 0) then None else Some UnknownLin
 abbrev pub fault_in : Bool → ℕ → List (List ℕ) → Option Wrong
 fault_in true count words = if is_crew words then crew_fault count words else other_fault words
 fault_in false count words = if is_some (month_in words) then None else Some NoReport
+
+-- so it is behind lines that gave this month, if one did, and so many pairings
+abbrev pub fault_behind : Option Heading → ℕ → List (Bor (List ℕ)) → Option Wrong
+fault_behind heading count words = fault_in (is_some heading) count (texts words)
 
 abbrev pub line_fault : Bool → ℕ → List (List ℕ) → Option Wrong
 line_fault begun count words = if is_blank words then None else fault_in begun count words

@@ -1,9 +1,14 @@
 -- What the text of a report says of who has what.
 use Rattle.std.specs.Prelude.{ℕ, Bool, List, [], ◌∷◌, ◌++◌, ◌+◌, if◌then◌else◌, not, length, map, codes, take, drop, nat_eq, slice_index_or}
+use Rattle.std.specs.Borrow.{Bor}
 use Rattle.std.specs.Char.{is_ascii_whitespace}
 use Rattle.std.specs.List.{filter, flat_map, slice_split}
 use Rattle.std.specs.Str.{bytes_eq}
 use Rattle.roster_desk_reports.specs.declared.report.CrewLine.{CrewLine}
+
+-- the bytes of words, or of lines, that were parted
+abbrev pub texts : List (Bor (List ℕ)) → List (List ℕ)
+texts words = map (λ word. word.now) words
 
 -- the text without the byte order mark before it, if it has one
 abbrev pub text_of : List ℕ → List ℕ

@@ -1,17 +1,18 @@
 //! What a report says, and how it is read.
 
-ghost use Rattle.std.specs.Prelude.{◌≡◌, ◌<◌, ◌+◌, ◌++◌, ◌∷◌, ◌||◌, [], IfErr, IfOk, OnOk, IsTrue, Option, None, Some};
-ghost use Rattle.std.specs.Prelude.{true, false, drop, is_some, length, map, not, option_map};
+ghost use Rattle.std.specs.Prelude.{◌≡◌, ◌<◌, ◌+◌, ◌++◌, ◌∷◌, ◌||◌, [], IfErr, IfOk, OnOk, IsTrue, Option};
+ghost use Rattle.std.specs.Prelude.{None, Some, true, false, drop, is_some, length, map, not, option_map};
 ghost use Rattle.std.specs.List.{list_all};
 ghost use Rattle.std.specs.Option.{option_or};
 ghost use Rattle.roster_model.specs.Form.{is_identifier};
 ghost use Rattle.roster_desk_reports.specs.Faults as faults;
-ghost use Rattle.roster_desk_reports.specs.Faults.{Heading, IsTold, IsWrongAt, fault_of_text, first_fault, form_fault};
-ghost use Rattle.roster_desk_reports.specs.Faults.{heading_at, heading_from, heading_of, is_blank, is_crew_form};
-ghost use Rattle.roster_desk_reports.specs.Faults.{line_fault, month_in, other_fault, pairings_in};
+ghost use Rattle.roster_desk_reports.specs.Faults.{Heading, IsTold, IsWrongAt, fault_behind, fault_of_text};
+ghost use Rattle.roster_desk_reports.specs.Faults.{first_fault, form_fault, heading_at, heading_from};
+ghost use Rattle.roster_desk_reports.specs.Faults.{heading_of, is_blank, is_crew_form, line_fault, month_in};
+ghost use Rattle.roster_desk_reports.specs.Faults.{other_fault, pairings_in};
 ghost use Rattle.roster_desk_reports.specs.Text as spec;
-ghost use Rattle.roster_desk_reports.specs.Text.{given_by, given_from, is_crew, name_of, names_of, numbered_by_line};
-ghost use Rattle.roster_desk_reports.specs.Text.{numbered_by_text, word_at};
+ghost use Rattle.roster_desk_reports.specs.Text.{given_by, given_from, is_crew, name_of, names_of};
+ghost use Rattle.roster_desk_reports.specs.Text.{numbered_by_line, numbered_by_text, texts, word_at};
 
 use crate::fault::{ReportFault, Wrong};
 use crate::words::{are_numbers, is_crew, lines_of, without_mark, words_of};
@@ -63,7 +64,7 @@ struct ReportDraft {
 
 /// The month of a report's first line, if it is one.
 fn heading(words: &[&[u8]]) -> Option<Period>
-    ensures { result ≡ month_in (map (λ word. word.now) words.now) }
+    ensures { result ≡ month_in (texts words.now) }
 {
     if words.len() != 2 {
         return None;
@@ -87,7 +88,7 @@ fn is_known(word: &[u8]) -> bool
 
 /// Whether the words behind a person's name are numbers, as many as a `CREW` line has.
 fn has_numbers(words: &[&[u8]]) -> bool
-    ensures value { result ≡ faults.has_numbers (map (λ word. word.now) words.now) }
+    ensures value { result ≡ faults.has_numbers (texts words.now) }
     ensures long { IsTrue result → 7 < length words.now }
 {
     words.len() > FIRST_NAME && are_numbers(&words[FIRST_NUMBER..FIRST_NAME])
@@ -120,10 +121,10 @@ fn push_name(names: &mut Vec<Name>, line: usize, word: &[u8]) -> Result<(), Repo
 /// The names among the words, or what is wrong with the line at this number.
 fn names(alloc: Global, line: usize, words: &[&[u8]]) -> Result<Vec<Name>, ReportFault>
     ensures given { IfOk result
-        (λ names. names.items ≡ names_of (map (λ word. word.now) words.now)) }
-    ensures form { IfOk result (λ _. list_all is_identifier (names_of (map (λ word. word.now) words.now)) ≡ true) }
+        (λ names. names.items ≡ names_of (texts words.now)) }
+    ensures form { IfOk result (λ _. list_all is_identifier (names_of (texts words.now)) ≡ true) }
     ensures fault { IfErr result (IsWrongAt line (form_fault
-        (list_all is_identifier (names_of (map (λ word. word.now) words.now))))) }
+        (list_all is_identifier (names_of (texts words.now))))) }
 {
     let mut names = Vec::new(alloc);
     for word in words {
@@ -137,12 +138,12 @@ fn names(alloc: Global, line: usize, words: &[&[u8]]) -> Result<Vec<Name>, Repor
 /// What the words of a `CREW` line say.
 fn crew_line(alloc: Global, line: usize, words: &[&[u8]]) -> Result<CrewLine, ReportFault>
     ensures person { IfOk result
-        (λ crew. crew.person ≡ word_at (map (λ word. word.now) words.now) 1) }
+        (λ crew. crew.person ≡ word_at (texts words.now) 1) }
     ensures pairings { IfOk result (λ crew. crew.pairings.items
-        ≡ names_of (drop 7 (map (λ word. word.now) words.now))) }
+        ≡ names_of (drop 7 (texts words.now))) }
     ensures number { IfOk result (λ crew. crew.line ≡ line) }
-    ensures form { IfOk result (λ _. is_crew_form (map (λ word. word.now) words.now) ≡ true) }
-    ensures fault { IfErr result (IsWrongAt line (form_fault (is_crew_form (map (λ word. word.now) words.now)))) }
+    ensures form { IfOk result (λ _. is_crew_form (texts words.now) ≡ true) }
+    ensures fault { IfErr result (IsWrongAt line (form_fault (is_crew_form (texts words.now)))) }
 {
     if !has_numbers(words) {
         return Err(at(line, Wrong::CrewForm));
@@ -161,13 +162,13 @@ fn crew_line(alloc: Global, line: usize, words: &[&[u8]]) -> Result<CrewLine, Re
 impl ReportDraft {
     /// Takes the words of the first line that isn't blank, which is no `CREW` line.
     fn begin(&mut self, line: usize, words: &[&[u8]]) -> Result<(), ReportFault>
-        ensures same { OnOk result ((self.new.crew ≡ self.old.crew) × (self.new.pairings ≡ self.old.pairings)) }
+        ensures same { OnOk result
+            ((self.new.crew ≡ self.old.crew) × (self.new.pairings ≡ self.old.pairings)) }
         ensures heading { OnOk result (self.new.heading
-            ≡ option_map (λ month. (month, line)) (month_in (map (λ word. word.now) words.now))) }
+            ≡ option_map (λ month. (month, line)) (month_in (texts words.now))) }
         ensures begun { OnOk result (is_some self.new.heading ≡ true) }
-        ensures sound { OnOk result (faults.fault_in false self.old.pairings
-            (map (λ word. word.now) words.now) ≡ None) }
-        ensures fault { IfErr result (IsWrongAt line (faults.fault_in false self.old.pairings (map (λ word. word.now) words.now))) }
+        ensures sound { OnOk result (fault_behind None self.old.pairings words.now ≡ None) }
+        ensures fault { IfErr result (IsWrongAt line (fault_behind None self.old.pairings words.now)) }
     {
         match heading(words) {
             Some(period) => {
@@ -180,14 +181,16 @@ impl ReportDraft {
 
     /// Takes the words of a `CREW` line.
     fn take_crew(&mut self, alloc: Global, line: usize, words: &[&[u8]]) -> Result<(), ReportFault>
-        requires { is_crew (map (λ word. word.now) words.now) ≡ true }
+        requires { is_crew (texts words.now) ≡ true }
         ensures given { OnOk result (map numbered_by_line self.new.crew.items
             ≡ map numbered_by_line self.old.crew.items
-            ++ map (λ given. (line, given)) (given_by (map (λ word. word.now) words.now))) }
-        ensures same { OnOk result ((self.new.heading ≡ self.old.heading) × (is_some self.old.heading ≡ true)) }
-        ensures count { OnOk result (self.new.pairings ≡ self.old.pairings + pairings_in (map (λ word. word.now) words.now)) }
-        ensures sound { OnOk result (faults.fault_in (is_some self.old.heading) self.old.pairings (map (λ word. word.now) words.now) ≡ None) }
-        ensures fault { IfErr result (IsWrongAt line (faults.fault_in (is_some self.old.heading) self.old.pairings (map (λ word. word.now) words.now))) }
+            ++ map (λ given. (line, given)) (given_by (texts words.now))) }
+        ensures same { OnOk result
+            ((self.new.heading ≡ self.old.heading) × (is_some self.old.heading ≡ true)) }
+        ensures count { OnOk result (self.new.pairings ≡ self.old.pairings + pairings_in (texts words.now)) }
+        ensures sound { OnOk result (fault_behind self.old.heading self.old.pairings words.now ≡ None) }
+        ensures fault { IfErr result
+            (IsWrongAt line (fault_behind self.old.heading self.old.pairings words.now)) }
     {
         if self.heading.is_none() {
             return Err(at(line, Wrong::NoReport));
@@ -204,13 +207,15 @@ impl ReportDraft {
     /// Takes the words of a line that is no `CREW` line, and not blank.
     fn take_other(&mut self, line: usize, words: &[&[u8]]) -> Result<(), ReportFault>
         requires some { 0 < length words.now }
-        requires other { is_crew (map (λ word. word.now) words.now) ≡ false }
-        ensures same { OnOk result ((self.new.crew ≡ self.old.crew) × (self.new.pairings ≡ self.old.pairings)) }
+        requires other { is_crew (texts words.now) ≡ false }
+        ensures same { OnOk result
+            ((self.new.crew ≡ self.old.crew) × (self.new.pairings ≡ self.old.pairings)) }
         ensures heading { OnOk result ((later : Option Heading) → option_or self.new.heading later
-            ≡ option_or self.old.heading (option_map (λ month. (month, line)) (month_in (map (λ word. word.now) words.now)))) }
+            ≡ option_or self.old.heading (option_map (λ month. (month, line)) (month_in (texts words.now)))) }
         ensures begun { OnOk result (is_some self.new.heading ≡ true) }
-        ensures sound { OnOk result (faults.fault_in (is_some self.old.heading) self.old.pairings (map (λ word. word.now) words.now) ≡ None) }
-        ensures fault { IfErr result (IsWrongAt line (faults.fault_in (is_some self.old.heading) self.old.pairings (map (λ word. word.now) words.now))) }
+        ensures sound { OnOk result (fault_behind self.old.heading self.old.pairings words.now ≡ None) }
+        ensures fault { IfErr result
+            (IsWrongAt line (fault_behind self.old.heading self.old.pairings words.now)) }
     {
         if self.heading.is_none() {
             return self.begin(line, words);
@@ -253,15 +258,15 @@ impl ReportDraft {
     fn take_all(&mut self, alloc: Global, lines: &[&[u8]]) -> Result<(), ReportFault>
         ensures given { OnOk result (map numbered_by_line self.new.crew.items
             ≡ map numbered_by_line self.old.crew.items
-            ++ given_from 1 (map (λ line. line.now) lines.now)) }
+            ++ given_from 1 (texts lines.now)) }
         ensures heading { OnOk result (option_or self.new.heading None
-            ≡ option_or self.old.heading (heading_from 1 (map (λ line. line.now) lines.now))) }
+            ≡ option_or self.old.heading (heading_from 1 (texts lines.now))) }
         ensures sound { OnOk result (first_fault (is_some self.new.heading) self.new.pairings
             (length lines.now + 1) []
             ≡ first_fault (is_some self.old.heading) self.old.pairings 1
-            (map (λ line. line.now) lines.now)) }
+            (texts lines.now)) }
         ensures fault { IfErr result (IsTold (first_fault (is_some self.old.heading)
-            self.old.pairings 1 (map (λ line. line.now) lines.now))) }
+            self.old.pairings 1 (texts lines.now))) }
     {
         for i in 0..lines.len() {
             if let Err(fault) = self.take(alloc, i + 1, lines[i]) {
@@ -275,7 +280,8 @@ impl ReportDraft {
     fn finish(self) -> Result<Report, ReportFault>
         ensures crew { IfOk result (λ report. report.crew ≡ self.crew) }
         ensures heading { IfOk result (λ report. self.heading ≡ Some (report.period, report.first)) }
-        ensures fault { IfErr result (λ fault. (self.heading ≡ None) × IsWrongAt 1 (Some Wrong.NoReport) fault) }
+        ensures fault { IfErr result
+            (λ fault. (self.heading ≡ None) × IsWrongAt 1 (Some Wrong.NoReport) fault) }
     {
         match self.heading {
             Some((period, first)) => Ok(Report {

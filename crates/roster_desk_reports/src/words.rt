@@ -1,6 +1,6 @@
 //! The words of a line.
 
-ghost use Rattle.std.specs.Prelude.{◌≡◌, IfOk, map};
+ghost use Rattle.std.specs.Prelude.{◌≡◌, IfOk};
 ghost use Rattle.std.specs.Char.{is_ascii_digit};
 ghost use Rattle.std.specs.List.{list_all};
 ghost use Rattle.roster_desk_reports.specs.Text as spec;
@@ -19,14 +19,14 @@ pub(crate) fn without_mark(text: &[u8]) -> &[u8]
 
 /// The lines of a text.
 pub(crate) fn lines_of<'a>(alloc: Global, text: &'a [u8]) -> Result<Vec<&'a [u8]>, AllocError>
-    ensures { IfOk result (λ lines. map (λ line. line.now) lines.items ≡ spec.lines_of text.now) }
+    ensures { IfOk result (λ lines. spec.texts lines.items ≡ spec.lines_of text.now) }
 {
     text.split(|byte| *byte == b'\n').collect(alloc)
 }
 
 /// The words of a line, which blanks part. A carriage return is one.
 pub(crate) fn words_of<'a>(alloc: Global, line: &'a [u8]) -> Result<Vec<&'a [u8]>, AllocError>
-    ensures { IfOk result (λ words. map (λ word. word.now) words.items ≡ spec.words_of line.now) }
+    ensures { IfOk result (λ words. spec.texts words.items ≡ spec.words_of line.now) }
 {
     line.split(|byte| byte.is_ascii_whitespace())
         .filter(|word| !word.is_empty())
@@ -35,7 +35,7 @@ pub(crate) fn words_of<'a>(alloc: Global, line: &'a [u8]) -> Result<Vec<&'a [u8]
 
 /// Whether the words are those of a `CREW` line.
 pub(crate) fn is_crew(words: &[&[u8]]) -> bool
-    ensures { result ≡ spec.is_crew (map (λ word. word.now) words.now) }
+    ensures { result ≡ spec.is_crew (spec.texts words.now) }
 {
     match words.first() {
         Some(word) => *word == b"CREW".as_slice(),
