@@ -1,5 +1,7 @@
--- What a walk of lines settles: at its end one roster, and else one line after another of the next
--- person.
+-- What a walk of lines settles: at its end one roster, and else one line after another of the next person. A
+-- legal roster gives the next person one of their lines, and none that meets a pairing of another
+-- (`tried_left`). If all persons have their sets one roster is left, since a list of places is known by the
+-- sets of its numbers (`same_places`).
 use Rattle.std.proofs.Common.{◌≡◌, ℕ, ◌+◌, ◌<◌, ◌⊎◌, true, List, length, get_or, Some, refl, sym, ◌∙◌, subst, inl, inr, arith}
 use Rattle.std.specs.Prelude.{slice_get}
 use Rattle.std.proofs.lemmas.Bool.{cases_lt}

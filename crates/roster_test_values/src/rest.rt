@@ -2,8 +2,8 @@
 
 use crate::given::{duties, duty, list_of, march, minute, name};
 use roster_instants::BaseDays;
-use roster_problem::{Base, Duty};
-use roster_restrules::{days_ok, is_recurrent, rest_needed, rest_ok};
+use roster_problem::{Base, Duty, DutyList};
+use roster_restrules::{Times, days_ok, is_recurrent, recovery_ok, rest_needed, rest_ok};
 use std::process::Abort;
 
 // A base in March 2024.
@@ -108,6 +108,41 @@ fn recurrent_rests_have_their_length_and_nights(rt: HostRuntime) {
     ] {
         let found = is_recurrent(&days, minute(&rt, from), minute(&rt, to));
         assert!(rt; found == is_recurrent_rest, "{from} {to}");
+    }
+}
+
+// Whether the duty at the position alone keeps recovery, judged by its list, and by the times of all duties.
+fn keeps_recovery<R: Abort + AllocGlobal>(
+    rt: &R,
+    days: &BaseDays,
+    duties: &[Duty],
+    position: u16,
+) -> (bool, bool) {
+    let times = Times::new(rt.alloc(), days, duties).expect(rt, "memory");
+    assert!(rt; usize::from(position) < duties.len());
+    let positions = Vec::from_slice(rt.alloc(), &[position]).expect(rt, "memory");
+    let by_times = times.keep_recovery(&[position]);
+    (
+        recovery_ok(days, &DutyList::new(duties, positions)),
+        by_times,
+    )
+}
+
+#[test]
+fn a_recurrent_rest_comes_each_week(rt: HostRuntime) {
+    let days = march(&rt);
+    let duties = duties(
+        &rt,
+        &[
+            // 168 hours, and a minute more, in the month and to its start.
+            ("AMS", "2024-03-04T06:00Z", "2024-03-11T06:00Z"),
+            ("AMS", "2024-03-04T06:00Z", "2024-03-11T06:01Z"),
+            ("AMS", "2024-02-22T23:59Z", "2024-03-01T00:00Z"),
+            ("AMS", "2024-02-22T23:59Z", "2024-03-01T00:01Z"),
+        ],
+    );
+    for (position, is_kept) in [(0, true), (1, false), (2, true), (3, false)] {
+        assert!(rt; keeps_recovery(&rt, &days, &duties, position) == (is_kept, is_kept));
     }
 }
 
