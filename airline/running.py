@@ -1,0 +1,187 @@
+"""Each book of a folder solved or planned, side by side, by an engine that exists; each roster checked here."""
+
+import argparse
+import contextlib
+import json
+import os
+import shutil
+import signal
+import subprocess
+import sys
+import tarfile
+import time
+
+import engines
+from books import FILES, Result, books_of, place_of, write_whole
+from programs import NAMES, fail, program, sum_of, version, wrong_with
+
+HERE = os.path.dirname(os.path.realpath(__file__))
+
+
+def words_of(words):
+    at = argparse.ArgumentParser(
+        prog="roster-airline run",
+        description="Solves each book of the folder if its persons have few enough legal sets, and plans the others. What comes of "
+        "BOOK.csv lies in out/BOOK. A run that was broken off goes on with what is missing.",
+    )
+    at.add_argument("folder", metavar="FOLDER", help="has the books: files that end in .csv")
+    at.add_argument("--effort", type=int, choices=range(10), default=5, metavar="N", help="of plans, from 0 to 9 (5)")
+    at.add_argument("--engine", choices=("parallel", "slurm"), default="parallel", help="GNU parallel or Slurm (parallel)")
+    at.add_argument("--hosts", metavar="FILE", help="a line for each host that GNU parallel reaches by ssh; ':' is this machine")
+    at.add_argument("--jobs", type=int, metavar="N", help="so many books at a time on each host (one for each processor)")
+    at.add_argument("--workers", type=int, default=1, metavar="N", help="threads of each book (1)")
+    at.add_argument("--quiet", action="store_true", help="tells no progress")
+    return at.parse_args(words)
+
+
+class Run:
+    """A run over the books of a folder."""
+
+    def __init__(self, given):
+        self.given, self.folder = given, os.path.abspath(given.folder)
+        self.names = books_of(self.folder)
+        self.programs = {name: program(name) for name in NAMES}
+        self.sums = {name: sum_of(path) for name, path in self.programs.items()}
+        self.versions = {name: version(name) for name in NAMES}
+        self.work = f"{self.folder}/out/.work"
+        self.begun = time.monotonic()
+        self.done, self.told = {}, 0.0
+
+    def missing(self):
+        """The books of which there is no whole result yet."""
+        found = []
+        for name in self.names:
+            result = Result(self.folder, name)
+            if result.is_of(sum_of(f"{self.folder}/{name}.csv"), self.sums, self.given.effort):
+                self.done[name] = result
+            else:
+                found.append(name)
+        return found
+
+    def lay_out(self, names):
+        """Puts what a host needs into one folder: the programs, the job and the books."""
+        shutil.rmtree(self.work, ignore_errors=True)
+        os.makedirs(f"{self.work}/books")
+        for name, path in self.programs.items():
+            shutil.copy(path, f"{self.work}/{name}")
+        shutil.copy(f"{HERE}/job", f"{self.work}/job")
+        for name in names:
+            shutil.copy(f"{self.folder}/{name}.csv", f"{self.work}/books")
+
+    def take(self):
+        """Takes over each archive that is there."""
+        for file in sorted(os.listdir(self.work)):
+            if file.endswith(".tar") and not file.startswith(".") and file[:-4] in self.names:
+                name = file[:-4]
+                with contextlib.suppress(tarfile.TarError, ValueError, IndexError):
+                    self.take_one(name, f"{self.work}/{file}")
+                os.remove(f"{self.work}/{file}")
+
+    def take_one(self, name, archive):
+        """Unpacks an archive, judges its roster and puts the result in its place, whole."""
+        new = f"{self.folder}/out/.{name}.new"
+        shutil.rmtree(new, ignore_errors=True)
+        os.makedirs(new)
+        with tarfile.open(archive) as tar:
+            for each in tar.getmembers():
+                if each.isfile() and each.name in (*FILES, "outcome", "said"):
+                    with open(f"{new}/{each.name}", "wb") as it:
+                        shutil.copyfileobj(tar.extractfile(each), it)
+        with open(f"{new}/outcome", encoding="utf-8") as it:
+            outcome, status, seconds, host = it.read().splitlines()[:4]
+        os.remove(f"{new}/outcome")
+        # The book as the job had it: it may be another one by now.
+        book = f"{self.work}/books/{name}.csv"
+        why = ""
+        if outcome in ("solved", "planned"):
+            why = wrong_with(self.programs["roster"], self.programs["roster-desk"], book, f"{new}/report.txt")
+        elif outcome == "failed":
+            why = f"a program ended with status {status}"
+        manifest = {
+            "outcome": "failed" if why else outcome,
+            "why": why,
+            "book": sum_of(book),
+            "programs": self.sums,
+            "versions": self.versions,
+            "effort": self.given.effort,
+            "command": self.command_of(outcome, name),
+            "host": host,
+            "seconds": int(seconds),
+            "files": {it: sum_of(f"{new}/{it}") for it in FILES if os.path.isfile(f"{new}/{it}")},
+        }
+        write_whole(f"{new}/manifest.json", json.dumps(manifest, indent=2) + "\n")
+        shutil.rmtree(place_of(self.folder, name), ignore_errors=True)
+        os.replace(new, place_of(self.folder, name))
+        self.done[name] = Result(self.folder, name)
+
+    def command_of(self, outcome, name):
+        """What gets the bytes of the report again."""
+        if outcome == "planned":
+            return f"roster-desk plan --effort {self.given.effort} {name}.csv"
+        return f"roster solve < {name}.csv" if outcome == "solved" else f"roster-desk fault {name}.csv"
+
+    def tell(self, is_last=False):
+        """Tells how far it is: on a terminal, one line; elsewhere only the last one."""
+        now = time.monotonic()
+        if self.given.quiet:
+            return
+        if not is_last and (now - self.told < 1 or not sys.stderr.isatty()):
+            return
+        self.told = now
+        reports = [it.report for it in self.done.values() if it.report]
+        slowest = max(self.done.values(), key=lambda it: it.manifest["seconds"], default=None)
+        failed = sum(it.manifest["outcome"] == "failed" for it in self.done.values())
+        refused = sum(it.manifest["outcome"] == "refused" for it in self.done.values())
+        line = f"{len(self.done)} of {len(self.names)} books, {refused} refused, {failed} failed"
+        line += f", {sum(len(it.open) for it in reports)} pairings open"
+        if slowest:
+            line += f", slowest {slowest.name} {slowest.manifest['seconds']} s"
+        print(f"\r\033[K{line}" if sys.stderr.isatty() else line, end="\n" if is_last else "", file=sys.stderr, flush=True)
+
+    def status(self):
+        """0 if each book has a roster, 1 if one was refused, 4 if one failed or is missing."""
+        outcomes = [it.manifest["outcome"] for it in self.done.values()]
+        if "failed" in outcomes or len(self.done) < len(self.names):
+            return 4
+        return 1 if "refused" in outcomes else 0
+
+
+    def go(self):
+        """Has all that is missing done, and takes it. The status, or 130 if it was broken off."""
+        engine = engines.ENGINES[self.given.engine](self.given)
+        left = self.missing()
+        if left:
+            self.lay_out(left)
+            try:
+                engine.start(self.work, left)
+                while engine.goes_on():
+                    time.sleep(0.1)
+                    self.take()
+                    self.tell()
+            except BaseException as end:
+                engine.stop()
+                if not isinstance(end, KeyboardInterrupt):
+                    raise
+                self.take()
+                self.tell(is_last=True)
+                return 130
+            self.take()
+            shutil.rmtree(self.work, ignore_errors=True)
+        self.tell(is_last=True)
+        for result in self.done.values():
+            if result.manifest["why"]:
+                print(f"{result.name}: {result.manifest['why']}", file=sys.stderr)
+        return self.status()
+
+
+def interrupted(number, _):
+    raise KeyboardInterrupt(number)
+
+
+def main(words):
+    given = words_of(words)
+    if given.workers < 1 or given.workers > 64 or (given.jobs or 1) < 1:
+        fail("--workers is from 1 to 64, and --jobs at least 1")
+    for each in (signal.SIGTERM, signal.SIGHUP):
+        signal.signal(each, interrupted)
+    return Run(given).go()
