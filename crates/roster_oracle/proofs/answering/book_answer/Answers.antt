@@ -3,7 +3,7 @@ use Rattle.roster_model.specs.Problem.{Problem}
 use Rattle.roster_model.specs.Record.{Command, Solve, Replay}
 use Rattle.roster_values.specs.View.{command_of}
 use Rattle.roster_cli_run.specs.Run.{IsProblemAnswer}
-use Rattle.roster_test_oracle.proofs.answering.book_answer.Goals as goal
+use Rattle.roster_oracle.proofs.answering.book_answer.Goals as goal
 
 -- what answers a problem without a look at the book's own roster answers it beside any
 beside : (problem : Problem) (assigned text : List ℕ) → IsProblemAnswer Solve problem [] text

@@ -1,5 +1,5 @@
 use Rattle.std.proofs.Common.{inr}
-use Rattle.roster_test_oracle.proofs.answering.solve_answer.Goals as goal
+use Rattle.roster_oracle.proofs.answering.solve_answer.Goals as goal
 
 -- nobody has too many lines, so the report of the best roster is the answer
 pub returns-in_ok-text-in-Ok : goal.returns-in_ok-text-in-Ok

@@ -1,7 +1,7 @@
 use Rattle.roster_values.specs.View.{command_of}
 use Rattle.roster_model.specs.Answer.{records_of}
 use Rattle.roster_cli_run.proofs.BookAnswers.{answer_of_book}
-use Rattle.roster_test_oracle.proofs.answering.answer.Goals as goal
+use Rattle.roster_oracle.proofs.answering.answer.Goals as goal
 
 pub returns-in_ok-text-in-Ok : goal.returns-in_ok-text-in-Ok
 returns-in_ok-text-in-Ok c =
