@@ -1,3 +1,4 @@
 pub mod Growth
 mod Taken
 mod Lines
+mod Passed

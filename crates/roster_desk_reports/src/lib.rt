@@ -9,11 +9,13 @@
 //! - `report`: what a report says, and how it is read
 //! - `named`: persons and pairings of a book by their names
 //! - `placing`: the roster that a report gives of a book
+//! - `known`: that of a report of the book as it was
 //! - `assigns`: the `assign` records that make a report's roster
 #![tactic(auto)]
 
 mod assigns;
 mod fault;
+mod known;
 mod named;
 mod placing;
 mod report;
@@ -21,6 +23,7 @@ mod words;
 
 pub use assigns::assigns_text;
 pub use fault::{ReportFault, Wrong};
+pub use known::read_known_roster;
 pub use named::{pairing_named, person_named};
 pub use placing::read_roster;
 pub use report::{CrewLine, Report, read_report};

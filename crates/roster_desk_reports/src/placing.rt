@@ -139,7 +139,11 @@ fn open_places(alloc: Global, problem: &Problem) -> Result<Vec<u16>, AllocError>
 
 /// The roster that a report gives of a book: for each pairing in book order the number of its person, or
 /// the number of persons if the report gives it to nobody.
-fn places_of(alloc: Global, problem: &Problem, report: &Report) -> Result<Places, ReportFault>
+pub(crate) fn places_of(
+    alloc: Global,
+    problem: &Problem,
+    report: &Report,
+) -> Result<Places, ReportFault>
     ensures covers { IfOk result (λ places. length places ≡ length problem.now.pairings) }
     ensures numbers { IfOk result
         (λ places. All (λ x. x ≤ length problem.now.persons) places) }
