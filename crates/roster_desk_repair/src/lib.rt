@@ -1,0 +1,16 @@
+//! The book of a repair: the rest of a month, with what was published.
+//!
+//! `repair` writes the records of a book anew: what reports before the repair begins becomes fixed duties of
+//! who flew it, and each other pairing costs its owner less than anybody else. It reads its own text again, and
+//! gives it only if that is a repair, as `is_repair` of `roster_desk_repair_judged` tells. In reading order:
+//!
+//! - `keeping`: which records of a book stay, and what they say
+//! - `writing`: the text, on `csv`
+//! - `repairing`: a text that is a repair
+#![tactic(auto)]
+
+mod keeping;
+mod repairing;
+mod writing;
+
+pub use repairing::{RepairedBook, Unrepaired, repair};

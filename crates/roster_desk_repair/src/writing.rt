@@ -1,0 +1,190 @@
+//! The text of a repair, on `csv`.
+
+ghost use Rattle.std.specs.Prelude.{◌<◌, length};
+
+use crate::keeping::{Fate, Kept};
+use csv::{ByteRecord, ReaderBuilder, Writer, WriterBuilder};
+use roster_desk_repair_judged::price_at;
+use roster_desk_reports::pairing_named;
+use std::alloc::{AllocError, Global};
+
+/// The letter of a fixed duty.
+const OF_PERSON: &[u8] = b"C";
+
+/// The letter of a pairing's duty.
+const OF_PAIRING: &[u8] = b"P";
+
+/// Records that are written. Nothing but want of memory can fail.
+#[derive(Drop)]
+struct Records {
+    writer: Writer<Vec<u8>>,
+}
+
+impl Records {
+    /// No record.
+    fn new(alloc: Global) -> Records {
+        let writer = WriterBuilder::new()
+            .flexible(true)
+            .from_writer(Vec::new(alloc));
+        Records { writer }
+    }
+
+    /// Puts a record behind the others.
+    fn push(&mut self, fields: &[&[u8]]) -> Result<(), AllocError> {
+        match self.writer.write_fields(fields) {
+            Ok(()) => Ok(()),
+            Err(_) => Err(AllocError),
+        }
+    }
+
+    /// Puts a record that was read behind the others.
+    fn copy(&mut self, fields: &ByteRecord) -> Result<(), AllocError> {
+        match self.writer.write_byte_record(fields) {
+            Ok(()) => Ok(()),
+            Err(_) => Err(AllocError),
+        }
+    }
+
+    /// The text.
+    fn finish(self) -> Result<Vec<u8>, AllocError> {
+        match self.writer.into_inner() {
+            Ok(text) => Ok(text),
+            Err(_) => Err(AllocError),
+        }
+    }
+}
+
+/// What was written so far. A record names only what stands before it: so duties, which may come to name a
+/// person who stands below them in the book, are put behind all persons.
+#[derive(Drop)]
+struct Draft {
+    // All records but these.
+    heads: Records,
+    // Those of duties and sectors.
+    duties: Records,
+    // Those of costs.
+    costs: Records,
+}
+
+/// The field of the record, empty if it has none.
+fn field(fields: &ByteRecord, i: usize) -> &[u8] {
+    fields.get(i).unwrap_or(&[])
+}
+
+impl Draft {
+    /// Takes the record of a duty.
+    fn take_duty(&mut self, kept: &Kept<'_>, fields: &ByteRecord) -> Result<(), AllocError> {
+        let pairing = match field(fields, 2) == OF_PAIRING {
+            true => pairing_named(kept.book, field(fields, 3)),
+            false => None,
+        };
+        let Some(p) = pairing else {
+            return self.duties.copy(fields);
+        };
+        match kept.fate(p) {
+            Fate::Stays => self.duties.copy(fields),
+            Fate::Leaves => Ok(()),
+            Fate::Fixed(person) => self.duties.push(&[
+                field(fields, 0),
+                field(fields, 1),
+                OF_PERSON,
+                person,
+                field(fields, 4),
+                field(fields, 5),
+                field(fields, 6),
+            ]),
+        }
+    }
+
+    /// Takes a record of the book.
+    fn take(&mut self, kept: &Kept<'_>, fields: &ByteRecord) -> Result<(), AllocError> {
+        let kind = field(fields, 0);
+        if kind == b"duty".as_slice() {
+            return self.take_duty(kept, fields);
+        }
+        if kind == b"assign".as_slice() {
+            return Ok(());
+        }
+        if kind == b"sector".as_slice() {
+            if !kept.has_duty(field(fields, 1)) {
+                return Ok(());
+            }
+            return self.duties.copy(fields);
+        }
+        if kind == b"cost".as_slice() {
+            if !kept.keeps_units(field(fields, 1), field(fields, 2)) {
+                return Ok(());
+            }
+            return self.costs.copy(fields);
+        }
+        if kind == b"pairing".as_slice() && kept.is_fixed(field(fields, 1)) {
+            return Ok(());
+        }
+        self.heads.copy(fields)
+    }
+
+    /// Puts the units of the owner of the pairing at place `p`, if it is rostered anew and has one.
+    fn push_owner(&mut self, alloc: Global, kept: &Kept<'_>, p: usize) -> Result<(), AllocError>
+        requires { p < length kept.now.book.now.pairings }
+    {
+        let (Some(None), Some(number)) = (kept.fixed.get(p), kept.published.get(p)) else {
+            return Ok(());
+        };
+        let k = usize::from(*number);
+        let Some(person) = kept.book.persons().get(k) else {
+            return Ok(());
+        };
+        let price = i64::from(price_at(kept.book, kept.terms, p));
+        let units = kept.book.units(k, p) - price;
+        if units == 0 {
+            return Ok(());
+        }
+        let units = units.to_string(alloc)?;
+        let pairing = kept.book.pairing(p);
+        self.costs.push(&[
+            b"cost",
+            person.id.as_bytes(),
+            pairing.id.as_bytes(),
+            units.as_bytes(),
+        ])
+    }
+
+    /// The whole text.
+    fn finish(self) -> Result<Vec<u8>, AllocError> {
+        let mut text = self.heads.finish()?;
+        let duties = self.duties.finish()?;
+        let costs = self.costs.finish()?;
+        text.extend_from_slice(duties.as_slice())?;
+        text.extend_from_slice(costs.as_slice())?;
+        Ok(text)
+    }
+}
+
+/// The text of the repair of the book, whose bytes are the text.
+pub(crate) fn repaired_text(
+    alloc: Global,
+    text: &[u8],
+    kept: &Kept<'_>,
+) -> Result<Vec<u8>, AllocError> {
+    let reader = ReaderBuilder::new()
+        .has_headers(false)
+        .flexible(true)
+        .from_reader(alloc, text);
+    let mut draft = Draft {
+        heads: Records::new(alloc),
+        duties: Records::new(alloc),
+        costs: Records::new(alloc),
+    };
+    for record in reader.into_byte_records() {
+        // Bytes that are in memory are read without a fault of a device, and a record may have any number
+        // of fields of any bytes: so nothing but want of memory is left.
+        let Ok(fields) = record else {
+            return Err(AllocError);
+        };
+        draft.take(kept, &fields)?;
+    }
+    for p in 0..kept.book.pairings().len() {
+        draft.push_owner(alloc, kept, p)?;
+    }
+    draft.finish()
+}
