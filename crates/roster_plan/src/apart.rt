@@ -76,7 +76,7 @@ pub(crate) fn bounded<R: Threads + Sync, W: Watcher>(
     Ok(month)
 }
 
-/// The bases whose best roster isn't known, with what no prices say of each.
+/// The bases whose best roster isn't known, with what the first prices say of each.
 fn gaps_of<'a, R: Threads + Sync>(
     rt: &R,
     alloc: Global,
@@ -125,7 +125,7 @@ fn explored<R: Threads + Sync, W: Watcher>(
     ensures month { IfOk result (IsMonthFrom problem.now start.planned.roster) }
     ensures gaps { AreGaps problem.now gaps.new }
 {
-    // The first look was that of a new bound, at no prices.
+    // The first look was that of a new bound, at its first prices.
     let mut month = with_bounds(alloc, problem, start, gaps, watcher)?;
     for _ in 1..looks {
         look_all(rt, alloc, problem, means.workers, gaps);

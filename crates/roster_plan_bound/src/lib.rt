@@ -17,6 +17,8 @@
 //! - `pricing`: what prices say of the rosters of a base
 //! - `master`: the best prices for the chains that are known
 //! - `softness`: weights and logarithms in whole numbers
+//! - `start`: the prices that looks begin with
+//! - `pace`: how prices move from one look to the next
 //! - `rising`: prices that say more and more
 //! - `gap`: lines that a roster may have which costs little more than a bound
 //! - `lists`: what stands at a place of a list
@@ -29,6 +31,7 @@ mod listing;
 mod lists;
 mod master;
 mod network;
+mod pace;
 mod parts;
 mod persons;
 mod pricing;
@@ -36,6 +39,7 @@ mod rising;
 mod rows;
 mod sets;
 mod softness;
+mod start;
 mod terms;
 mod tuning;
 

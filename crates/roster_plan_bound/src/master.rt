@@ -4,9 +4,10 @@
 ghost use Rattle.std.specs.Prelude.{◌<◌};
 
 use crate::lists::amount_at;
+use crate::pace::Pace;
 use crate::persons::Seen;
 use crate::softness::logarithm;
-use crate::tuning::{COLUMNS_FOR_A_THREAD, FIRST_SOFTNESS, LEAST_SOFTNESS, ONE, PATIENCE, STEPS};
+use crate::tuning::{COLUMNS_FOR_A_THREAD, LEAST_SOFTNESS, ONE, PATIENCE};
 use std::alloc::{AllocError, Global};
 use std::thread::{Threads, for_each_mut};
 
@@ -40,7 +41,7 @@ struct Portion {
     cost: Result<i64, AllocError>,
 }
 
-/// Prices near the given ones, by no more than the stride, at which the columns of all persons cost the most,
+/// Prices near the given ones, by no more than the stride of the pace, at which the columns of all persons cost the most,
 /// each covered pairing counting with its price, or its penalty if that is less: soft covers with momentum.
 /// Those of other pairings stay. So many threads at most share the persons; what covers and costs add up to
 /// is the same for any number of them.
@@ -51,15 +52,15 @@ pub(crate) fn ascend<R: Threads + Sync>(
     seen: &[Seen],
     center: &[i64],
     covered: &[Covered],
-    stride: i64,
+    pace: Pace,
 ) -> Result<Vec<i64>, AllocError>
     requires { 0 < threads }
 {
-    let mut way = start(alloc, center)?;
+    let mut way = start(alloc, center, pace.softness)?;
     let mut portions = portions_of(alloc, threads, seen, center.len())?;
-    for _ in 0..STEPS {
+    for _ in 0..pace.steps {
         cover_all(rt, threads, seen, &way, &mut portions);
-        step(alloc, &mut way, &portions, center, covered, stride)?;
+        step(alloc, &mut way, &portions, center, covered, pace.stride)?;
     }
     Ok(way.best)
 }
@@ -175,14 +176,14 @@ fn add_up(covers: &mut [i64], more: &[i64]) {
     }
 }
 
-fn start(alloc: Global, center: &[i64]) -> Result<Way, AllocError> {
+fn start(alloc: Global, center: &[i64], softness: i64) -> Result<Way, AllocError> {
     let speeds = vec![in alloc; 0; center.len()]?;
     Ok(Way {
         prices: copied(alloc, center)?,
         speeds,
         best: copied(alloc, center)?,
         most: i64::MIN,
-        softness: FIRST_SOFTNESS,
+        softness,
         misses: 0,
         turns: 0,
     })

@@ -172,6 +172,17 @@ impl<'a> Pricing<'a> {
         &self.pairs[k]
     }
 
+    /// The minutes of flight of pairing `p` with person `k`; none if one of them isn't there.
+    pub(crate) fn flight(&self, k: usize, p: usize) -> u64 {
+        match self.pairs.get(k) {
+            Some(pairs) => match pairs.flights.get(p) {
+                Some(flight) => *flight,
+                None => 0,
+            },
+            None => 0,
+        }
+    }
+
     /// What each person's reduced costs are at least in rosters of the base, and the sum. Those of another
     /// base fly nothing.
     fn leasts<R: Threads + Sync>(

@@ -12,11 +12,13 @@ ghost use Rattle.roster_plan_bound.specs.Reduced.{ArePrices};
 use crate::gap::lines_of_gap;
 use crate::lists::amount_at;
 use crate::master::{Covered, ascend};
+use crate::pace::Pace;
 use crate::parts::{MOST_PLAN_PRICE, PARTS};
 use crate::persons::{Seen, unseen};
 use crate::pricing::{Priced, Pricing};
 use crate::sets::turn_to_sets;
-use crate::tuning::{FIRST_STRIDE, LEAST_STRIDE, MOST_IDLE, MOST_STRIDE};
+use crate::start::start_prices;
+use crate::tuning::MOST_IDLE;
 use roster_bases::{is_pairing_of, persons_of};
 use roster_lines::TableFault;
 use roster_lines_table::Table;
@@ -40,8 +42,8 @@ pub struct PricedBound<'a> {
     leasts: Vec<i64>,
     bound: i64,
     parts: i64,
-    // How far the next prices may lie from the best ones.
-    stride: i64,
+    // How the next prices move from the best ones.
+    pace: Pace,
     // How many looks in a row have said no more in whole cost units.
     idle: u32,
     // Whether looks list lines and no longer chains.
@@ -61,7 +63,7 @@ impl<'a> Model for PricedBound<'a> {
 }
 
 impl<'a> PricedBound<'a> {
-    /// What no prices at all say of the base at this place. So many threads at most share its persons.
+    /// What the first prices say of the base at this place. So many threads at most share its persons.
     pub fn new<R: Threads + Sync>(
         rt: &R,
         alloc: Global,
@@ -76,7 +78,8 @@ impl<'a> PricedBound<'a> {
         let problem = pricing.problem();
         let persons = persons_of(alloc, problem, base)?;
         let mut seen = unseen(alloc, persons.len())?;
-        let prices = no_prices(alloc, problem)?;
+        let wanted = start_prices(alloc, pricing, base, &persons)?;
+        let prices = limited(alloc, problem, &wanted)?;
         let look = pricing.look(rt, alloc, threads, base, &persons, &prices, &mut seen)?;
         Ok(PricedBound {
             pricing,
@@ -87,7 +90,7 @@ impl<'a> PricedBound<'a> {
             leasts: look.leasts,
             bound: look.bound,
             parts: look.parts,
-            stride: FIRST_STRIDE,
+            pace: Pace::first(),
             idle: 0,
             sets: false,
         })
@@ -203,7 +206,7 @@ impl<'a> PricedBound<'a> {
             &self.seen,
             &self.prices,
             &covered,
-            self.stride,
+            self.pace,
         )?;
         let prices = limited(alloc, problem, &wanted)?;
         self.look(rt, alloc, threads, prices)
@@ -227,7 +230,7 @@ impl<'a> PricedBound<'a> {
         prices.extend_from_slice(&self.prices)?;
         self.look(rt, alloc, threads, prices)?;
         self.idle = 0;
-        self.stride = FIRST_STRIDE;
+        self.pace = Pace::first();
         Ok(())
     }
 
@@ -267,9 +270,9 @@ impl<'a> PricedBound<'a> {
         ensures raised { self.old.bound ≤ℤ self.new.bound }
         ensures taken { look.bound ≤ℤ self.new.bound }
     {
+        self.pace = self.pace.after(look.parts.wrapping_sub(self.parts));
         if look.bound < self.bound || (look.bound == self.bound && look.parts <= self.parts) {
             self.idle = self.idle.wrapping_add(1);
-            self.stride = narrower(self.stride);
             return;
         }
         self.idle = if look.bound > self.bound {
@@ -277,30 +280,11 @@ impl<'a> PricedBound<'a> {
         } else {
             self.idle.wrapping_add(1)
         };
-        self.stride = wider(self.stride);
         self.parts = look.parts;
         self.prices = prices;
         self.leasts = look.leasts;
         self.bound = look.bound;
     }
-}
-
-/// The next stride after one that said more.
-fn wider(stride: i64) -> i64 {
-    (stride.wrapping_mul(3) / 2).min(MOST_STRIDE)
-}
-
-/// The next stride after one that said no more.
-fn narrower(stride: i64) -> i64 {
-    (stride.wrapping_mul(3) / 5).max(LEAST_STRIDE)
-}
-
-/// No prices.
-fn no_prices(alloc: Global, problem: &Problem) -> Result<Vec<i64>, AllocError>
-    ensures { IfOk result (λ prices. ArePrices problem.now prices.items) }
-{
-    let prices = vec![in alloc; 0; problem.pairings().len()]?;
-    Ok(prices)
 }
 
 /// The pairings of the base.

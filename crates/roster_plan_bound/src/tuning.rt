@@ -19,24 +19,30 @@ pub(crate) const MOST_REACH: i64 = 2000 * 64;
 /// How many chains are tried for one list.
 pub(crate) const MOST_TRIES: u32 = 1 << 18;
 
-/// How many columns are worth a thread of its own, each time that prices move by them: threads start `STEPS`
-/// times between two looks.
+/// How many columns are worth a thread of its own, each time that prices move by them: threads start so often
+/// between two looks.
 pub(crate) const COLUMNS_FOR_A_THREAD: usize = 2000;
 
-/// How often prices move by the columns before they are looked at again.
-pub(crate) const STEPS: u32 = 200;
+/// How often prices move by the columns before they are looked at again, at least and at most: more often if
+/// the looks before said little.
+pub(crate) const FEWEST_STEPS: u32 = 300;
 
-/// Softness at first, at least, and how many steps it stays that say no more, in parts of a cost unit.
+pub(crate) const MOST_STEPS: u32 = 1600;
+
+/// Softness at first, where looks have long said little, at least, and how many steps it stays that say no
+/// more, in parts of a cost unit.
 pub(crate) const FIRST_SOFTNESS: i64 = 60 * 64;
 
-pub(crate) const LEAST_SOFTNESS: i64 = 45;
+pub(crate) const SOFTEST_LATE: i64 = 32;
+
+pub(crate) const LEAST_SOFTNESS: i64 = 3;
 
 pub(crate) const PATIENCE: u32 = 5;
 
 /// How far prices move at first from those of the best bound, at least and at most, in parts of a cost unit.
-pub(crate) const FIRST_STRIDE: i64 = 150 * 64;
+pub(crate) const FIRST_STRIDE: i64 = 30 * 64;
 
-pub(crate) const LEAST_STRIDE: i64 = 5 * 64;
+pub(crate) const LEAST_STRIDE: i64 = 3 * 64;
 
 pub(crate) const MOST_STRIDE: i64 = 600 * 64;
 

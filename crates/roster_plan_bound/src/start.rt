@@ -1,0 +1,77 @@
+//! The prices that looks begin with: what the flight of each pairing is worth.
+//!
+//! If the crew lacks flight, nearly everybody ends below the target, and each minute saves the weight; else
+//! nearly everybody ends above it, and each minute costs as much. A pairing whose price is that brings just
+//! its units, whoever flies it. Nothing rests on these prices.
+
+use crate::parts::{MOST_PLAN_PRICE, PARTS};
+use crate::pricing::Pricing;
+use roster_bases::{is_pairing_of, is_person_of};
+use roster_cost::fixed_flight;
+use roster_problem::Problem;
+use std::alloc::{AllocError, Global};
+
+/// A price for each pairing of the base, its weighed flight, but no more than its penalty; none for others.
+pub(crate) fn start_prices(
+    alloc: Global,
+    pricing: &Pricing<'_>,
+    base: usize,
+    persons: &[usize],
+) -> Result<Vec<i64>, AllocError> {
+    let problem = pricing.problem();
+    let flights = flights_of(alloc, pricing, base, persons)?;
+    let is_short = minutes_wanted(problem, base) > sum_of(&flights);
+    let mut prices = Vec::new(alloc);
+    for (pairing, flight) in problem.pairings().iter().zip(flights.iter()) {
+        let penalty = i64::from(pairing.penalty).wrapping_mul(PARTS as i64);
+        prices.push(start_price(problem, *flight, is_short).min(penalty))?;
+    }
+    Ok(prices)
+}
+
+/// What so many minutes of flight are worth, in parts of a cost unit.
+fn start_price(problem: &Problem, flight: u64, is_short: bool) -> i64 {
+    let part = PARTS.saturating_mul(u64::from(problem.weight()));
+    let worth = part.saturating_mul(flight).min(MOST_PLAN_PRICE) as i64;
+    if is_short { -worth } else { worth }
+}
+
+/// The minutes of flight of each pairing, if it is of the base; nothing of others.
+fn flights_of(
+    alloc: Global,
+    pricing: &Pricing<'_>,
+    base: usize,
+    persons: &[usize],
+) -> Result<Vec<u64>, AllocError> {
+    let problem = pricing.problem();
+    let mut flights = Vec::new(alloc);
+    for p in 0..problem.pairings().len() {
+        let flight = match persons.first() {
+            Some(k) if is_pairing_of(problem, p, base) => pricing.flight(*k, p),
+            _ => 0,
+        };
+        flights.push(flight)?;
+    }
+    Ok(flights)
+}
+
+/// The minutes that all targets of the base ask for beyond the flight of fixed duties.
+fn minutes_wanted(problem: &Problem, base: usize) -> u64 {
+    let mut sum: u64 = 0;
+    for k in 0..problem.persons().len() {
+        if is_person_of(problem, k, base) {
+            let target = u64::from(problem.person(k).target);
+            sum = sum.saturating_add(target.saturating_sub(fixed_flight(problem, k)));
+        }
+    }
+    sum
+}
+
+/// All of them.
+fn sum_of(flights: &[u64]) -> u64 {
+    let mut sum: u64 = 0;
+    for flight in flights {
+        sum = sum.saturating_add(*flight);
+    }
+    sum
+}
