@@ -9,8 +9,10 @@
 //! - `persons`: a row for each person
 //! - `table`: both tables
 //! - `differences`: what differs between two rosters
+//! - `changed`: whose month differs, and on which days
 #![tactic(auto)]
 
+mod changed;
 mod differences;
 mod persons;
 mod records;
@@ -18,5 +20,6 @@ mod rows;
 mod sums;
 mod table;
 
+pub use changed::changed_text;
 pub use differences::differences_text;
 pub use table::{persons_table, roster_table};
