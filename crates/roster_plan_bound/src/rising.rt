@@ -63,7 +63,8 @@ impl<'a> Model for PricedBound<'a> {
 }
 
 impl<'a> PricedBound<'a> {
-    /// What the first prices say of the base at this place. So many threads at most share its persons.
+    /// What no prices at all say of the base at this place, or the first prices, if these say more. So many
+    /// threads at most share its persons.
     pub fn new<R: Threads + Sync>(
         rt: &R,
         alloc: Global,
@@ -75,25 +76,9 @@ impl<'a> PricedBound<'a> {
         ensures problem { IfOk result (λ bound. bound.problem ≡ pricing.now) }
         ensures base { IfOk result (λ bound. bound.base ≡ base) }
     {
-        let problem = pricing.problem();
-        let persons = persons_of(alloc, problem, base)?;
-        let mut seen = unseen(alloc, persons.len())?;
-        let wanted = start_prices(alloc, pricing, base, &persons)?;
-        let prices = limited(alloc, problem, &wanted)?;
-        let look = pricing.look(rt, alloc, threads, base, &persons, &prices, &mut seen)?;
-        Ok(PricedBound {
-            pricing,
-            base,
-            persons,
-            seen,
-            prices,
-            leasts: look.leasts,
-            bound: look.bound,
-            parts: look.parts,
-            pace: Pace::first(),
-            idle: 0,
-            sets: false,
-        })
+        let mut bound = PricedBound::unpriced(rt, alloc, threads, pricing, base)?;
+        bound.look_first(rt, alloc, threads)?;
+        Ok(bound)
     }
 
     /// The prices that say so, one for each pairing, in `PARTS` parts of a cost unit.
@@ -164,6 +149,56 @@ impl<'a> PricedBound<'a> {
             gap,
             most,
         )
+    }
+
+    /// What no prices at all say of the base at this place. So many threads at most share its persons.
+    fn unpriced<R: Threads + Sync>(
+        rt: &R,
+        alloc: Global,
+        threads: usize,
+        pricing: &'a Pricing<'a>,
+        base: usize,
+    ) -> Result<PricedBound<'a>, AllocError>
+        requires { 0 < threads }
+        ensures problem { IfOk result (λ bound. bound.problem ≡ pricing.now) }
+        ensures base { IfOk result (λ bound. bound.base ≡ base) }
+    {
+        let problem = pricing.problem();
+        let persons = persons_of(alloc, problem, base)?;
+        let mut seen = unseen(alloc, persons.len())?;
+        let prices = no_prices(alloc, problem)?;
+        let look = pricing.look(rt, alloc, threads, base, &persons, &prices, &mut seen)?;
+        Ok(PricedBound {
+            pricing,
+            base,
+            persons,
+            seen,
+            prices,
+            leasts: look.leasts,
+            bound: look.bound,
+            parts: look.parts,
+            pace: Pace::first(),
+            idle: 0,
+            sets: false,
+        })
+    }
+
+    /// Looks at the first prices, and takes them if they say more.
+    fn look_first<R: Threads + Sync>(
+        &mut self,
+        rt: &R,
+        alloc: Global,
+        threads: usize,
+    ) -> Result<(), AllocError>
+        requires { 0 < threads }
+        ensures problem { self.new.problem ≡ self.old.problem }
+        ensures base { self.new.base ≡ self.old.base }
+        ensures raised { self.old.bound ≤ℤ self.new.bound }
+    {
+        let problem = self.pricing.problem();
+        let wanted = start_prices(alloc, self.pricing, self.base, &self.persons)?;
+        let prices = limited(alloc, problem, &wanted)?;
+        self.look(rt, alloc, threads, prices)
     }
 
     /// Looks once more: by lines from now on, if many looks in a row have said no more.
@@ -285,6 +320,14 @@ impl<'a> PricedBound<'a> {
         self.leasts = look.leasts;
         self.bound = look.bound;
     }
+}
+
+/// No prices.
+fn no_prices(alloc: Global, problem: &Problem) -> Result<Vec<i64>, AllocError>
+    ensures { IfOk result (λ prices. ArePrices problem.now prices.items) }
+{
+    let prices = vec![in alloc; 0; problem.pairings().len()]?;
+    Ok(prices)
 }
 
 /// The pairings of the base.

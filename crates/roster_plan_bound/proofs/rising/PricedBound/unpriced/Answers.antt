@@ -3,7 +3,7 @@ use Rattle.std.proofs.lemmas.Int.{to_z-of_z}
 use Rattle.roster_bases.specs.Bases.{persons_of}
 use Rattle.roster_plan_bound.specs.Looks.{IsLook}
 use Rattle.roster_plan_bound.specs.Reduced.{ArePrices}
-use Rattle.roster_plan_bound.proofs.rising.PricedBound.new.Goals as goal
+use Rattle.roster_plan_bound.proofs.rising.PricedBound.unpriced.Goals as goal
 
 pub invariant_of-result : goal.invariant_of-result
 invariant_of-result g c =
@@ -16,7 +16,7 @@ invariant_of-result g c =
     let prices = c.in_ok-prices.prices.items in
     let leasts = c.in_ok-look.look.leasts.items in
     let own =
-    subst (λ ps. IsLook problem ps base bound leasts) c.deref-4.ensures.value c.in_ok-look.ensures.look in
+    subst (λ ps. IsLook problem ps base bound leasts) c.deref-2.ensures.value c.in_ok-look.ensures.look in
     let all : c.in_ok-seen.seen.len ≡ length c.in_ok-persons.persons.items =
     omega (arith, c.in_ok-seen.ensures, c.len.ensures, c.in_ok-persons.persons.ok.0) in
     record {
