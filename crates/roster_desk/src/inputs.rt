@@ -75,7 +75,7 @@ pub(crate) fn read_report_at<'a>(
 /// The path of the other report, if there is one.
 fn other_path<'a>(line: &TellLine<'a>) -> Option<&'a str> {
     match line.question {
-        Question::Differences { other } => Some(other),
+        Question::Differences { other } | Question::Changed { other } => Some(other),
         _ => None,
     }
 }

@@ -14,8 +14,8 @@ ghost use Rattle.std.specs.Prelude.{◌≡◌, ◌<◌, IfSome, false};
 ghost use Rattle.roster_watched.specs.Watch.{has_failed};
 
 use inputs::{InputFault, STANDARD_INPUT, read_book_at, read_inputs, read_report_at, shares_input};
-use roster_desk_answers::{Untold, show, tell, tell_assigns};
-use roster_desk_arguments::{Line, LineFault, PageLine, PlanLine, TellLine, read_line};
+use roster_desk_answers::{Untold, mend, show, tell, tell_assigns};
+use roster_desk_arguments::{Line, LineFault, PageLine, PlanLine, RepairLine, TellLine, read_line};
 use roster_desk_given::Unknown;
 use roster_desk_run::{Status, run};
 use roster_plan::Means;
@@ -24,7 +24,7 @@ use std::fs::File;
 use std::io::{IsTerminal, Read};
 use std::process::ExitCode;
 use std::thread::Threads;
-use std::{env, io};
+use std::{env, io, str};
 use watching::Companion;
 
 /// The exit status of a command line that is refused.
@@ -63,6 +63,7 @@ fn answer<T: Threads + Sync>(rt: &HostRuntime, threads: &T, line: &Line<'_>) -> 
         Line::Tell(tell) => answer_tell(rt, tell),
         Line::Assigns(path) => answer_assigns(rt, path),
         Line::Page(page) => answer_page(rt, page),
+        Line::Repair(repair) => answer_repair(rt, repair),
     }
 }
 
@@ -189,6 +190,44 @@ fn answer_page(rt: &HostRuntime, line: &PageLine<'_>) -> ExitCode {
     )
 }
 
+/// Writes the book of a repair.
+fn answer_repair(rt: &HostRuntime, line: &RepairLine<'_>) -> ExitCode {
+    if line.book == STANDARD_INPUT && line.report == STANDARD_INPUT {
+        return inputs_shared(rt);
+    }
+    let book = match read_book_at(rt, line.book) {
+        Ok(book) => book,
+        Err(fault) => return unread_input(rt, fault),
+    };
+    let report = match read_report_at(rt, line.report) {
+        Ok(report) => report,
+        Err(fault) => return unread_input(rt, fault),
+    };
+    let mut writer = Watched::new(io::writer(rt));
+    match mend(
+        rt.alloc(),
+        line,
+        book.as_slice(),
+        report.as_slice(),
+        &mut writer,
+    ) {
+        Ok(mended) => {
+            if mended.status == Status::Answered {
+                tell_text(rt, mended.notes.as_slice());
+            }
+            ended(rt, mended.status)
+        }
+        Err(untold) => untold_ended(rt, &untold),
+    }
+}
+
+/// Tells standard error a text.
+fn tell_text(rt: &HostRuntime, text: &[u8]) {
+    if let Ok(text) = str::from_utf8(text) {
+        let _ = eprint!(rt; "{text}");
+    }
+}
+
 /// Tells why nothing was told.
 fn untold_ended(rt: &HostRuntime, untold: &Untold<'_>) -> ExitCode {
     match untold {
@@ -202,6 +241,23 @@ fn untold_ended(rt: &HostRuntime, untold: &Untold<'_>) -> ExitCode {
         }
         Untold::Report { path, fault } => {
             let _ = eprintln!(rt; "error: {path}, {fault}");
+            Status::Refused.exit_code()
+        }
+        Untold::Words(wanted) => {
+            let _ = eprintln!(rt; "error: {wanted}");
+            ExitCode::from(LINE_REFUSED)
+        }
+        Untold::Faulty(faults) => {
+            let _ = eprintln!(rt;
+                "error: the repaired book would have a fault, as roster-desk fault tells it:"
+            );
+            tell_text(rt, faults.as_slice());
+            Status::Refused.exit_code()
+        }
+        Untold::Unlike => {
+            let _ = eprintln!(rt;
+                "error: the repaired book wouldn't ask for the same, so none is written"
+            );
             Status::Refused.exit_code()
         }
         Untold::Memory => ended(rt, Status::Memory),

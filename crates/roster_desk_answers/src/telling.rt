@@ -7,8 +7,8 @@ use roster_book::{Book, BookFault, Command, read_book};
 use roster_desk_arguments::Question;
 use roster_desk_chart::chart_text;
 use roster_desk_given::{Status, Unknown, find, read_zones};
-use roster_desk_reports::{ReportFault, assigns_text, read_report, read_roster};
-use roster_desk_tables::{differences_text, persons_table, roster_table};
+use roster_desk_reports::{ReportFault, assigns_text, read_known_roster, read_report, read_roster};
+use roster_desk_tables::{changed_text, differences_text, persons_table, roster_table};
 use roster_desk_words::{limits_text, why_text};
 use roster_problem::Problem;
 use roster_report::{TextFault, write_fault};
@@ -49,6 +49,12 @@ pub enum Untold<'a> {
         /// What is wrong with the report.
         fault: ReportFault,
     },
+    /// A value of the command line is none: the sentence says which.
+    Words(&'static str),
+    /// The repaired book would have the faults that the text tells.
+    Faulty(Vec<u8>),
+    /// The repaired book wouldn't ask for what is meant.
+    Unlike,
     /// Memory ran out.
     Memory,
 }
@@ -66,7 +72,7 @@ impl<'a> From<Unknown> for Untold<'a> {
 }
 
 /// What is told of a fault of the report at the path.
-fn refused<'a>(path: &'a str, fault: ReportFault) -> Untold<'a> {
+pub(crate) fn refused<'a>(path: &'a str, fault: ReportFault) -> Untold<'a> {
     match fault {
         ReportFault::Memory => Untold::Memory,
         fault => Untold::Report { path, fault },
@@ -129,16 +135,24 @@ pub(crate) fn refuse<W: Write>(
     }
 }
 
-/// The roster that the report at the path gives of the book.
+/// The roster that the report at the path gives of the book. A difference may be one of reports of the book as
+/// it was, so it passes over pairings that the book doesn't have.
 fn given<'a>(
     alloc: Global,
+    question: Question<'a>,
     problem: &Problem,
     path: &'a str,
     text: &[u8],
 ) -> Result<Places, Untold<'a>>
     ensures { IfOk result (λ places. length places ≡ length problem.now.pairings) }
 {
-    match read_roster(alloc, problem, text) {
+    let read = match question {
+        Question::Differences { .. } | Question::Changed { .. } => {
+            read_known_roster(alloc, problem, text)
+        }
+        _ => read_roster(alloc, problem, text),
+    };
+    match read {
         Ok(places) => Ok(places),
         Err(fault) => Err(refused(path, fault)),
     }
@@ -157,7 +171,13 @@ fn text<'a>(
     let problem = &book.problem;
     match &inputs.report {
         Some(report) => {
-            let places = given(alloc, problem, report.path, report.bytes.as_slice())?;
+            let places = given(
+                alloc,
+                question,
+                problem,
+                report.path,
+                report.bytes.as_slice(),
+            )?;
             told(alloc, question, inputs, problem, places.as_slice())
         }
         None => told(alloc, question, inputs, problem, book.assigned.as_slice()),
@@ -194,10 +214,29 @@ fn told<'a>(
             Ok(chart_text(alloc, problem, places, &zones)?)
         }
         Question::Differences { other } => {
-            let after = given(alloc, problem, other, inputs.other.as_slice())?;
+            let after = given(alloc, question, problem, other, inputs.other.as_slice())?;
             Ok(differences_text(alloc, problem, places, after.as_slice())?)
         }
+        Question::Changed { other } => {
+            let after = given(alloc, question, problem, other, inputs.other.as_slice())?;
+            changed(alloc, inputs, problem, places, after.as_slice())
+        }
     }
+}
+
+/// The text that tells whose month differs between the rosters.
+fn changed<'a>(
+    alloc: Global,
+    inputs: &Inputs<'a>,
+    problem: &Problem,
+    before: &[u16],
+    after: &[u16],
+) -> Result<Vec<u8>, Untold<'a>>
+    requires before { length before.now ≡ length problem.now.pairings }
+    requires after { length after.now ≡ length problem.now.pairings }
+{
+    let zones = read_zones(alloc, inputs.book.as_slice())?;
+    Ok(changed_text(alloc, problem, before, after, &zones)?)
 }
 
 /// Writes the whole text.

@@ -6,7 +6,7 @@ use Rattle.clap.specs.ValueTests.{is_unsigned_in}
 use Rattle.clap.specs.declared.builder.action.ArgAction.TheVariants as actions
 use Rattle.clap.specs.declared.builder.value_parser.ValueParser.TheVariants as parsers
 use Rattle.clap.specs.declared.error.kind.ErrorKind.TheVariants.{OutOfMemory}
-use Rattle.roster_model.specs.declared.limits.TheConstants.{MOST_LINES, MOST_WORKERS}
+use Rattle.roster_model.specs.declared.limits.TheConstants.{MOST_LINES, MOST_UNITS, MOST_WORKERS}
 use Rattle.roster_desk_arguments.specs.declared.line.Line.{Line}
 use Rattle.roster_desk_arguments.specs.declared.line.Line.TheVariants as lines
 use Rattle.roster_desk_arguments.specs.declared.line.LineFault.{LineFault}
@@ -16,6 +16,7 @@ use Rattle.roster_desk_arguments.specs.declared.line.Page.TheVariants as pages
 use Rattle.roster_desk_arguments.specs.declared.line.PlanLine.{PlanLine}
 use Rattle.roster_desk_arguments.specs.declared.line.Question.{Question}
 use Rattle.roster_desk_arguments.specs.declared.line.Question.TheVariants as questions
+use Rattle.roster_desk_arguments.specs.declared.line.RepairLine.{RepairLine}
 use Rattle.roster_desk_arguments.specs.declared.line.TellLine.{TellLine}
 
 -- ---- the arguments
@@ -72,6 +73,15 @@ progress_rule = flag_rule (codes "progress")
 abbrev pub keep_rule : Rule
 keep_rule = named_rule (codes "keep")
 
+abbrev pub from_rule : Rule
+from_rule = record (named_rule (codes "from")) { required = true }
+
+abbrev pub change_rule : Rule
+change_rule = record (number_rule (codes "change") 0 MOST_UNITS) { defaults = codes "500" ∷ [] }
+
+abbrev pub notice_rule : Rule
+notice_rule = named_rule (codes "notice")
+
 -- ---- the commands
 
 abbrev pub bounded_plan_app : App
@@ -101,8 +111,9 @@ chart_app = with_rule (with_rule (new_app (codes "chart")) book_rule) report_rul
 abbrev pub diff_app : App
 diff_app =
     with_rule
+    (with_rule
     (with_rule (with_rule (new_app (codes "diff")) book_rule) (needed_rule (codes "report")))
-    (needed_rule (codes "other"))
+    (needed_rule (codes "other"))) persons_rule
 
 abbrev pub assigns_app : App
 assigns_app = with_rule (new_app (codes "assigns")) (needed_rule (codes "report"))
@@ -112,6 +123,14 @@ fault_app = with_rule (new_app (codes "fault")) book_rule
 
 abbrev pub warn_app : App
 warn_app = with_rule (new_app (codes "warn")) book_rule
+
+abbrev pub repair_app : App
+repair_app =
+    with_rule
+    (with_rule
+    (with_rule
+    (with_rule (with_rule (new_app (codes "repair")) book_rule) (needed_rule (codes "report"))) from_rule)
+    change_rule) notice_rule
 
 -- ---- `roster-desk`, of whose commands one has to be given
 
@@ -129,9 +148,12 @@ abbrev pub shower_app : App
 shower_app =
     with_subcommand (with_subcommand (with_subcommand planner_app table_app.top) chart_app.top) diff_app.top
 
-abbrev pub desk_app : App
-desk_app =
+abbrev pub checker_app : App
+checker_app =
     with_subcommand (with_subcommand (with_subcommand shower_app assigns_app.top) fault_app.top) warn_app.top
+
+abbrev pub desk_app : App
+desk_app = with_subcommand checker_app repair_app.top
 
 -- ---- what the words ask for
 
@@ -143,6 +165,7 @@ spelling_of_question questions.Table = codes "table"
 spelling_of_question questions.Persons = codes "table"
 spelling_of_question questions.Chart = codes "chart"
 spelling_of_question (questions.Differences other) = codes "diff"
+spelling_of_question (questions.Changed other) = codes "diff"
 
 abbrev pub spelling_of_page : Page → List ℕ
 spelling_of_page pages.Fault = codes "fault"
@@ -153,6 +176,7 @@ spelling (lines.Plan plan) = codes "plan"
 spelling (lines.Tell tell) = spelling_of_question tell.question
 spelling (lines.Assigns path) = codes "assigns"
 spelling (lines.Page page) = spelling_of_page page.page
+spelling (lines.Repair repair) = codes "repair"
 
 -- the number that a text spells
 abbrev pub number_spelled : List ℕ → ℕ
@@ -178,6 +202,14 @@ pub record IsPlanIn (rows : List Row) (plan : PlanLine) : Type 0 where
   pub told : one_of (codes "progress") rows ≡ Some (codes "true") → plan.progress ≡ true
   pub untold : one_of (codes "progress") rows ≡ Some (codes "false") → plan.progress ≡ false
 
+-- each path of the repair is the value of its own argument, and so is each text and number
+pub record IsRepairIn (rows : List Row) (repair : RepairLine) : Type 0 where
+  pub book : first_of (codes "book") rows ≡ Some repair.book.now
+  pub report : first_of (codes "report") rows ≡ Some repair.report.now
+  pub begin : first_of (codes "from") rows ≡ Some repair.from.now
+  pub change : IsNumberIn rows (codes "change") 0 MOST_UNITS 500 repair.change
+  pub notice : first_of (codes "notice") rows ≡ option_map (λ text. text.now) repair.notice
+
 -- each name of the question is the value of its own argument
 abbrev pub HasNames : List Row → Question → Type 0
 HasNames rows (questions.Why pairing person) =
@@ -188,7 +220,10 @@ HasNames rows (questions.Limits person) =
 HasNames rows questions.Table = one_of (codes "persons") rows ≢ Some (codes "true")
 HasNames rows questions.Persons = one_of (codes "persons") rows ≢ Some (codes "false")
 HasNames rows questions.Chart = ⊤
-HasNames rows (questions.Differences other) = first_of (codes "other") rows ≡ Some other.now
+HasNames rows (questions.Differences other) =
+    (first_of (codes "other") rows ≡ Some other.now) × (one_of (codes "persons") rows ≢ Some (codes "true"))
+HasNames rows (questions.Changed other) =
+    (first_of (codes "other") rows ≡ Some other.now) × (one_of (codes "persons") rows ≢ Some (codes "false"))
 
 -- and so is each path
 pub record IsTellIn (rows : List Row) (tell : TellLine) : Type 0 where
@@ -202,6 +237,7 @@ AsksIn rows (lines.Plan plan) = IsPlanIn rows plan
 AsksIn rows (lines.Tell tell) = IsTellIn rows tell
 AsksIn rows (lines.Assigns path) = first_of (codes "report") rows ≡ Some path.now
 AsksIn rows (lines.Page page) = first_of (codes "book") rows ≡ Some page.book.now
+AsksIn rows (lines.Repair repair) = IsRepairIn rows repair
 
 -- the words name the command of the line, and the line is what they say
 pub record Asks (words : List (List ℕ)) (line : Line) : Type 0 where

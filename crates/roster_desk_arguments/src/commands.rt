@@ -9,10 +9,11 @@ ghost use Rattle.roster_desk_arguments.specs.Line.{effort_rule, fault_app, keep_
 ghost use Rattle.roster_desk_arguments.specs.Line.{pairing_rule, person_rule, persons_rule, plan_app};
 ghost use Rattle.roster_desk_arguments.specs.Line.{planner_app, progress_rule, report_rule, sets_rule};
 ghost use Rattle.roster_desk_arguments.specs.Line.{shower_app, start_rule, table_app, warn_app, why_app};
+ghost use Rattle.roster_desk_arguments.specs.Line.{change_rule, checker_app, from_rule, notice_rule, repair_app};
 ghost use Rattle.roster_desk_arguments.specs.Line.{workers_rule};
 
 use clap::{Arg, ArgAction, Command, builder};
-use roster_model::limits::{MOST_LINES, MOST_WORKERS};
+use roster_model::limits::{MOST_LINES, MOST_UNITS, MOST_WORKERS};
 use std::alloc::{AllocError, Global};
 
 /// The book, which most commands have.
@@ -150,6 +151,55 @@ fn persons<'a>(alloc: Global) -> Arg<'a>
         .help("A row for each person, with sums")
 }
 
+/// Whether a line is told of each person whose month differs.
+fn changed<'a>(alloc: Global) -> Arg<'a>
+    ensures rule { rule_of result ≡ persons_rule }
+    ensures local { result.global ≡ false }
+{
+    Arg::new(alloc, "persons")
+        .long("persons")
+        .action(ArgAction::SetTrue)
+        .help("Only whose month differs, and on which days")
+}
+
+/// When a repair begins.
+fn from<'a>(alloc: Global) -> Arg<'a>
+    ensures rule { rule_of result ≡ from_rule }
+    ensures local { result.global ≡ false }
+{
+    Arg::new(alloc, "from")
+        .long("from")
+        .value_name("INSTANT")
+        .required(true)
+        .help("An instant in UTC, as 2024-06-12T06:00Z: what reports before it stays")
+}
+
+/// What it costs that a pairing moves.
+fn change<'a>(alloc: Global) -> Arg<'a>
+    ensures rule { rule_of result ≡ change_rule }
+    ensures local { result.global ≡ false }
+{
+    Arg::new(alloc, "change")
+        .long("change")
+        .value_name("UNITS")
+        .value_parser(builder::ValueParser::unsigned(0, MOST_UNITS.into()))
+        .default_value("500")
+        .help("What it costs that a pairing moves from who has it, in cost units")
+}
+
+/// What short notice is, and what it costs.
+fn notice<'a>(alloc: Global) -> Arg<'a>
+    ensures rule { rule_of result ≡ notice_rule }
+    ensures local { result.global ≡ false }
+{
+    Arg::new(alloc, "notice")
+        .long("notice")
+        .value_name("TIME:UNITS")
+        .help(
+            "What it costs instead if the pairing reports within this time, as 2d:2000 or 36h:2000",
+        )
+}
+
 /// A command without arguments so far, and with examples of it.
 fn command<'a>(alloc: Global, name: &'a str, about: &'a str, examples: &'a str) -> Command<'a>
     ensures app { app_of result ≡ new_app name.entry.now }
@@ -268,7 +318,7 @@ fn chart<'a>(alloc: Global) -> Result<Command<'a>, AllocError>
     with(chart, report(alloc))
 }
 
-/// `diff`, with its book and its two reports.
+/// `diff`, with its book and its two reports, and what its lines tell.
 fn diff<'a>(alloc: Global) -> Result<Command<'a>, AllocError>
     ensures app { IfOk result (λ c. app_of c ≡ diff_app) }
     ensures local { IfOk result (λ c. (views.out-Command c).has_globals ≡ false) }
@@ -278,11 +328,13 @@ fn diff<'a>(alloc: Global) -> Result<Command<'a>, AllocError>
         "diff",
         "Tells which pairings move from one roster to another, and what that changes",
         "Examples:
-  roster-desk diff book.csv plan.txt better.txt",
+  roster-desk diff book.csv plan.txt better.txt
+  roster-desk diff --persons book.csv plan.txt better.txt",
     );
     let diff = with(diff, book(alloc))?;
     let diff = with(diff, needed(alloc, "report"))?;
-    with(diff, needed(alloc, "other"))
+    let diff = with(diff, needed(alloc, "other"))?;
+    with(diff, changed(alloc))
 }
 
 /// `assigns`, with its report.
@@ -330,6 +382,26 @@ fn warn<'a>(alloc: Global) -> Result<Command<'a>, AllocError>
     with(warn, book(alloc))
 }
 
+/// `repair`, with its book and report, when it begins, and what moves cost.
+fn repair<'a>(alloc: Global) -> Result<Command<'a>, AllocError>
+    ensures app { IfOk result (λ c. app_of c ≡ repair_app) }
+    ensures local { IfOk result (λ c. (views.out-Command c).has_globals ≡ false) }
+{
+    let repair = command(
+        alloc,
+        "repair",
+        "Writes the book of a month's rest: what was flown is fixed, and moves cost something",
+        "Examples:
+  roster-desk repair --from 2024-06-12T06:00Z book.csv plan.txt > rest.csv
+  roster-desk repair --from 2024-06-12T06:00Z --change 800 --notice 2d:2000 book.csv plan.txt",
+    );
+    let repair = with(repair, book(alloc))?;
+    let repair = with(repair, needed(alloc, "report"))?;
+    let repair = with(repair, from(alloc))?;
+    let repair = with(repair, change(alloc))?;
+    with(repair, notice(alloc))
+}
+
 /// The command line with one command more.
 fn with_command<'a>(line: Command<'a>, command: Command<'a>) -> Result<Command<'a>, AllocError>
     requires line { (views.out-Command line).has_globals ≡ false }
@@ -364,12 +436,20 @@ fn shower<'a>(alloc: Global) -> Result<Command<'a>, AllocError>
     with_command(line, diff(alloc)?)
 }
 
-/// The program's command line.
-pub(crate) fn desk<'a>(alloc: Global) -> Result<Command<'a>, AllocError>
-    ensures app { IfOk result (λ c. app_of c ≡ desk_app) }
+/// That with the commands that tell of records.
+fn checker<'a>(alloc: Global) -> Result<Command<'a>, AllocError>
+    ensures app { IfOk result (λ c. app_of c ≡ checker_app) }
     ensures local { IfOk result (λ c. (views.out-Command c).has_globals ≡ false) }
 {
     let line = with_command(shower(alloc)?, assigns(alloc)?)?;
     let line = with_command(line, fault(alloc)?)?;
     with_command(line, warn(alloc)?)
+}
+
+/// The program's command line.
+pub(crate) fn desk<'a>(alloc: Global) -> Result<Command<'a>, AllocError>
+    ensures app { IfOk result (λ c. app_of c ≡ desk_app) }
+    ensures local { IfOk result (λ c. (views.out-Command c).has_globals ≡ false) }
+{
+    with_command(checker(alloc)?, repair(alloc)?)
 }

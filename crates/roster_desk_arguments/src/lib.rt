@@ -7,4 +7,6 @@
 mod commands;
 mod line;
 
-pub use line::{Line, LineFault, Page, PageLine, PlanLine, Question, TellLine, read_line};
+pub use line::{
+    Line, LineFault, Page, PageLine, PlanLine, Question, RepairLine, TellLine, read_line,
+};

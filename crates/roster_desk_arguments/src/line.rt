@@ -12,11 +12,14 @@ ghost use Rattle.roster_desk_arguments.specs.Line.{NamesMemory, TellsKind};
 use crate::commands::desk;
 use clap::ArgMatches;
 use clap::error::ErrorKind;
-use roster_model::limits::MOST_WORKERS;
+use roster_model::limits::{MOST_UNITS, MOST_WORKERS};
 use std::alloc::{AllocError, Global};
 
 /// How much is tried if nothing is said of it.
 const USUAL_EFFORT: u32 = 5;
+
+/// What it costs that a pairing moves if nothing is said of it, in cost units.
+const USUAL_CHANGE: usize = 500;
 
 /// What the words ask for.
 #[derive(Drop)]
@@ -29,6 +32,8 @@ pub enum Line<'a> {
     Assigns(&'a str),
     /// What is told of the records of a book.
     Page(PageLine<'a>),
+    /// A repair of a book.
+    Repair(RepairLine<'a>),
 }
 
 /// A plan of a book.
@@ -87,6 +92,11 @@ pub enum Question<'a> {
         /// The path of the report that gives the other roster, or `-`.
         other: &'a str,
     },
+    /// Whose month differs in another roster, and on which days.
+    Changed {
+        /// The path of the report that gives the other roster, or `-`.
+        other: &'a str,
+    },
 }
 
 /// What is to be told of the records of a book.
@@ -105,6 +115,21 @@ pub struct PageLine<'a> {
     pub book: &'a str,
     /// What is to be told.
     pub page: Page,
+}
+
+/// A repair of a book.
+#[derive(Clone, Copy)]
+pub struct RepairLine<'a> {
+    /// The path of the book, or `-`.
+    pub book: &'a str,
+    /// The path of the report that was published, or `-`.
+    pub report: &'a str,
+    /// The text of the instant at which the repair begins.
+    pub from: &'a str,
+    /// What it costs that a pairing moves, from 0 to `MOST_UNITS` cost units.
+    pub change: usize,
+    /// The text of what short notice is and what it costs, if one is given.
+    pub notice: Option<&'a str>,
 }
 
 /// Why the words ask for nothing.
@@ -166,6 +191,7 @@ fn asked<'a>(matches: &ArgMatches<'a>) -> Option<Line<'a>>
         "assigns" => assigns(found),
         "fault" => of_records(found, Page::Fault),
         "warn" => of_records(found, Page::Warn),
+        "repair" => repaired(found),
         _ => None,
     }
 }
@@ -260,7 +286,20 @@ fn differences<'a>(found: &ArgMatches<'a>) -> Option<Line<'a>>
     ensures asks { IfSome result (AsksIn (rows_of (found_of found.now))) }
 {
     let other = value(found, "other")?;
-    told(found, Question::Differences { other })
+    told(found, question_of_other(found, other))
+}
+
+/// What the lines of `diff` in the matches tell of the other roster.
+fn question_of_other<'a>(found: &ArgMatches<'a>, other: &'a str) -> Question<'a>
+    requires { first_of (codes "other") (rows_of (found_of found.now)) ≡ Some other.now }
+    ensures named { spelling_of_question result ≡ codes "diff" }
+    ensures asks { HasNames (rows_of (found_of found.now)) result }
+{
+    if flag(found, "persons") {
+        Question::Changed { other }
+    } else {
+        Question::Differences { other }
+    }
 }
 
 /// What the rows of the table in the matches are.
@@ -306,6 +345,32 @@ fn of_records<'a>(found: &ArgMatches<'a>, page: Page) -> Option<Line<'a>>
 {
     let book = value(found, "book")?;
     Some(Line::Page(PageLine { book, page }))
+}
+
+/// What it costs that a pairing moves, by the matches.
+fn change(found: &ArgMatches<'_>) -> usize
+    ensures { IsNumberIn (rows_of (found_of found.now)) (codes "change") 0 MOST_UNITS USUAL_CHANGE result }
+{
+    number(found, "change").unwrap_or(USUAL_CHANGE)
+}
+
+/// The repair in the matches.
+fn repaired<'a>(found: &ArgMatches<'a>) -> Option<Line<'a>>
+    ensures named { IfSome result (λ line. spelling line ≡ codes "repair") }
+    ensures asks { IfSome result (AsksIn (rows_of (found_of found.now))) }
+{
+    let book = value(found, "book")?;
+    let report = value(found, "report")?;
+    let from = value(found, "from")?;
+    let change = change(found);
+    let notice = value(found, "notice");
+    Some(Line::Repair(RepairLine {
+        book,
+        report,
+        from,
+        change,
+        notice,
+    }))
 }
 
 /// clap's want of memory by its own name.

@@ -9,9 +9,9 @@ use Rattle.roster_model.specs.Rosters.{Key}
 use Rattle.roster_model.specs.Settled.{IsHeld, IsLowerBound}
 use Rattle.roster_model.specs.Texts.{fault_text, IsPlanOf, IsReportOf}
 use Rattle.roster_plan.specs.declared.known.Planned.{Planned}
-use Rattle.roster_desk_reports.specs.Faults.{Told, fault_of_report}
+use Rattle.roster_desk_reports.specs.Faults.{Told}
 use Rattle.roster_desk_reports.specs.Given.{HasAll, IsGiven}
-use Rattle.roster_desk_reports.specs.Text.{given_by_text}
+use Rattle.roster_desk_reports.specs.Known.{fault_of_known, known_by_text}
 use Rattle.roster_desk_given.specs.declared.status.Status.{Status}
 use Rattle.roster_desk_given.specs.declared.status.Status.TheVariants as statuses
 
@@ -36,14 +36,15 @@ IsKnownText problem text = IsPlanSoFar problem text ⊎ IsBestReport problem tex
 
 -- ---- where a plan begins
 
--- nothing is wrong with the report as one of the book, and the roster has what it gives, and nothing else
+-- nothing is wrong with the report as one of the book as it may have been, and the roster has what it gives of
+-- the book's pairings, and nothing else
 pub record IsRosterOf (problem : Problem) (report places : List ℕ) : Type 0 where
-  pub faultless : fault_of_report problem report ≡ None
+  pub faultless : fault_of_known problem report ≡ None
   pub covers : length places ≡ length problem.pairings
   pub numbers : All (λ x. x ≤ length problem.persons) places
-  pub has : HasAll problem places (given_by_text report)
+  pub has : HasAll problem places (known_by_text problem report)
   pub only : (p k : ℕ) → k < length problem.persons → slice_get places p ≡ Some k
-      → IsGiven problem (given_by_text report) p k
+      → IsGiven problem (known_by_text problem report) p k
 
 -- the text is that of a plan which begins with the assignments, or with the roster of the report if there is one
 abbrev pub IsPlanFrom : Option (List ℕ) → Problem → List ℕ → List ℕ → Type 0
@@ -90,7 +91,7 @@ IsRefusedFor told _ = ⊥
 -- there is a report, and it is refused for what is wrong with it as one of the book
 abbrev pub RefusesStart : Problem → Option (List ℕ) → Status → Type 0
 RefusesStart problem None status = ⊥
-RefusesStart problem (Some report) status = IsRefusedFor (fault_of_report problem report) status
+RefusesStart problem (Some report) status = IsRefusedFor (fault_of_known problem report) status
 
 -- so it is, and the book has no fault
 pub record IsStartFault (report : Option (List ℕ)) (status : Status) (book : List Record) : Type 0 where

@@ -15,7 +15,7 @@ ghost use Rattle.roster_desk_run.specs.Run.{IsStartFault, IsStartRefused, IsText
 
 use roster_book::{Book, BookFault, Command, Watched, read_book};
 use roster_desk_given::Status;
-use roster_desk_reports::{ReportFault, read_roster};
+use roster_desk_reports::{ReportFault, read_known_roster};
 use roster_plan::{Means, Planned, Watcher, plan};
 use roster_problem::Problem;
 use roster_report::{TextFault, write_fault, write_plan, write_report};
@@ -135,7 +135,7 @@ fn answer<T: Threads + Sync, W: Write, P: Watcher>(
         let start = book.assigned.as_slice();
         return answer_from(rt, alloc, means, problem, start, writer, watcher);
     };
-    match read_roster(alloc, problem, report) {
+    match read_known_roster(alloc, problem, report) {
         Ok(start) => answer_from(rt, alloc, means, problem, start.as_slice(), writer, watcher),
         Err(ReportFault::At { line, wrong }) => Status::StartRefused { line, wrong },
         Err(ReportFault::Memory) => Status::Memory,

@@ -1,0 +1,215 @@
+//! The book of a repair, and what standard error is told of it.
+
+ghost use Rattle.std.specs.Prelude.{◌≡◌, false};
+ghost use Rattle.roster_watched.specs.Watch.{has_failed};
+
+use crate::telling::{Untold, refuse, refused, write};
+use roster_book::{Book, BookFault, Command, read_book};
+use roster_desk_arguments::RepairLine;
+use roster_desk_fault::fault_text;
+use roster_desk_given::Status;
+use roster_desk_repair::{RepairedBook, Unrepaired, repair};
+use roster_desk_repair_judged::Terms;
+use roster_desk_reports::{pairing_named, read_known_roster, read_report};
+use roster_desk_words::push_all;
+use roster_instants::read_minute;
+use roster_legal::locked;
+use roster_model::limits::MOST_UNITS;
+use roster_problem::Problem;
+use roster_watched::Watched;
+use std::alloc::{AllocError, Global};
+use std::io::Write;
+
+/// What is said of an instant that is none.
+const NO_INSTANT: &str = "--from wants an instant in UTC, as 2024-06-12T06:00Z";
+
+/// What is said of a notice that is none.
+const NO_NOTICE: &str = "--notice wants a time and cost units, as 2d:2000, 36h:2000 or 90m:2000";
+
+/// A book was written, or not, and what standard error is told.
+#[derive(Drop)]
+pub struct Mended {
+    /// What has come of it.
+    pub status: Status,
+    /// What is told.
+    pub notes: Vec<u8>,
+}
+
+/// The number that the digits spell, so many times.
+fn number_of(digits: &str, times: u32) -> Option<u32> {
+    match digits.parse::<u32>() {
+        Ok(number) => number.checked_mul(times),
+        Err(_) => None,
+    }
+}
+
+/// The minutes of a time, as `2d`, `36h` or `90m`.
+fn minutes_in(text: &str) -> Option<u32> {
+    if let Some(days) = text.strip_suffix('d') {
+        return number_of(days, 1440);
+    }
+    if let Some(hours) = text.strip_suffix('h') {
+        return number_of(hours, 60);
+    }
+    number_of(text.strip_suffix('m')?, 1)
+}
+
+/// The minutes and the cost units of a notice, as `2d:2000`.
+fn notice_in(text: &str) -> Option<(u32, u32)> {
+    let (time, units) = text.split_once(':')?;
+    let minutes = minutes_in(time)?;
+    let units = number_of(units, 1)?;
+    if units > MOST_UNITS {
+        return None;
+    }
+    Some((minutes, units))
+}
+
+/// What the line says of the repair.
+fn terms_of<'a>(line: &RepairLine<'a>) -> Result<Terms, Untold<'a>> {
+    let Some(from) = read_minute(line.from.as_bytes()) else {
+        return Err(Untold::Words(NO_INSTANT));
+    };
+    let change = u32::try_from(line.change).unwrap_or(MOST_UNITS);
+    let (notice, short) = match line.notice {
+        None => (0, change),
+        Some(text) => match notice_in(text) {
+            Some(notice) => notice,
+            None => return Err(Untold::Words(NO_NOTICE)),
+        },
+    };
+    Ok(Terms {
+        from,
+        notice,
+        short,
+        change,
+    })
+}
+
+/// Appends a line for each pairing of the report that the book doesn't have.
+fn push_unknown(
+    alloc: Global,
+    notes: &mut Vec<u8>,
+    book: &Problem,
+    report: &[u8],
+) -> Result<(), AllocError> {
+    let Ok(report) = read_report(alloc, report) else {
+        return Ok(());
+    };
+    for crew in report.crew.iter() {
+        for name in crew.pairings.iter() {
+            if pairing_named(book, name.as_bytes()).is_none() {
+                let person = crew.person.as_bytes();
+                let name = name.as_bytes();
+                push_all(notes, &[b"not in the book: ", name, b" of ", person, b"\n"])?;
+            }
+        }
+    }
+    Ok(())
+}
+
+/// Appends a line for each person who is locked by what is fixed.
+fn push_locked(alloc: Global, notes: &mut Vec<u8>, problem: &Problem) -> Result<(), AllocError> {
+    for k in 0..problem.persons().len() {
+        if let Some(rule) = locked(alloc, problem, k)? {
+            let name = problem.person(k).id.as_bytes();
+            let word = rule.word().as_bytes();
+            push_all(notes, &[b"locked: ", name, b" by ", word, b"\n"])?;
+        }
+    }
+    Ok(())
+}
+
+/// How many of the pairings are fixed with a number of a person, and how many open.
+fn counts(fixed: &[Option<u16>], nobody: usize) -> (usize, usize) {
+    let (mut flown, mut open) = (0usize, 0usize);
+    for number in fixed {
+        match number {
+            Some(number) if usize::from(*number) < nobody => flown = flown.saturating_add(1),
+            Some(_) => open = open.saturating_add(1),
+            None => {}
+        }
+    }
+    (flown, open)
+}
+
+/// What standard error is told of a repair.
+fn notes_of(
+    alloc: Global,
+    book: &Problem,
+    report: &[u8],
+    made: &RepairedBook,
+) -> Result<Vec<u8>, AllocError> {
+    let mut notes = Vec::new(alloc);
+    push_unknown(alloc, &mut notes, book, report)?;
+    push_locked(alloc, &mut notes, &made.problem)?;
+    let (flown, open) = counts(&made.fixed, book.persons().len());
+    let (flown, open) = (flown.to_string(alloc)?, open.to_string(alloc)?);
+    push_all(
+        &mut notes,
+        &[
+            b"fixed: ",
+            flown.as_bytes(),
+            b" pairings, and ",
+            open.as_bytes(),
+            b" that stay open\n",
+        ],
+    )?;
+    let constant = made.constant.to_string(alloc)?;
+    push_all(
+        &mut notes,
+        &[
+            b"a roster's cost in the book is its COST here + ",
+            constant.as_bytes(),
+            b" - what its moves cost\n",
+        ],
+    )?;
+    Ok(notes)
+}
+
+/// The repair of a book that was read, of the report at the path.
+fn repaired<'a>(
+    alloc: Global,
+    line: &RepairLine<'a>,
+    terms: &Terms,
+    text: &[u8],
+    book: &Book,
+    report: &[u8],
+) -> Result<RepairedBook, Untold<'a>> {
+    let published = match read_known_roster(alloc, &book.problem, report) {
+        Ok(published) => published,
+        Err(fault) => return Err(refused(line.report, fault)),
+    };
+    match repair(alloc, text, &book.problem, published.as_slice(), terms) {
+        Ok(made) => Ok(made),
+        Err(Unrepaired::At { text, .. }) => Err(Untold::Faulty(fault_text(alloc, &text)?)),
+        Err(Unrepaired::Other) => Err(Untold::Unlike),
+        Err(Unrepaired::Memory) => Err(Untold::Memory),
+    }
+}
+
+/// Writes the book that repairs the one among the inputs, or the line of the book's first fault.
+pub fn mend<'a, W: Write>(
+    alloc: Global,
+    line: &RepairLine<'a>,
+    text: &[u8],
+    report: &[u8],
+    writer: &mut Watched<W>,
+) -> Result<Mended, Untold<'a>>
+    requires { has_failed writer.old ≡ false }
+{
+    let terms = terms_of(line)?;
+    let mut notes = Vec::new(alloc);
+    let mut reader = Watched::new(text);
+    let status = match read_book(alloc, &mut reader, Command::Check) {
+        Ok(book) => {
+            let made = repaired(alloc, line, &terms, text, &book, report)?;
+            notes = notes_of(alloc, &book.problem, report, &made)?;
+            write(made.text.as_slice(), writer)
+        }
+        Err(BookFault::At { row, code }) => refuse(alloc, row, code, writer),
+        Err(BookFault::Device) => Status::ReadFailed,
+        Err(BookFault::Memory) => Status::Memory,
+    };
+    Ok(Mended { status, notes })
+}

@@ -1,0 +1,235 @@
+"""Repairs of made-up months that were disrupted, for tests/desk.
+
+A month is made and published as `solve` rosters it. Then a person falls ill, a pairing is cancelled, another comes
+and another gets new times. `repair` writes the book of the rest. Its best roster, with what was fixed, has to be legal
+in the book by `roster check`; what it costs there has to be what `repair` tells; and at a change that outweighs all
+else it moves as few pairings as any legal roster, which another book tells that has nothing but these costs.
+"""
+
+import random
+import re
+import subprocess
+import sys
+from datetime import datetime, timedelta
+
+FORM = "%Y-%m-%dT%H:%MZ"
+# What outweighs all else in a made-up month.
+MOST = 100_000_000
+SIZES = ("1,6,12", "1,8,14", "2,8,18", "1,5,9")
+
+
+def at(text):
+    return datetime.strptime(text, FORM)
+
+
+def text(instant):
+    return instant.strftime(FORM)
+
+
+def rows_of(book):
+    return [line.split(",") if '"' not in line else [line] for line in book.decode().splitlines()]
+
+
+def book_of(rows):
+    return "".join(",".join(row) + "\n" for row in rows).encode()
+
+
+def given_by(report):
+    """Who has which pairing by a report."""
+    given = {}
+    for line in report.decode().splitlines():
+        words = line.split()
+        if words[0] == "CREW":
+            given.update((name, words[1]) for name in words[7:] if name != "-")
+    return given
+
+
+def duties_of(rows):
+    """The duties of each pairing, as pairs of instants."""
+    duties = {}
+    for row in rows:
+        if row[0] == "duty" and row[2] == "P":
+            duties.setdefault(row[3], []).append((at(row[5]), at(row[6])))
+    return duties
+
+
+def without(rows, pairing):
+    """The book without a pairing."""
+    gone = {row[1] for row in rows if row[0] == "duty" and row[2] == "P" and row[3] == pairing}
+    kept = []
+    for row in rows:
+        names = {"pairing": row[1:2], "duty": row[3:4] if row[2:3] == ["P"] else [], "cost": row[2:3]}
+        if pairing in names.get(row[0], []) or row[0] == "sector" and row[1] in gone:
+            continue
+        kept.append(row)
+    return kept
+
+
+def moved(rows, pairing, name, by):
+    """The records of a pairing under another name, with times that are so much later."""
+    duties = {row[1]: row[1] if name == pairing else f"{name}-{i}" for i, row in enumerate(rows) if row[0] == "duty" and row[2] == "P" and row[3] == pairing}
+    out = []
+    for row in rows:
+        if row[0] == "pairing" and row[1] == pairing:
+            out.append([row[0], name, *row[2:]])
+        elif row[0] == "duty" and row[1] in duties:
+            out.append([row[0], duties[row[1]], "P", name, row[4], text(at(row[5]) + by), text(at(row[6]) + by)])
+        elif row[0] == "sector" and row[1] in duties:
+            out.append([row[0], duties[row[1]], row[2], text(at(row[3]) + by), text(at(row[4]) + by)])
+    return out
+
+
+def ill(rows, published, start, draw):
+    """The book in which somebody falls ill once they are back, if they have nothing else then."""
+    persons = [row[1] for row in rows if row[0] == "crew"]
+    person = draw.choice(persons)
+    begun = [duty for name, duties in duties_of(rows).items() if published.get(name) == person and duties[0][0] < start for duty in duties]
+    first = max([start, *(release for _, release in begun)])
+    last = first + timedelta(days=draw.randint(1, 4))
+    busy = [(row[-2], row[-1]) for row in rows if row[0] == "leave" and row[1] == person]
+    busy += [(row[5], row[6]) for row in rows if row[0] == "duty" and row[2] == "C" and row[3] == person]
+    if any(at(begin) < last and first < at(end) for begin, end in busy):
+        return rows
+    return [*rows, ["leave", person, text(first), text(last)]]
+
+
+def disrupted(rows, published, start, draw):
+    """The book with what has changed from the instant on."""
+    rows = [row for row in rows if row[0] != "assign"]
+    later = [name for name, duties in duties_of(rows).items() if duties[0][0] >= start]
+    draw.shuffle(later)
+    rows = ill(rows, published, start, draw)
+    if later and draw.random() < 0.5:
+        rows = without(rows, later.pop())
+    if later and draw.random() < 0.5:
+        rows = rows + moved(rows, draw.choice(later), "NEW", timedelta(minutes=draw.randint(0, 240)))
+    if later and draw.random() < 0.5:
+        name = draw.choice(later)
+        by = timedelta(minutes=draw.randint(1, 180))
+        costs = [row for row in rows if row[0] == "cost" and row[2] == name]
+        rows = without(rows, name) + moved(rows, name, name, by) + costs
+    return rows
+
+
+def only_moves(rest, published):
+    """The book of the rest with no cost but one unit for each pairing that its owner keeps."""
+    rows = []
+    names = set()
+    for row in rows_of(rest):
+        if row[0] == "pairing":
+            names.add(row[1])
+            row = [*row[:3], "0"]
+        if row[0] not in ("cost", "weight"):
+            rows.append(row)
+    owned = [(name, person) for name, person in published.items() if name in names]
+    return book_of(rows + [["cost", person, name, "-1"] for name, person in owned]), len(owned)
+
+
+def cost_in(answer):
+    return int(answer.split(b"COST ")[1].split()[0])
+
+
+def one_repair(tests, run, roster, desk, folder, size, seed):
+    """A month, what became of it, and its repair."""
+    name = f"repair of month {size} {seed}"
+    draw = random.Random(seed)
+    made = subprocess.run([sys.executable, f"{folder}/bench/month", size, str(seed)], capture_output=True, check=True)
+    report = run(roster, "solve", book=made.stdout)
+    if report.returncode != 0:
+        return tests.told(name, "the month has no roster")
+    published = given_by(report.stdout)
+    rows = rows_of(made.stdout)
+    begins = sorted(duties[0][0] for duties in duties_of(rows).values())
+    start = begins[draw.randrange(len(begins))] + timedelta(minutes=draw.randint(-60, 60))
+    book = book_of(disrupted(rows, published, start, draw))
+    # New times may lie beyond the month, where no pairing begins.
+    while run(roster, "check", book=book).returncode != 0:
+        book = book_of(disrupted(rows, published, start, draw))
+    paths = [f"{tests.folder}/{word}-{size}-{seed}" for word in ("book.csv", "published.txt", "new.txt", "rest.csv")]
+    for path, content in zip(paths, (book, report.stdout)):
+        with open(path, "wb") as file:
+            file.write(content)
+    change = draw.choice((0, 500, MOST))
+    asked = ["--from", text(start), "--change", str(change)]
+    repaired = run(desk, "repair", *asked, paths[0], paths[1])
+    if repaired.returncode != 0:
+        return tests.told(name, f"status {repaired.returncode}: {repaired.stderr.decode()}")
+    rest = run(roster, "solve", book=repaired.stdout)
+    if rest.returncode != 0:
+        return tests.told(name, f"solve: {rest.stdout.decode()}")
+    tests.told(name, *wrongs(run, roster, desk, paths, book, published, start, change, repaired, rest))
+
+
+def wrongs(run, roster, desk, paths, book, published, start, change, repaired, rest):
+    """What is wrong with a repair and its best roster."""
+    for path, content in zip(paths[2:], (rest.stdout, repaired.stdout)):
+        with open(path, "wb") as file:
+            file.write(content)
+    rows = rows_of(book)
+    duties = duties_of(rows)
+    fixed = {name: published[name] for name, times in duties.items() if times[0][0] < start and name in published}
+    anew = given_by(rest.stdout)
+    if any(duties[name][0][0] < start for name in anew):
+        yield "a pairing that had begun moves"
+    whole = {**anew, **fixed}
+    assigns = "".join(f"assign,{name},{person}\n" for name, person in whole.items()).encode()
+    check = run(roster, "check", book=book + assigns)
+    if check.returncode != 0:
+        yield f"check: {check.stdout.decode()}"
+        return
+    if any(line.startswith(b"CREW") and not line.endswith(b" OK") for line in check.stdout.splitlines()):
+        yield "a roster that isn't legal"
+    moves = [name for name, person in published.items() if name in duties and name not in fixed and anew.get(name) != person]
+    told = int(re.search(rb"COST here \+ (-?\d+)", repaired.stderr)[1])
+    if cost_in(check.stdout) != cost_in(rest.stdout) + told - change * len(moves):
+        yield "another cost"
+    differs = run(desk, "diff", "--persons", paths[3], paths[1], paths[2])
+    if differs.returncode != 0 or not differs.stdout.endswith(b" persons change\n"):
+        yield f"no difference: {differs.stderr.decode()}"
+    if change == MOST:
+        other, owned = only_moves(repaired.stdout, published)
+        least = owned + cost_in(run(roster, "solve", book=other).stdout)
+        if len(moves) != least:
+            yield f"{len(moves)} moves, {least} are enough"
+
+
+def two_bases(tests, run, roster, desk, folder):
+    """The month of two bases from 10 March on: L1 of ANA, L2 of BRUNO and K1 of KARI have begun."""
+    book, report = (f"{folder}/examples/month-of-two-bases.{end}" for end in ("csv", "txt"))
+    made = run(desk, "repair", "--from", "2024-03-10T00:00Z", "--notice", "36h:80", book, report)
+    rows = made.stdout.decode().splitlines()
+    # L3 reports on 12 March, 54 hours later, K2 and K3 later still. BRUNO saves 50 with L2, and K1 costs 40 with
+    # KARI, so the four that have an owner and are left make 2000 - 10.
+    costs = ["cost,ANA,L4,150", "cost,ANA,L3,-500", "cost,BRUNO,L4,-500", "cost,LARS,K2,-500", "cost,KARI,K3,-500"]
+    tests.told(
+        "the rest of the month of two bases",
+        made.returncode != 0 and f"status {made.returncode}",
+        [row for row in rows if row.startswith("cost,")] != costs and "other costs",
+        [row for row in rows if row.startswith("pairing,")] != ["pairing,L3,LIS,800", "pairing,L4,LIS,400", "pairing,K2,OSL,600", "pairing,K3,OSL,500"] and "other pairings",
+        "duty,L1-B,C,ANA,MAD,2024-03-05T08:00Z,2024-03-05T14:00Z" not in rows and "L1 isn't fixed",
+        made.stderr != b"fixed: 3 pairings, and 0 that stay open\na roster's cost in the book is its COST here + 1990 - what its moves cost\n" and f"told {made.stderr}",
+    )
+    # At 48 hours more L3 is within the notice.
+    soon = run(desk, "repair", "--from", "2024-03-10T00:00Z", "--notice", "3d:80", book, report)
+    tests.told("a move at short notice", b"cost,ANA,L3,-80\n" not in soon.stdout and "another cost", b" + 1570 - " not in soon.stderr and "another constant")
+    # ANA is under way with L1 on the 5th, until 14:00.
+    with open(book, "rb") as file:
+        text = file.read()
+    for name, leave, status in (("under way", "2024-03-05T13:59Z", 1), ("back", "2024-03-05T14:00Z", 0)):
+        ended = run(desk, "repair", "--from", "2024-03-05T00:00Z", "-", report, book=text + f"leave,ANA,{leave},2024-03-07T00:00Z\n".encode())
+        tests.told(
+            f"leave of who is {name}",
+            ended.returncode != status and f"status {ended.returncode}",
+            (status and ended.stdout) and "standard output",
+            (status and b" 13\n" not in ended.stderr) and f"told {ended.stderr}",
+        )
+    # A pairing of the report that the book doesn't have is told.
+    gone = b"\n".join(line for line in text.splitlines() if b",K3" not in line) + b"\n"
+    told = run(desk, "repair", "--from", "2024-03-10T00:00Z", "-", report, book=gone)
+    tests.told("a pairing that the book lacks", not told.stderr.startswith(b"not in the book: K3 of KARI\n") and f"told {told.stderr}")
+
+
+def repairs(tests, run, roster, desk, folder, first, count):
+    """So many repairs, from this seed on."""
+    for seed in range(first, first + count):
+        one_repair(tests, run, roster, desk, folder, SIZES[seed % len(SIZES)], seed)
