@@ -124,13 +124,13 @@ fault_app = with_rule (new_app (codes "fault")) book_rule
 abbrev pub warn_app : App
 warn_app = with_rule (new_app (codes "warn")) book_rule
 
-abbrev pub repair_app : App
-repair_app =
+abbrev pub begun_repair_app : App
+begun_repair_app =
     with_rule
-    (with_rule
-    (with_rule
-    (with_rule (with_rule (new_app (codes "repair")) book_rule) (needed_rule (codes "report"))) from_rule)
-    change_rule) notice_rule
+    (with_rule (with_rule (new_app (codes "repair")) book_rule) (needed_rule (codes "report"))) from_rule
+
+abbrev pub repair_app : App
+repair_app = with_rule (with_rule begun_repair_app change_rule) notice_rule
 
 -- ---- `roster-desk`, of whose commands one has to be given
 

@@ -10,7 +10,7 @@ ghost use Rattle.roster_desk_arguments.specs.Line.{pairing_rule, person_rule, pe
 ghost use Rattle.roster_desk_arguments.specs.Line.{planner_app, progress_rule, report_rule, sets_rule};
 ghost use Rattle.roster_desk_arguments.specs.Line.{shower_app, start_rule, table_app, warn_app, why_app};
 ghost use Rattle.roster_desk_arguments.specs.Line.{change_rule, checker_app, from_rule, notice_rule, repair_app};
-ghost use Rattle.roster_desk_arguments.specs.Line.{workers_rule};
+ghost use Rattle.roster_desk_arguments.specs.Line.{begun_repair_app, workers_rule};
 
 use clap::{Arg, ArgAction, Command, builder};
 use roster_model::limits::{MOST_LINES, MOST_UNITS, MOST_WORKERS};
@@ -382,9 +382,9 @@ fn warn<'a>(alloc: Global) -> Result<Command<'a>, AllocError>
     with(warn, book(alloc))
 }
 
-/// `repair`, with its book and report, when it begins, and what moves cost.
-fn repair<'a>(alloc: Global) -> Result<Command<'a>, AllocError>
-    ensures app { IfOk result (λ c. app_of c ≡ repair_app) }
+/// `repair`, with its book and report, and when it begins.
+fn begun_repair<'a>(alloc: Global) -> Result<Command<'a>, AllocError>
+    ensures app { IfOk result (λ c. app_of c ≡ begun_repair_app) }
     ensures local { IfOk result (λ c. (views.out-Command c).has_globals ≡ false) }
 {
     let repair = command(
@@ -397,8 +397,15 @@ fn repair<'a>(alloc: Global) -> Result<Command<'a>, AllocError>
     );
     let repair = with(repair, book(alloc))?;
     let repair = with(repair, needed(alloc, "report"))?;
-    let repair = with(repair, from(alloc))?;
-    let repair = with(repair, change(alloc))?;
+    with(repair, from(alloc))
+}
+
+/// `repair`, with what moves cost, too.
+fn repair<'a>(alloc: Global) -> Result<Command<'a>, AllocError>
+    ensures app { IfOk result (λ c. app_of c ≡ repair_app) }
+    ensures local { IfOk result (λ c. (views.out-Command c).has_globals ≡ false) }
+{
+    let repair = with(begun_repair(alloc)?, change(alloc))?;
     with(repair, notice(alloc))
 }
 

@@ -7,16 +7,26 @@ use roster_model::limits::{
 
 /// What a record is about.
 #[derive(Clone, Copy, PartialEq, Eq)]
-pub(crate) enum Kind {
+pub enum Kind {
+    /// The month.
     Period,
+    /// The cost of a minute by which a target is missed.
     Weight,
+    /// A base.
     Base,
+    /// A person.
     Crew,
+    /// A pairing.
     Pairing,
+    /// A duty of a pairing, or a fixed one.
     Duty,
+    /// A sector of a duty.
     Sector,
+    /// Leave of a person.
     Leave,
+    /// What it costs that a person flies a pairing.
     Cost,
+    /// Who flies a pairing.
     Assign,
 }
 
@@ -77,7 +87,7 @@ impl Kind {
     }
 
     /// The word that names the kind.
-    pub(crate) fn word(self) -> &'static str {
+    pub fn word(self) -> &'static str {
         match self {
             Kind::Period => "period",
             Kind::Weight => "weight",
@@ -123,7 +133,7 @@ impl Kind {
     }
 
     /// How many records of the kind there may be; `None` if the kind has no limit of its own.
-    pub(crate) fn most(self) -> Option<usize> {
+    pub fn most(self) -> Option<usize> {
         match self {
             Kind::Period | Kind::Weight => Some(1),
             Kind::Base => Some(MOST_BASES),

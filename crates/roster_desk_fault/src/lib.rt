@@ -6,7 +6,6 @@
 //!
 //! - `kinds`: the kinds of records, and their fields
 //! - `rows`: the records of a book, each with its line
-//! - `shown`: what a book holds, as text that can be shown
 //! - `forms`: the forms and limits of fields
 //! - `seen`: a record among those of its book
 //! - `names`: names that are given twice, or weren't given
@@ -15,6 +14,7 @@
 //! - `codes`: what each code says
 //! - `crowded`: persons with more legal sets of pairings than `solve` lists
 //! - `telling`: the faults of a book
+//! - `judging`: the faults of a book, as values
 //! - `warning`: what is likely a mistake
 //! - `zones`: zone texts whose sign disagrees with their name
 //! - `numbers`: minutes that are likely wrong
@@ -26,18 +26,20 @@ mod codes;
 mod crowded;
 mod finding;
 mod forms;
+mod judging;
 mod kinds;
 mod likely;
 mod names;
 mod numbers;
 mod rows;
 mod seen;
-mod shown;
 mod telling;
 mod times;
 mod warning;
 mod warning_text;
 mod zones;
 
+pub use judging::{Fault, Judged, judge};
+pub use kinds::Kind;
 pub use telling::fault_text;
 pub use warning_text::warn_text;

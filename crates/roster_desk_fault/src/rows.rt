@@ -1,15 +1,19 @@
 //! The records of a book, each with its line in the file.
 
 use crate::kinds::Kind;
-use csv::{ByteRecord, Reader, ReaderBuilder};
+use roster_desk_sheets::{Row, push_field, read_rows as read_lines};
 use std::alloc::{AllocError, Global};
+
+/// The fields of a record that are shown, at most.
+const MOST_FIELDS: usize = 12;
+
+/// What stands for the fields that aren't shown.
+const REST: &[u8] = b",...";
 
 /// A record.
 #[derive(Drop)]
 pub(crate) struct Record {
-    fields: ByteRecord,
-    /// The line of the file on which it begins, from 1.
-    pub(crate) line: usize,
+    row: Row,
     /// Whether the book is judged without it.
     pub(crate) left_out: bool,
 }
@@ -17,12 +21,17 @@ pub(crate) struct Record {
 impl Record {
     /// The field at a place from 0, or no bytes if there is none.
     pub(crate) fn field(&self, i: usize) -> &[u8] {
-        self.fields.get(i).unwrap_or(&[])
+        self.row.field(i)
     }
 
     /// How many fields it has.
     pub(crate) fn len(&self) -> usize {
-        self.fields.len()
+        self.row.len()
+    }
+
+    /// The line of the file on which it begins, from 1.
+    pub(crate) fn line(&self) -> usize {
+        self.row.line()
     }
 
     /// Its kind, if a book for a check may have it.
@@ -42,7 +51,7 @@ impl Record {
 
     /// Appends the record with each field in quotes, so that it reads as the same record again.
     fn push_quoted(&self, out: &mut Vec<u8>) -> Result<(), AllocError> {
-        for i in 0..self.fields.len() {
+        for i in 0..self.len() {
             if i > 0 {
                 out.push(b',')?;
             }
@@ -66,92 +75,34 @@ fn push_quoted(out: &mut Vec<u8>, field: &[u8]) -> Result<(), AllocError> {
     Ok(())
 }
 
-/// Where a reader of lines is: how many bytes it has passed, and its line, from 1.
-#[derive(Clone, Copy)]
-struct Line {
-    at: usize,
-    line: usize,
-}
-
-/// Whether a line ends with the byte, of which the next one follows.
-fn ends_line(byte: u8, next: Option<u8>) -> bool {
-    byte == b'\n' || byte == b'\r' && next != Some(b'\n')
-}
-
-/// Where the reader is when it has passed as many bytes, or else so far as before.
-fn passed(bytes: &[u8], from: Line, to: usize) -> Line {
-    let mut line = from.line;
-    for i in from.at..to.min(bytes.len()) {
-        if ends_line(bytes[i], bytes.get(i.saturating_add(1)).copied()) {
-            line = line.saturating_add(1);
-        }
-    }
-    let at = from.at.max(to);
-    Line { at, line }
-}
-
-/// The first place, from this one on, at which no line end stands.
-fn past_line_ends(bytes: &[u8], from: usize) -> usize {
-    for i in from..bytes.len() {
-        if bytes[i] != b'\n' && bytes[i] != b'\r' {
-            return i;
-        }
-    }
-    bytes.len()
-}
-
-/// Where the record begins, as the reader tells it: line ends may stand before it.
-fn begin_of(fields: &ByteRecord, bytes: &[u8]) -> usize {
-    let from = fields.position().map_or(0, |position| position.byte());
-    usize::try_from(from).unwrap_or(bytes.len())
-}
-
-/// The next record, if there is one.
-fn next_of(alloc: Global, reader: &mut Reader<&[u8]>) -> Result<Option<ByteRecord>, AllocError> {
-    let mut fields = ByteRecord::new(alloc);
-    match reader.read_byte_record(&mut fields) {
-        Ok(true) => Ok(Some(fields)),
-        Ok(false) => Ok(None),
-        Err(_) => Err(AllocError),
-    }
-}
-
-/// Puts all records that the reader has behind the others.
-fn push_rows(
+/// Appends a record so that it can be shown, as it stands in a book.
+pub(crate) fn push_record(
     alloc: Global,
-    rows: &mut Vec<Record>,
-    reader: &mut Reader<&[u8]>,
-    bytes: &[u8],
+    out: &mut Vec<u8>,
+    record: &Record,
 ) -> Result<(), AllocError> {
-    let mut reached = Line { at: 0, line: 1 };
-    // Each record takes a byte at least.
-    for _ in 0..bytes.len() {
-        let Some(fields) = next_of(alloc, reader)? else {
-            break;
-        };
-        reached = passed(
-            bytes,
-            reached,
-            past_line_ends(bytes, begin_of(&fields, bytes)),
-        );
-        rows.push(Record {
-            fields,
-            line: reached.line,
-            left_out: false,
-        })?;
+    for i in 0..record.len().min(MOST_FIELDS) {
+        if i > 0 {
+            out.push(b',')?;
+        }
+        push_field(alloc, out, record.field(i))?;
+    }
+    if record.len() > MOST_FIELDS {
+        out.extend_from_slice(REST)?;
     }
     Ok(())
 }
 
 /// The records of the book in the bytes, as a check reads them. The n-th is that of row n + 1.
 pub(crate) fn read_rows(alloc: Global, bytes: &[u8]) -> Result<Vec<Record>, AllocError> {
-    let mut reader = ReaderBuilder::new()
-        .has_headers(false)
-        .flexible(true)
-        .from_reader(alloc, bytes);
-    let mut rows = Vec::new(alloc);
-    push_rows(alloc, &mut rows, &mut reader, bytes)?;
-    Ok(rows)
+    let mut records = Vec::new(alloc);
+    for row in read_lines(alloc, bytes, b',')? {
+        records.push(Record {
+            row,
+            left_out: false,
+        })?;
+    }
+    Ok(records)
 }
 
 /// A book of the records that aren't left out.

@@ -1,85 +1,22 @@
 //! The faults of a book in words.
 
-ghost use Rattle.std.specs.Prelude.{IfErr, IfOk};
-ghost use Rattle.roster_book.specs.Reading.{IsBookOf, TellsFirst};
-ghost use Rattle.roster_model.specs.Answer.{records_of};
-ghost use Rattle.roster_model.specs.Record.{Check};
-
 use crate::codes::sentence;
 use crate::crowded::first_crowded;
-use crate::finding::{Finding, find};
+use crate::finding::Finding;
+use crate::judging::{First, NO_PERIOD, Told, field_name, find_faults, first_of, read, told_at};
 use crate::kinds::Kind;
-use crate::rows::{Record, kept_at, kept_text, read_rows};
-use crate::seen::{Other, Seen};
-use crate::shown::{push_field, push_record};
-use roster_book::{Book, BookFault, Command, read_book};
+use crate::rows::{Record, push_record, read_rows};
+use crate::seen::Other;
+use roster_desk_sheets::push_field;
 use roster_desk_words::push_all;
 use roster_problem::Problem;
-use roster_watched::Watched;
 use std::alloc::{AllocError, Global};
 
 /// How many faults are told, at most.
 pub(crate) const MOST_TOLD: usize = 20;
 
-/// The code of a book that doesn't begin with its month.
-const NO_PERIOD: u8 = 1;
-
 /// The code of a person with too many legal sets.
 const CROWDED: u8 = 15;
-
-/// The first fault of a book.
-#[derive(Clone, Copy)]
-struct First {
-    // The row of the record, from 1.
-    row: usize,
-    // The number of the code.
-    code: u8,
-}
-
-/// The book in the bytes, as a check reads it, or its first fault.
-fn read(alloc: Global, bytes: &[u8]) -> Result<Book, BookFault>
-    ensures book { IfOk result (λ book. IsBookOf Check (records_of bytes.now) book) }
-    ensures fault { IfErr result (TellsFirst Check (records_of bytes.now)) }
-{
-    let mut reader = Watched::new(bytes);
-    read_book(alloc, &mut reader, Command::Check)
-}
-
-/// The record and the code of the fault; bytes in memory are no device that fails.
-fn first_of(fault: BookFault) -> Result<First, AllocError> {
-    match fault {
-        BookFault::At { row, code } => Ok(First { row, code }),
-        BookFault::Device | BookFault::Memory => Err(AllocError),
-    }
-}
-
-/// The first fault of the book in the bytes, as a check tells it.
-fn first_fault(alloc: Global, bytes: &[u8]) -> Result<Option<First>, AllocError> {
-    match read(alloc, bytes).err() {
-        None => Ok(None),
-        Some(fault) => Ok(Some(first_of(fault)?)),
-    }
-}
-
-/// The first fault of the records that aren't left out.
-fn first_kept(alloc: Global, rows: &[Record]) -> Result<Option<First>, AllocError> {
-    let text = kept_text(alloc, rows)?;
-    first_fault(alloc, text.as_slice())
-}
-
-/// The name of the field at the place of the record, as the description of the format has it.
-fn field_name(row: &Record, i: usize) -> &'static str {
-    let Some(kind) = row.kind() else {
-        return "the kind";
-    };
-    if i == 0 {
-        return "the kind";
-    }
-    if kind == Kind::Duty && i == 3 && row.field(2) == b"C".as_slice() {
-        return "PERSON";
-    }
-    kind.field(i).map_or("one too many", |field| field.name)
-}
 
 /// Appends a line of a label and a text.
 fn push_line(out: &mut Vec<u8>, label: &[u8], text: &[u8]) -> Result<(), AllocError> {
@@ -96,7 +33,7 @@ fn push_other(
     let Some(row) = rows.get(other.place) else {
         return Ok(());
     };
-    let (number, line, relation) = (other.place.saturating_add(1), row.line, other.relation);
+    let (number, line, relation) = (other.place.saturating_add(1), row.line(), other.relation);
     let head = format!(in alloc; "  other   record {number}, line {line}, {relation}: ")?;
     out.extend_from_slice(head.as_bytes())?;
     push_record(alloc, out, row)?;
@@ -129,7 +66,7 @@ fn push_head(
     row: &Record,
     code: u8,
 ) -> Result<(), AllocError> {
-    let (number, line) = (at.saturating_add(1), row.line);
+    let (number, line) = (at.saturating_add(1), row.line());
     let head = format!(in alloc; "FAULT {number} {code}\n  line    {line}\n  record  ")?;
     out.extend_from_slice(head.as_bytes())?;
     push_record(alloc, out, row)?;
@@ -139,30 +76,21 @@ fn push_head(
     )
 }
 
-/// Appends what is wrong with the record at the place.
+/// Appends a fault.
 fn push_fault(
     alloc: Global,
     out: &mut Vec<u8>,
     rows: &[Record],
-    at: usize,
-    code: u8,
+    told: &Told,
 ) -> Result<(), AllocError> {
-    let Some(row) = rows.get(at) else {
+    let Some(row) = rows.get(told.at) else {
         return Ok(());
     };
-    push_head(alloc, out, at, row, code)?;
-    let found = find(alloc, Seen { rows, at, row }, code)?;
-    push_found(alloc, out, row, &found)?;
-    match found.other {
+    push_head(alloc, out, told.at, row, told.code)?;
+    push_found(alloc, out, row, &told.found)?;
+    match told.found.other {
         Some(other) => push_other(alloc, out, rows, other),
         None => Ok(()),
-    }
-}
-
-/// Leaves the record at the place out.
-fn leave_out(rows: &mut Vec<Record>, at: usize) {
-    if let Some(row) = rows.as_mut_slice().get_mut(at) {
-        row.left_out = true;
     }
 }
 
@@ -199,7 +127,9 @@ fn push_crowded(
     let Some(at) = place_of(rows, Kind::Crew, k) else {
         return Ok(());
     };
-    push_fault(alloc, out, rows, at, CROWDED)?;
+    if let Some(told) = told_at(alloc, rows, at, CROWDED)? {
+        push_fault(alloc, out, rows, &told)?;
+    }
     out.extend_from_slice(b"told by solve and replay alone; other persons may have as many\n")
 }
 
@@ -249,23 +179,11 @@ fn push_faults(
         out.extend_from_slice(b"FAULT 1 1\n  code    the book has no record\n")?;
         return out.extend_from_slice(b"  wanted  period and the month: period,2024-06\n");
     }
-    let mut next = Some(first);
-    let mut told = 0;
-    for n in 0..MOST_TOLD {
-        let Some(fault) = next else { break };
-        // A book that lacks its month can't be judged further.
-        if n > 0 && fault.code == NO_PERIOD {
-            break;
-        }
-        let Some(at) = kept_at(rows, fault.row.saturating_sub(1)) else {
-            break;
-        };
-        push_fault(alloc, out, rows, at, fault.code)?;
-        told = n + 1;
-        leave_out(rows, at);
-        next = first_kept(alloc, rows)?;
+    let found = find_faults(alloc, rows, first, MOST_TOLD)?;
+    for told in &found.told {
+        push_fault(alloc, out, rows, told)?;
     }
-    push_end(alloc, out, told, next)
+    push_end(alloc, out, found.told.len(), found.next)
 }
 
 /// The faults of the book in the bytes, the first one as a check tells it, and each later one as if the

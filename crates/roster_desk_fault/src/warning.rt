@@ -1,7 +1,6 @@
 //! What is likely a mistake in a book that has no fault.
 
-use crate::rows::Record;
-use crate::shown::push_record;
+use crate::rows::{Record, push_record};
 use std::alloc::{AllocError, Global};
 
 /// How many warnings of one word are told, at most.
@@ -39,7 +38,7 @@ fn push_warning(
     let Some(row) = rows.get(warning.at) else {
         return Ok(());
     };
-    let (number, line) = (warning.at.saturating_add(1), row.line);
+    let (number, line) = (warning.at.saturating_add(1), row.line());
     let head = format!(in alloc; "WARN {number} {word}\n  line    {line}\n  record  ")?;
     out.extend_from_slice(head.as_bytes())?;
     push_record(alloc, out, row)?;

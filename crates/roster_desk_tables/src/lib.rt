@@ -3,7 +3,6 @@
 //! The sums are those of `roster_cumulative` and `roster_cost`, which are proved; the rows and the lines
 //! are only tested. In reading order:
 //!
-//! - `records`: the records of a table, on `csv`
 //! - `sums`: what a person's pairings cost, and the minutes of a report
 //! - `rows`: a row for each duty, leave and pairing of a person
 //! - `persons`: a row for each person
@@ -15,7 +14,6 @@
 mod changed;
 mod differences;
 mod persons;
-mod records;
 mod rows;
 mod sums;
 mod table;

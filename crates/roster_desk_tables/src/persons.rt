@@ -2,9 +2,9 @@
 
 ghost use Rattle.std.specs.Prelude.{◌≡◌, ◌<◌, length};
 
-use crate::records::Records;
 use crate::sums::sums_of;
 use roster_desk_given::duties_with;
+use roster_desk_sheets::Records;
 use roster_problem::Problem;
 use std::alloc::{AllocError, Global};
 

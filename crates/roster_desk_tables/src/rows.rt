@@ -2,8 +2,8 @@
 
 ghost use Rattle.std.specs.Prelude.{◌≡◌, ◌<◌, length};
 
-use crate::records::Records;
 use roster_desk_given::{Zones, duties_with, utc};
+use roster_desk_sheets::Records;
 use roster_desk_words::pairing_name;
 use roster_instants::Minute;
 use roster_problem::{Duty, Holder, Problem, Sector};

@@ -3,10 +3,10 @@
 ghost use Rattle.std.specs.Prelude.{◌≡◌, ◌<◌, length};
 
 use crate::persons::push_person;
-use crate::records::Records;
 use crate::rows::push_rows;
 use crate::{persons, rows};
 use roster_desk_given::Zones;
+use roster_desk_sheets::Records;
 use roster_problem::Problem;
 use std::alloc::{AllocError, Global};
 

@@ -1,17 +1,17 @@
-//! The records of a table, on `csv`.
+//! The records of a text that is written, on `csv`.
 
 use csv::{Writer, WriterBuilder};
 use std::alloc::{AllocError, Global};
 
 /// The text of a table, record by record. Nothing but want of memory can fail.
 #[derive(Drop)]
-pub(crate) struct Records {
+pub struct Records {
     writer: Writer<Vec<u8>>,
 }
 
 impl Records {
     /// No record.
-    pub(crate) fn new(alloc: Global) -> Records {
+    pub fn new(alloc: Global) -> Records {
         let writer = WriterBuilder::new()
             .flexible(true)
             .from_writer(Vec::new(alloc));
@@ -19,7 +19,7 @@ impl Records {
     }
 
     /// Puts a record behind the others.
-    pub(crate) fn push(&mut self, fields: &[&[u8]]) -> Result<(), AllocError> {
+    pub fn push(&mut self, fields: &[&[u8]]) -> Result<(), AllocError> {
         match self.writer.write_fields(fields) {
             Ok(()) => Ok(()),
             Err(_) => Err(AllocError),
@@ -27,7 +27,7 @@ impl Records {
     }
 
     /// The text.
-    pub(crate) fn finish(self) -> Result<Vec<u8>, AllocError> {
+    pub fn finish(self) -> Result<Vec<u8>, AllocError> {
         match self.writer.into_inner() {
             Ok(text) => Ok(text),
             Err(_) => Err(AllocError),

@@ -1,14 +1,10 @@
-//! What a book holds, as text that can be shown: valid UTF-8 without control characters, cut short.
+//! What a field holds, as text that can be shown: valid UTF-8 without control characters, cut short.
 
-use crate::rows::Record;
 use std::alloc::{AllocError, Global};
 use std::str;
 
 /// The bytes of a field that are shown, at most.
 const MOST_SHOWN: usize = 80;
-
-/// The fields of a record that are shown, at most.
-const MOST_FIELDS: usize = 12;
 
 /// What stands for the rest of what is cut short.
 const REST: &[u8] = b"...";
@@ -97,25 +93,6 @@ fn push_cut(alloc: Global, out: &mut Vec<u8>, field: &[u8], most: usize) -> Resu
 }
 
 /// Appends a field so that it can be shown.
-pub(crate) fn push_field(alloc: Global, out: &mut Vec<u8>, field: &[u8]) -> Result<(), AllocError> {
+pub fn push_field(alloc: Global, out: &mut Vec<u8>, field: &[u8]) -> Result<(), AllocError> {
     push_cut(alloc, out, field, MOST_SHOWN)
-}
-
-/// Appends a record so that it can be shown, as it stands in a book.
-pub(crate) fn push_record(
-    alloc: Global,
-    out: &mut Vec<u8>,
-    row: &Record,
-) -> Result<(), AllocError> {
-    for i in 0..row.len().min(MOST_FIELDS) {
-        if i > 0 {
-            out.push(b',')?;
-        }
-        push_field(alloc, out, row.field(i))?;
-    }
-    if row.len() > MOST_FIELDS {
-        out.extend_from_slice(b",")?;
-        out.extend_from_slice(REST)?;
-    }
-    Ok(())
 }

@@ -1,0 +1,164 @@
+//! What persons do besides pairings, and their leave.
+
+use crate::cells::Cells;
+use crate::crew::{Person, find_person};
+use crate::files::Sheets;
+use crate::stations::Stations;
+use jiff::Timestamp;
+use jiff::civil::Date;
+use roster_desk_sheets::{Column, Entry, Place};
+use roster_desk_times::read_date;
+use std::alloc::AllocError;
+
+/// What a person does besides pairings.
+#[derive(Drop)]
+pub struct Activity {
+    /// The place of the person.
+    pub person: usize,
+    /// What it is: training, standby.
+    pub code: Vec<u8>,
+    /// Where it begins.
+    pub station: Vec<u8>,
+    /// When it begins, and when it ends.
+    pub from: Timestamp,
+    pub to: Timestamp,
+    /// Where the table has it.
+    pub place: Place,
+}
+
+/// An end of a leave.
+#[derive(Clone, Copy)]
+pub enum When {
+    /// A date, by the clocks of the person's base.
+    On(Date),
+    /// An instant.
+    At(Timestamp),
+}
+
+/// A leave.
+#[derive(Clone, Copy)]
+pub struct Leave {
+    /// The place of the person.
+    pub person: usize,
+    /// Its begin, and its end: dates are of the leave.
+    pub from: When,
+    pub to: When,
+    /// Where the table has it.
+    pub place: Place,
+}
+
+/// The place of the person of a row; one that isn't known is told.
+pub(crate) fn person_in(
+    cells: &mut Cells,
+    persons: &[Person],
+    entry: Entry<'_>,
+) -> Result<Option<usize>, AllocError> {
+    let person = find_person(persons, entry.get(Column::Person));
+    if person.is_none() {
+        cells.tell(entry, Column::Person, "a person of crew.csv")?;
+    }
+    Ok(person)
+}
+
+/// Puts the activity of a row behind the others, if its person and its times are known.
+fn push_activity(
+    cells: &mut Cells,
+    activities: &mut Vec<Activity>,
+    stations: &Stations,
+    persons: &[Person],
+    entry: Entry<'_>,
+) -> Result<(), AllocError> {
+    let person = person_in(cells, persons, entry)?;
+    let code = cells.name(entry, Column::Code)?;
+    let station = cells.name(entry, Column::Station)?;
+    let zone = stations.zone(station.as_slice());
+    let from = cells.instant(entry, Column::From, zone)?;
+    let to = cells.instant(entry, Column::To, zone)?;
+    if let (Some(person), Some(from), Some(to)) = (person, from, to) {
+        activities.push(Activity {
+            person,
+            code,
+            station,
+            from,
+            to,
+            place: entry.place(Column::From),
+        })?;
+    }
+    Ok(())
+}
+
+/// The activities of the table.
+pub(crate) fn read_activities(
+    cells: &mut Cells,
+    sheets: &Sheets,
+    stations: &Stations,
+    persons: &[Person],
+) -> Result<Vec<Activity>, AllocError> {
+    let mut activities = Vec::new(cells.alloc);
+    for i in 0..sheets.activities.len() {
+        if let Some(entry) = sheets.activities.entry(i) {
+            push_activity(cells, &mut activities, stations, persons, entry)?;
+        }
+    }
+    Ok(activities)
+}
+
+/// The date or the instant in the column, by the clocks of the base.
+fn when_in(
+    cells: &mut Cells,
+    stations: &Stations,
+    base: &[u8],
+    entry: Entry<'_>,
+    column: Column,
+) -> Result<Option<When>, AllocError> {
+    if let Some(date) = read_date(entry.get(column)) {
+        return Ok(Some(When::On(date)));
+    }
+    match cells.instant(entry, column, stations.zone(base))? {
+        Some(at) => Ok(Some(When::At(at))),
+        None => Ok(None),
+    }
+}
+
+/// Puts the leave of a row behind the others, if its person and its ends are known.
+fn push_leave(
+    cells: &mut Cells,
+    leaves: &mut Vec<Leave>,
+    stations: &Stations,
+    persons: &[Person],
+    entry: Entry<'_>,
+) -> Result<(), AllocError> {
+    let Some(person) = person_in(cells, persons, entry)? else {
+        return Ok(());
+    };
+    let base = persons
+        .get(person)
+        .map_or(b"".as_slice(), |person| person.base.as_slice());
+    let from = when_in(cells, stations, base, entry, Column::From)?;
+    let to = when_in(cells, stations, base, entry, Column::To)?;
+    if let (Some(from), Some(to)) = (from, to) {
+        leaves.push(Leave {
+            person,
+            from,
+            to,
+            place: entry.place(Column::From),
+        })?;
+    }
+    Ok(())
+}
+
+/// The leave of the table.
+pub(crate) fn read_leave(
+    cells: &mut Cells,
+    sheets: &Sheets,
+    stations: &Stations,
+    persons: &[Person],
+) -> Result<Vec<Leave>, AllocError> {
+    let mut leaves = Vec::new(cells.alloc);
+    for i in 0..sheets.leave.len() {
+        if let Some(entry) = sheets.leave.entry(i) {
+            push_leave(cells, &mut leaves, stations, persons, entry)?;
+        }
+    }
+    Ok(leaves)
+}

@@ -1,0 +1,133 @@
+//! The files of a folder, and the zone files that its tables name.
+
+use roster_desk_sheets::{Column, Mistakes, Sheet, Table, read_sheet};
+use roster_desk_times::{is_zone_name, read_zone};
+use std::alloc::{AllocError, Global};
+use std::str;
+
+/// The file of a table.
+#[derive(Drop)]
+pub struct TableFile {
+    /// The table.
+    pub table: Table,
+    /// What the file holds.
+    pub bytes: Vec<u8>,
+}
+
+/// A zone file of the machine.
+#[derive(Drop)]
+pub struct ZoneFile {
+    /// The name of the zone.
+    pub name: String,
+    /// What the file holds.
+    pub bytes: Vec<u8>,
+}
+
+/// The files of a folder, and the zone files that its tables name.
+#[derive(Drop)]
+pub struct Files {
+    /// Those of its tables, each once.
+    pub tables: Vec<TableFile>,
+    /// The zone files.
+    pub zones: Vec<ZoneFile>,
+}
+
+/// The tables of a folder, row by row.
+#[derive(Drop)]
+pub struct Sheets {
+    pub(crate) bases: Sheet,
+    pub(crate) stations: Sheet,
+    pub(crate) crew: Sheet,
+    pub(crate) pairings: Sheet,
+    pub(crate) duties: Sheet,
+    pub(crate) sectors: Sheet,
+    pub(crate) activities: Sheet,
+    pub(crate) leave: Sheet,
+    pub(crate) wishes: Sheet,
+    pub(crate) flown: Sheet,
+}
+
+/// The table among the files; one that isn't there has no row.
+fn sheet_in(
+    alloc: Global,
+    files: &[TableFile],
+    table: Table,
+    mistakes: &mut Mistakes,
+) -> Result<Sheet, AllocError> {
+    for file in files {
+        if file.table == table {
+            return read_sheet(alloc, table, file.bytes.as_slice(), mistakes);
+        }
+    }
+    Ok(Sheet::none(alloc, table))
+}
+
+/// The tables in the files. What is wrong with header rows is told.
+pub fn read_sheets(
+    alloc: Global,
+    files: &[TableFile],
+    mistakes: &mut Mistakes,
+) -> Result<Sheets, AllocError> {
+    Ok(Sheets {
+        bases: sheet_in(alloc, files, Table::Bases, mistakes)?,
+        stations: sheet_in(alloc, files, Table::Stations, mistakes)?,
+        crew: sheet_in(alloc, files, Table::Crew, mistakes)?,
+        pairings: sheet_in(alloc, files, Table::Pairings, mistakes)?,
+        duties: sheet_in(alloc, files, Table::Duties, mistakes)?,
+        sectors: sheet_in(alloc, files, Table::Sectors, mistakes)?,
+        activities: sheet_in(alloc, files, Table::Activities, mistakes)?,
+        leave: sheet_in(alloc, files, Table::Leave, mistakes)?,
+        wishes: sheet_in(alloc, files, Table::Wishes, mistakes)?,
+        flown: sheet_in(alloc, files, Table::Flown, mistakes)?,
+    })
+}
+
+impl Sheets {
+    /// The rows of the table.
+    pub fn of(&self, table: Table) -> &Sheet {
+        match table {
+            Table::Bases => &self.bases,
+            Table::Stations => &self.stations,
+            Table::Crew => &self.crew,
+            Table::Pairings => &self.pairings,
+            Table::Duties => &self.duties,
+            Table::Sectors => &self.sectors,
+            Table::Activities => &self.activities,
+            Table::Leave => &self.leave,
+            Table::Wishes => &self.wishes,
+            Table::Flown => &self.flown,
+        }
+    }
+}
+
+/// Puts the names of zones in the table behind the others.
+fn push_zone_names(
+    alloc: Global,
+    names: &mut Vec<String>,
+    sheet: &Sheet,
+) -> Result<(), AllocError> {
+    for i in 0..sheet.len() {
+        let Some(entry) = sheet.entry(i) else {
+            continue;
+        };
+        let zone = entry.get(Column::Zone);
+        if zone.is_empty() || read_zone(zone).is_some() || !is_zone_name(zone) {
+            continue;
+        }
+        if let Ok(name) = str::from_utf8(zone) {
+            names.push(String::from_str(alloc, name)?)?;
+        }
+    }
+    Ok(())
+}
+
+/// The names of the zones whose files the tables want. None of them leads out of a folder of zone files.
+pub fn zone_names(alloc: Global, files: &[TableFile]) -> Result<Vec<String>, AllocError> {
+    let mut untold = Mistakes::none(alloc);
+    let mut names = Vec::new(alloc);
+    let bases = sheet_in(alloc, files, Table::Bases, &mut untold)?;
+    push_zone_names(alloc, &mut names, &bases)?;
+    let stations = sheet_in(alloc, files, Table::Stations, &mut untold)?;
+    push_zone_names(alloc, &mut names, &stations)?;
+    Ok(names)
+}

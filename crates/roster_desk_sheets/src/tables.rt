@@ -1,0 +1,212 @@
+//! The tables that a folder may have, and their columns.
+
+/// A table of a folder.
+#[derive(Clone, Copy, PartialEq, Eq)]
+pub enum Table {
+    /// The bases, with their zones.
+    Bases,
+    /// Other stations, with their zones.
+    Stations,
+    /// The persons.
+    Crew,
+    /// The pairings.
+    Pairings,
+    /// The duties of pairings.
+    Duties,
+    /// The sectors of duties.
+    Sectors,
+    /// What persons do besides pairings.
+    Activities,
+    /// The leave of persons.
+    Leave,
+    /// What persons wish to fly, or not to fly.
+    Wishes,
+    /// What persons have flown, month by month.
+    Flown,
+}
+
+/// A column of a table.
+#[derive(Clone, Copy, PartialEq, Eq)]
+pub enum Column {
+    /// A base.
+    Base,
+    /// The zone of a station: the name or the rule of its clocks.
+    Zone,
+    /// A person.
+    Person,
+    /// The rank of a person, or of who flies a pairing.
+    Rank,
+    /// The flight that is wanted of a person in the month.
+    Target,
+    /// When something begins, or where.
+    From,
+    /// When something ends, or where.
+    To,
+    /// A pairing.
+    Pairing,
+    /// What it costs to leave a pairing open.
+    Penalty,
+    /// How many persons fly a pairing.
+    Count,
+    /// Where a duty reports.
+    Station,
+    /// When a duty reports.
+    Report,
+    /// When a duty is released.
+    Release,
+    /// Where a duty is released.
+    End,
+    /// A duty.
+    Duty,
+    /// When a sector begins.
+    Off,
+    /// When a sector ends.
+    On,
+    /// Whether a sector is operated.
+    Kind,
+    /// What a person does.
+    Code,
+    /// The cost of a person flying a pairing.
+    Units,
+    /// A day.
+    Date,
+    /// A month.
+    Month,
+    /// What was flown in a month.
+    Flight,
+    /// What was flown before in the calendar year: it comes from the ledger.
+    Year,
+    /// What was flown in the eleven months before: it comes from the ledger.
+    Eleven,
+    /// All rows of a table.
+    Rows,
+    /// None: a cell behind the last one.
+    Outside,
+}
+
+impl Table {
+    /// All tables, in the order in which they are read.
+    pub const ALL: [Table; 10] = [
+        Table::Bases,
+        Table::Stations,
+        Table::Crew,
+        Table::Pairings,
+        Table::Duties,
+        Table::Sectors,
+        Table::Activities,
+        Table::Leave,
+        Table::Wishes,
+        Table::Flown,
+    ];
+
+    /// The name of its file.
+    pub fn file(self) -> &'static str {
+        match self {
+            Table::Bases => "bases.csv",
+            Table::Stations => "stations.csv",
+            Table::Crew => "crew.csv",
+            Table::Pairings => "pairings.csv",
+            Table::Duties => "duties.csv",
+            Table::Sectors => "sectors.csv",
+            Table::Activities => "activities.csv",
+            Table::Leave => "leave.csv",
+            Table::Wishes => "wishes.csv",
+            Table::Flown => "flown.csv",
+        }
+    }
+
+    /// Whether each folder has it.
+    pub fn is_needed(self) -> bool {
+        match self {
+            Table::Bases | Table::Crew | Table::Pairings | Table::Duties => true,
+            _ => false,
+        }
+    }
+
+    /// The columns that it has.
+    pub fn needed(self) -> &'static [Column] {
+        match self {
+            Table::Bases => &[Column::Base, Column::Zone],
+            Table::Stations => &[Column::Station, Column::Zone],
+            Table::Crew => &[Column::Person, Column::Base],
+            Table::Pairings => &[Column::Pairing, Column::Base],
+            Table::Duties => &[
+                Column::Pairing,
+                Column::Station,
+                Column::Report,
+                Column::Release,
+            ],
+            Table::Sectors => &[Column::Off, Column::On],
+            Table::Activities => &[
+                Column::Person,
+                Column::Code,
+                Column::Station,
+                Column::From,
+                Column::To,
+            ],
+            Table::Leave => &[Column::Person, Column::From, Column::To],
+            Table::Wishes => &[Column::Person, Column::Units],
+            Table::Flown => &[Column::Person, Column::Month, Column::Flight],
+        }
+    }
+
+    /// The columns that it may have besides.
+    pub fn others(self) -> &'static [Column] {
+        match self {
+            Table::Crew => &[Column::Rank, Column::Target, Column::From, Column::To],
+            Table::Pairings => &[Column::Rank, Column::Penalty, Column::Count],
+            Table::Duties => &[Column::Duty, Column::End],
+            Table::Sectors => &[
+                Column::Pairing,
+                Column::Duty,
+                Column::From,
+                Column::To,
+                Column::Kind,
+            ],
+            Table::Wishes => &[Column::Pairing, Column::Date],
+            _ => &[],
+        }
+    }
+}
+
+impl Column {
+    /// Its name in a header row.
+    pub fn name(self) -> &'static str {
+        match self {
+            Column::Base => "BASE",
+            Column::Zone => "ZONE",
+            Column::Person => "PERSON",
+            Column::Rank => "RANK",
+            Column::Target => "TARGET",
+            Column::From => "FROM",
+            Column::To => "TO",
+            Column::Pairing => "PAIRING",
+            Column::Penalty => "PENALTY",
+            Column::Count => "COUNT",
+            Column::Station => "STATION",
+            Column::Report => "REPORT",
+            Column::Release => "RELEASE",
+            _ => self.later_name(),
+        }
+    }
+
+    /// The name of one of the later columns.
+    fn later_name(self) -> &'static str {
+        match self {
+            Column::End => "END",
+            Column::Duty => "DUTY",
+            Column::Off => "OFF",
+            Column::On => "ON",
+            Column::Kind => "KIND",
+            Column::Code => "CODE",
+            Column::Units => "UNITS",
+            Column::Date => "DATE",
+            Column::Month => "MONTH",
+            Column::Flight => "FLIGHT",
+            Column::Year => "YEAR",
+            Column::Eleven => "ELEVEN",
+            Column::Outside => "behind the last column",
+            _ => "its rows",
+        }
+    }
+}
