@@ -113,8 +113,9 @@ fn push_locked(alloc: Global, notes: &mut Vec<u8>, problem: &Problem) -> Result<
     for k in 0..problem.persons().len() {
         if let Some(rule) = locked(alloc, problem, k)? {
             let name = problem.person(k).id.as_bytes();
-            let word = rule.word().as_bytes();
-            push_all(notes, &[b"locked: ", name, b" by ", word, b"\n"])?;
+            push_all(notes, &[b"locked: ", name, b" by "])?;
+            notes.extend_from_slice(rule.word().as_bytes())?;
+            notes.extend_from_slice(b"\n")?;
         }
     }
     Ok(())
