@@ -55,6 +55,20 @@ pub(crate) fn earlier(first: Roster, second: Roster) -> Roster
     }
 }
 
+/// The first of two rosters if it costs less than the second, and else the second: at one cost what is known
+/// stays.
+pub(crate) fn cheaper(first: Roster, second: Roster) -> Roster
+    ensures from { (result ≡ first) ⊎ (result ≡ second) }
+    ensures second { key_le result second ≡ true }
+{
+    keys_are_in_order();
+    if first.cost < second.cost && comes_before(&first, &second) {
+        first
+    } else {
+        second
+    }
+}
+
 /// The plan of a roster of which nobody knows whether it is the best one.
 pub(crate) fn so_far(problem: &Problem, roster: Roster, bound: i64) -> Planned
     requires held { IsHeld problem.now roster }

@@ -52,6 +52,18 @@ impl Means {
         }
     }
 
+    /// How many efforts there are up to this one.
+    pub(crate) fn efforts(&self) -> u32 {
+        self.effort.min(MOST_EFFORT).saturating_add(1)
+    }
+
+    /// The same with another effort.
+    pub(crate) fn at(&self, effort: u32) -> Means
+        ensures workers { result.workers ≡ self.now.workers }
+    {
+        Means { effort, ..*self }
+    }
+
     /// How many lines a person may have where all are listed.
     pub(crate) fn lines(&self) -> usize
         ensures { (0 < result) × (result ≤ MOST_LINES) }

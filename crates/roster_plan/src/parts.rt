@@ -20,7 +20,7 @@ ghost use Rattle.roster_plan.specs.Parts.{AreParts, IsPart};
 ghost use Rattle.roster_plan.specs.Planned.{IsKnown, IsPlannedFrom};
 
 use crate::bound::lower_bound;
-use crate::known::{Planned, best_plan, costed, earlier, so_far};
+use crate::known::{Planned, best_plan, cheaper, costed, earlier, so_far};
 use roster_bases::{all_open, has_crew, united};
 use roster_cost::{comes_before, roster_cost};
 use roster_lines::Pairs;
@@ -134,7 +134,7 @@ fn roster_of(
 }
 
 impl BasePlan {
-    /// The part with what its base has of a known roster, if that comes before its own.
+    /// The part with what its base has of a known roster, if that costs less than its own.
     pub(crate) fn renewed(
         &self,
         alloc: Global,
@@ -150,7 +150,7 @@ impl BasePlan {
             (λ part. (part.bound ≡ self.now.bound) × (part.is_best ≡ self.now.is_best)) }
     {
         let own = roster_of(alloc, problem, base, known)?;
-        let roster = earlier(own, self.roster.copy(alloc)?);
+        let roster = cheaper(own, self.roster.copy(alloc)?);
         Ok(BasePlan {
             roster,
             bound: self.bound,

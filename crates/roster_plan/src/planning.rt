@@ -9,11 +9,11 @@ ghost use Rattle.roster_plan.specs.Planned.{IsPlannedFrom};
 
 use crate::apart::bounded;
 use crate::kept::kept;
-use crate::known::{Planned, costed, earlier, so_far};
+use crate::known::{Planned, costed, earlier};
 use crate::means::Means;
 use crate::months::Month;
 use crate::runs::improved_by_runs;
-use crate::together::improved_nearby;
+use crate::together::{improved_nearby, neighbourhoods_of};
 use crate::watching::{Phase, Watcher};
 use crate::whole::searched;
 use roster_bases::all_open;
@@ -93,7 +93,8 @@ fn planned_from<R: Threads + Sync, W: Watcher>(
     Ok(month.planned)
 }
 
-/// The month with a roster that comes of changes, and of searches of neighbourhoods.
+/// The month with a roster that comes of changes, and of searches of neighbourhoods. It begins with those of
+/// the least effort, so each effort goes on with what the one before it found.
 fn tried<R: Threads + Sync, W: Watcher>(
     rt: &R,
     alloc: Global,
@@ -108,18 +109,22 @@ fn tried<R: Threads + Sync, W: Watcher>(
     requires workers { 0 < means.now.workers }
     ensures { IfOk result (IsMonthFrom problem.now start.planned.roster) }
 {
-    let month = improved_by_runs(rt, alloc, problem, start, means, watcher)?;
-    let roster = month.planned.roster.copy(alloc)?;
-    let known = so_far(problem, roster, month.planned.bound);
-    let near = improved_nearby(
-        rt,
-        alloc,
-        problem,
-        pairs,
-        &month.parts,
-        known,
-        means,
-        watcher,
-    )?;
-    month.renewed(alloc, problem, &near.roster, Phase::Neighbourhoods, watcher)
+    keys_are_in_order();
+    let mut neighbourhoods = neighbourhoods_of(alloc, problem, &start.parts)?;
+    let mut month = start;
+    for effort in 0..means.efforts() {
+        let means = means.at(effort);
+        let changed = improved_by_runs(rt, alloc, problem, month, &means, watcher)?;
+        month = improved_nearby(
+            rt,
+            alloc,
+            problem,
+            pairs,
+            changed,
+            &means,
+            &mut neighbourhoods,
+            watcher,
+        )?;
+    }
+    Ok(month)
 }

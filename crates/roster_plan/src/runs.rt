@@ -11,7 +11,7 @@ use crate::means::{MOST_EFFORT, Means};
 use crate::months::Month;
 use crate::parts::open_bases;
 use crate::watching::{Phase, Watcher};
-use roster_plan_moves::improved_by_changes;
+use roster_plan_moves::{Chances, improved_by_changes};
 use roster_problem::Problem;
 use roster_values::Roster;
 use std::alloc::{AllocError, Global};
@@ -30,7 +30,7 @@ const FEWEST_TRIES: u32 = 80_000;
 /// A run of changes, and the places that it came to.
 #[derive(Drop)]
 struct Run {
-    seed: u64,
+    chances: Chances,
     found: Result<Vec<u16>, AllocError>,
 }
 
@@ -65,7 +65,7 @@ fn runs_of<R: Threads + Sync>(
     ensures { IfOk result (λ runs. AreDone problem.now runs.items) }
 {
     let sought = open_bases(alloc, &month.parts)?;
-    let mut runs = runs_ahead(alloc)?;
+    let mut runs = runs_ahead(alloc, means.effort)?;
     let before = &month.planned.roster;
     run_all(rt, alloc, problem, before, &sought, means, &mut runs);
     Ok(runs)
@@ -101,11 +101,15 @@ fn roster_of(problem: &Problem, run: Run) -> Result<Roster, AllocError>
 }
 
 /// The runs, not yet done.
-fn runs_ahead(alloc: Global) -> Result<Vec<Run>, AllocError> {
+fn runs_ahead(alloc: Global, effort: u32) -> Result<Vec<Run>, AllocError> {
+    let first = SEED.wrapping_add(RUNS.wrapping_mul(u64::from(effort)));
     let mut runs = Vec::new(alloc);
     for i in 0..RUNS {
         runs.push(Run {
-            seed: SEED + i,
+            chances: Chances {
+                seed: first.wrapping_add(i),
+                cold: 2 * (i as u32),
+            },
             found: Err(AllocError),
         })?;
     }
@@ -132,7 +136,7 @@ fn run_all<R: Threads + Sync>(
     {
         let places = places_of(before);
         let tries = tries_of(means.effort);
-        run.found = improved_by_changes(alloc, problem, places, sought, tries, run.seed);
+        run.found = improved_by_changes(alloc, problem, places, sought, tries, run.chances);
     };
     for_each_mut(rt, runs, means.workers, &run);
 }

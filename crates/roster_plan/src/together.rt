@@ -5,11 +5,13 @@ ghost use Rattle.roster_lines.specs.Listing.{AreAllPairs};
 ghost use Rattle.roster_model.specs.Rosters.{key_le};
 ghost use Rattle.roster_model.specs.Settled.{IsHeld};
 ghost use Rattle.roster_plan.specs.Attempts.{AreMade, IsMade};
+ghost use Rattle.roster_plan.specs.Months.{IsMonth, IsMonthFrom};
 ghost use Rattle.roster_plan.specs.Planned.{IsKnown, IsPlannedFrom};
 
 use crate::kept::kept;
-use crate::known::{Planned, costed, earlier, places_of, so_far};
-use crate::means::{MOST_EFFORT, Means};
+use crate::known::{Planned, cheaper, costed, places_of, so_far};
+use crate::means::Means;
+use crate::months::Month;
 use crate::nearby::{Nearby, search_nearby};
 use crate::parts::{BasePlan, open_bases};
 use crate::watching::{Phase, Watcher};
@@ -25,9 +27,9 @@ use std::thread::{Threads, for_each_mut};
 /// not on how many threads share the searches.
 const SEARCHES_AT_ONCE: usize = 4;
 
-/// How often so many are searched at effort 0, and as often more with each effort more: the longer changes
-/// were tried before, the less searches find.
-const ROUNDS_AN_EFFORT: u32 = 20;
+/// How often so many are searched at each effort: the longer changes were tried before, the less searches
+/// find.
+const ROUNDS: u32 = 20;
 
 /// How many lines nodes may have to look at in the search of a neighbourhood.
 const WORK_NEARBY: u64 = 1 << 17;
@@ -39,29 +41,29 @@ struct Attempt {
     found: Result<Nearby, AllocError>,
 }
 
-/// The plan with the earliest roster that searches of some neighbourhoods come to, in bases whose best roster
-/// isn't known. The workers share the searches.
+/// The month with what is new of the rosters that searches of some neighbourhoods come to, in bases whose best
+/// roster isn't known. The workers share the searches.
 pub(crate) fn improved_nearby<R: Threads + Sync, W: Watcher>(
     rt: &R,
     alloc: Global,
     problem: &Problem,
     pairs: &[Pairs],
-    parts: &[BasePlan],
-    start: Planned,
+    start: Month,
     means: &Means,
+    neighbourhoods: &mut Neighbourhoods,
     watcher: &mut W,
-) -> Result<Planned, AllocError>
+) -> Result<Month, AllocError>
     requires pairs { AreAllPairs problem.now pairs.now }
-    requires known { IsKnown problem.now start }
+    requires month { IsMonth problem.now start }
     requires workers { 0 < means.now.workers }
-    ensures { IfOk result (IsPlannedFrom problem.now start.roster) }
+    ensures { IfOk result (IsMonthFrom problem.now start.planned.roster) }
 {
     keys_are_in_order();
-    let mut neighbourhoods = neighbourhoods_of(alloc, problem, parts)?;
-    let mut planned = start;
-    for _ in 0..rounds_of(means.effort) {
+    let roster = start.planned.roster.copy(alloc)?;
+    let mut planned = so_far(problem, roster, start.planned.bound);
+    for _ in 0..ROUNDS {
         let before = planned.roster.copy(alloc)?;
-        let mut attempts = attempts_at(alloc, problem, &before, &mut neighbourhoods)?;
+        let mut attempts = attempts_at(alloc, problem, &before, neighbourhoods)?;
         try_all(rt, alloc, problem, pairs, &before, means, &mut attempts);
         planned = taken(
             alloc,
@@ -69,20 +71,21 @@ pub(crate) fn improved_nearby<R: Threads + Sync, W: Watcher>(
             &before,
             planned,
             attempts,
-            &mut neighbourhoods,
+            neighbourhoods,
             watcher,
         )?;
     }
-    Ok(planned)
-}
-
-/// How often an effort searches so many neighbourhoods at once.
-fn rounds_of(effort: u32) -> u32 {
-    ROUNDS_AN_EFFORT.saturating_mul(effort.min(MOST_EFFORT).saturating_add(1))
+    start.renewed(
+        alloc,
+        problem,
+        &planned.roster,
+        Phase::Neighbourhoods,
+        watcher,
+    )
 }
 
 /// The neighbourhoods in bases whose best roster isn't known.
-fn neighbourhoods_of(
+pub(crate) fn neighbourhoods_of(
     alloc: Global,
     problem: &Problem,
     parts: &[BasePlan],
@@ -211,8 +214,8 @@ fn with_new<W: Watcher>(
     Ok(planned)
 }
 
-/// The known roster with what is new in another one, as far as that is legal; or the known one, if that is
-/// earlier. What is new is what differs from the one before.
+/// The known roster with what is new in another one, as far as that is legal; or the known one, unless that
+/// saves something. What is new is what differs from the one before.
 fn joined(
     alloc: Global,
     problem: &Problem,
@@ -232,7 +235,7 @@ fn joined(
         places_of(&known),
     )?;
     let legal = kept(alloc, problem, &places)?;
-    Ok(earlier(costed(problem, legal), known))
+    Ok(cheaper(costed(problem, legal), known))
 }
 
 /// The known places, and the new ones where they differ from those before.

@@ -25,5 +25,5 @@ mod sets;
 mod tables;
 
 pub use neighbourhoods::{Neighbourhood, Neighbourhoods};
-pub use run::improved_by_changes;
+pub use run::{Chances, improved_by_changes};
 pub use tables::penalties;

@@ -12,6 +12,19 @@ use std::alloc::{AllocError, Global};
 /// How many changes are looked at to learn what changes cost.
 const SAMPLES: u32 = 500;
 
+/// A run is so cold at most.
+const MOST_COLD: u32 = 16;
+
+/// The chances of a run.
+#[derive(Clone, Copy)]
+pub struct Chances {
+    /// Where its random numbers begin.
+    pub seed: u64,
+    /// How cold it begins: each one more halves what a change may cost more at first. A cold run stays near
+    /// its start.
+    pub cold: u32,
+}
+
 /// The places of a legal roster, found from the given ones by so many tries of changes, with the chances of a
 /// seed, in bases that are sought. `sought` says of each base, by its number, whether it is; one past the list
 /// is.
@@ -21,13 +34,13 @@ pub fn improved_by_changes(
     start: &[u16],
     sought: &[bool],
     tries: u32,
-    seed: u64,
+    chances: Chances,
 ) -> Result<Vec<u16>, AllocError>
     requires { IsLegalRoster problem.now start.now }
     ensures { IfOk result (λ found. IsLegalRoster problem.now found.items) }
 {
     let mut draft = RosterDraft::new(alloc, problem, start)?;
-    improve(alloc, problem, start, sought, tries, seed, &mut draft)?;
+    improve(alloc, problem, start, sought, tries, chances, &mut draft)?;
     draft.best(alloc)
 }
 
@@ -38,21 +51,26 @@ fn improve(
     start: &[u16],
     sought: &[bool],
     tries: u32,
-    seed: u64,
+    chances: Chances,
     draft: &mut RosterDraft<'_>,
 ) -> Result<(), AllocError>
     ensures { draft.new ≡ draft.old }
 {
-    let mut search = Search::new(alloc, problem, start, sought, seed)?;
-    run(draft, &mut search, tries)
+    let mut search = Search::new(alloc, problem, start, sought, chances.seed)?;
+    run(draft, &mut search, tries, chances.cold)
 }
 
 /// Makes the run of so many tries.
-fn run(draft: &mut RosterDraft<'_>, search: &mut Search<'_>, tries: u32) -> Result<(), AllocError>
+fn run(
+    draft: &mut RosterDraft<'_>,
+    search: &mut Search<'_>,
+    tries: u32,
+    cold: u32,
+) -> Result<(), AllocError>
     ensures { draft.new ≡ draft.old }
 {
     fill(draft, search)?;
-    let warmth = usual_extra(search)? / 4;
+    let warmth = usual_extra(search)? >> (2 + cold.min(MOST_COLD));
     for i in 0..tries {
         search.change()?;
         let extra = search.extra();

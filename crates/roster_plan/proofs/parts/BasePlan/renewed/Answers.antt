@@ -17,11 +17,11 @@ returns-clause-part c =
     let told : to_z w64 (of_z w64 bound) ≡ bound = to_z-of_z w64 bound fits in
     let is = c.in_ok-copy.ensures in
     let part = c.requires.part in
-    let key = c.earlier-roster.result in
+    let key = c.cheaper-roster.result in
     let own = either_part problem base c.in_ok-own.own c.in_ok-copy.field-0 key c.in_ok-own.ensures.held c.in_ok-own.ensures.home
-    (subst (IsHeld problem) (sym is) part.held) (subst (λ (k : Key). IsHome problem (only base) k.places) (sym is) part.home) c.earlier-roster.ensures.from in
+    (subst (IsHeld problem) (sym is) part.held) (subst (λ (k : Key). IsHome problem (only base) k.places) (sym is) part.home) c.cheaper-roster.ensures.from in
     let kept : key_le key c.args.self.now.roster ≡ true =
-    subst (λ k. key_le key k ≡ true) is c.earlier-roster.ensures.second in
+    subst (λ k. key_le key k ≡ true) is c.cheaper-roster.ensures.second in
     record {
       held = own.0;
       home = own.1;
