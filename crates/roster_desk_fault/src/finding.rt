@@ -6,7 +6,6 @@ use crate::names::{find_not_given, find_twice};
 use crate::seen::{Other, Seen};
 use crate::times::{find_busy, find_out_of_sequence, find_out_of_window, find_wrong_start};
 use roster_instants::{BaseDays, ZoneFault};
-use roster_model::limits::MOST_LINES;
 use std::alloc::{AllocError, Global};
 use std::str;
 
@@ -184,9 +183,10 @@ fn zone_reason(alloc: Global, seen: Seen<'_>) -> Result<&'static str, AllocError
 }
 
 /// What is wrong with a record that is one too many of its kind.
-fn find_no_room(alloc: Global, kind: Kind) -> Result<Finding, AllocError> {
+fn find_no_room(alloc: Global, seen: Seen<'_>, kind: Kind) -> Result<Finding, AllocError> {
     let (word, most) = (kind.word(), kind.most().unwrap_or(0));
-    let wanted = format!(in alloc; "{most} records of {word} at most")?;
+    let all = seen.rows.iter().filter(|row| row.is(kind)).count();
+    let wanted = format!(in alloc; "{most} records of {word} at most; the book has {all}")?;
     Finding::plain(alloc, 0, wanted.as_str())
 }
 
@@ -200,15 +200,6 @@ fn find_no_duty(alloc: Global, seen: Seen<'_>) -> Result<Finding, AllocError> {
         });
     let wanted = "a duty,ID,P,... record that names the pairing";
     Finding::with(alloc, 1, wanted, other)
-}
-
-/// What is to be done about a person who has too many legal sets.
-fn find_crowded(alloc: Global) -> Result<Finding, AllocError> {
-    let wanted = format!(in alloc;
-        "{MOST_LINES} legal sets at most: a book for a part of the month or base; or roster-desk plan, \
-         which takes this one"
-    )?;
-    Finding::plain(alloc, 1, wanted.as_str())
 }
 
 /// What is wrong with the record of a kind, by the number of the code.
@@ -227,11 +218,10 @@ fn find_of_kind(
         8 => find_out_of_sequence(alloc, seen, kind),
         9 => find_out_of_window(alloc, seen, kind),
         10 => Finding::plain(alloc, 2, zone_reason(alloc, seen)?),
-        11 => find_no_room(alloc, kind),
+        11 => find_no_room(alloc, seen, kind),
         12 => find_wrong_start(alloc, seen),
         13 => find_busy(alloc, seen, kind),
         14 => find_no_duty(alloc, seen),
-        15 => find_crowded(alloc),
         _ => Finding::plain(alloc, 0, kind.layout()),
     }
 }

@@ -44,6 +44,9 @@ pub enum Judged {
 /// The code of a book that doesn't begin with its month.
 pub(crate) const NO_PERIOD: u8 = 1;
 
+/// The code of a record that is one too many of its kind.
+const NO_ROOM: u8 = 11;
+
 /// The first fault of a book.
 #[derive(Clone, Copy)]
 pub(crate) struct First {
@@ -116,7 +119,7 @@ pub(crate) fn field_name(row: &Record, i: usize) -> &'static str {
 }
 
 /// What is wrong with the record at the place.
-pub(crate) fn told_at(
+fn told_at(
     alloc: Global,
     rows: &[Record],
     at: usize,
@@ -129,10 +132,13 @@ pub(crate) fn told_at(
     Ok(Some(Told { at, code, found }))
 }
 
-/// Leaves the record at the place out.
-pub(crate) fn leave_out(rows: &mut Vec<Record>, at: usize) {
-    if let Some(row) = rows.as_mut_slice().get_mut(at) {
-        row.left_out = true;
+/// Leaves out the record at the place, and if it is one too many, all later ones of its kind, which are too.
+fn leave_out(rows: &mut Vec<Record>, at: usize, code: u8) {
+    let kind = rows.get(at).and_then(|row| row.kind());
+    for (i, row) in rows.as_mut_slice().iter_mut().enumerate() {
+        if i == at || code == NO_ROOM && i > at && row.kind() == kind {
+            row.left_out = true;
+        }
     }
 }
 
@@ -158,7 +164,7 @@ pub(crate) fn find_faults(
         if let Some(found) = told_at(alloc, rows, at, fault.code)? {
             told.push(found)?;
         }
-        leave_out(rows, at);
+        leave_out(rows, at, fault.code);
         next = first_kept(alloc, rows)?;
     }
     Ok(Faults { told, next })

@@ -19,9 +19,13 @@
 //! - `zones`: zone texts whose sign disagrees with their name
 //! - `numbers`: minutes that are likely wrong
 //! - `likely`: duties that are likely wrong, and persons of whom nothing is given
+//! - `alike`: stations and pairings that are likely one
+//! - `rests`: rests that are likely too short
+//! - `sums`: costs that say nothing, and targets that can't be met
 //! - `warning_text`: the warnings of a book
 #![tactic(auto)]
 
+mod alike;
 mod codes;
 mod crowded;
 mod finding;
@@ -31,8 +35,10 @@ mod kinds;
 mod likely;
 mod names;
 mod numbers;
+mod rests;
 mod rows;
 mod seen;
+mod sums;
 mod telling;
 mod times;
 mod warning;

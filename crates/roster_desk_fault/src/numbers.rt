@@ -1,5 +1,6 @@
 //! Minutes that are likely wrong: of flight before the month, of targets, and in whole hours.
 
+use crate::alike::duties_of;
 use crate::forms::number;
 use crate::kinds::Kind;
 use crate::rows::Record;
@@ -12,6 +13,9 @@ const LEAST_TARGET: i64 = 300;
 
 /// How many sectors, or persons, have to agree before it is told, at least.
 const MANY: usize = 5;
+
+/// How many sectors a pairing has before it is told that all are positioning, at least.
+const MANY_SECTORS: usize = 3;
 
 /// The number in the field; 0 if there is none.
 fn number_in(row: &Record, i: usize) -> i64 {
@@ -71,12 +75,12 @@ fn takes_hours(row: &Record) -> bool {
 }
 
 /// Whether the person has minutes before the month.
-fn has_flown(row: &Record) -> bool {
+pub(crate) fn has_flown(row: &Record) -> bool {
     row.is(Kind::Crew) && number_in(row, 5) > 0
 }
 
 /// Whether the sector is operated.
-fn is_operated(row: &Record) -> bool {
+pub(crate) fn is_operated(row: &Record) -> bool {
     row.has(Kind::Sector, 2, b"O")
 }
 
@@ -113,16 +117,52 @@ pub(crate) fn hours(alloc: Global, rows: &[Record]) -> Result<Vec<Warning>, Allo
     Ok(warnings)
 }
 
-/// The warning that no sector is operated.
+/// The warning that no sector is operated, or of pairings whose sectors are all positioning.
 pub(crate) fn positioning(alloc: Global, rows: &[Record]) -> Result<Vec<Warning>, AllocError> {
     let mut warnings = Vec::new(alloc);
     if rows.iter().any(|row| is_operated(row)) {
-        return Ok(warnings);
-    }
-    if let Some(at) = rows.iter().position(|row| row.is(Kind::Sector)) {
+        idle_pairings(alloc, rows, &mut warnings)?;
+    } else if let Some(at) = rows.iter().position(|row| row.is(Kind::Sector)) {
         let why =
             "all sectors of the book are positioning, so nobody has flight; O is an operated one";
         warn(&mut warnings, alloc, at, why)?;
     }
     Ok(warnings)
+}
+
+/// Warnings of pairings that have some sectors, none of which is operated.
+fn idle_pairings(
+    alloc: Global,
+    rows: &[Record],
+    warnings: &mut Vec<Warning>,
+) -> Result<(), AllocError> {
+    for (at, row) in rows.iter().enumerate() {
+        if !row.is(Kind::Pairing) {
+            continue;
+        }
+        let duties = duties_of(alloc, rows, row.field(1))?;
+        let (all, operated) = sectors_of(rows, &duties);
+        if all >= MANY_SECTORS && operated == 0 {
+            let why = "all sectors of the pairing are positioning; O is an operated one";
+            warn(warnings, alloc, at, why)?;
+        }
+    }
+    Ok(())
+}
+
+/// How many sectors the duties at these places have, and how many of them are operated.
+fn sectors_of(rows: &[Record], duties: &[usize]) -> (usize, usize) {
+    let (mut all, mut operated) = (0usize, 0usize);
+    for row in rows {
+        let its = duties.iter().any(|at| rows
+            .get(*at)
+            .is_some_and(|duty| duty.field(1) == row.field(1)));
+        if its && row.is(Kind::Sector) {
+            all = all.saturating_add(1);
+            if is_operated(row) {
+                operated = operated.saturating_add(1);
+            }
+        }
+    }
+    (all, operated)
 }

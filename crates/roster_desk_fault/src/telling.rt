@@ -3,7 +3,7 @@
 use crate::codes::sentence;
 use crate::crowded::first_crowded;
 use crate::finding::Finding;
-use crate::judging::{First, NO_PERIOD, Told, field_name, find_faults, first_of, read, told_at};
+use crate::judging::{First, NO_PERIOD, Told, field_name, find_faults, first_of, read};
 use crate::kinds::Kind;
 use crate::rows::{Record, push_record, read_rows};
 use crate::seen::Other;
@@ -113,8 +113,25 @@ fn place_of(rows: &[Record], kind: Kind, before: usize) -> Option<usize> {
     None
 }
 
-/// Appends the fault that `solve` tells of a book without another one, if there is a person with too many
-/// legal sets.
+/// Appends who has too many legal sets for `solve`: the person of the record at the place.
+fn push_too_many(
+    alloc: Global,
+    out: &mut Vec<u8>,
+    at: usize,
+    row: &Record,
+) -> Result<(), AllocError> {
+    let (number, line, why) = (at.saturating_add(1), row.line(), sentence(CROWDED));
+    let head = format!(in alloc; "NOT FOR SOLVE\n  line    {line}\n  record  ")?;
+    out.extend_from_slice(head.as_bytes())?;
+    push_record(alloc, out, row)?;
+    let rest = format!(in alloc;
+        "\n  why     the record {why}: `roster solve` answers FAULT {number} {CROWDED}; others may have as many\n  \
+         wanted  `roster-desk plan`, which takes this book; or a book for a part of the month or base\n"
+    )?;
+    out.extend_from_slice(rest.as_bytes())
+}
+
+/// Appends the first person who has too many legal sets for `solve`, if there is one.
 fn push_crowded(
     alloc: Global,
     out: &mut Vec<u8>,
@@ -124,17 +141,14 @@ fn push_crowded(
     let Some(k) = first_crowded(alloc, problem)? else {
         return Ok(());
     };
-    let Some(at) = place_of(rows, Kind::Crew, k) else {
-        return Ok(());
-    };
-    if let Some(told) = told_at(alloc, rows, at, CROWDED)? {
-        push_fault(alloc, out, rows, &told)?;
+    match place_of(rows, Kind::Crew, k) {
+        Some(at) if at < rows.len() => push_too_many(alloc, out, at, &rows[at]),
+        _ => Ok(()),
     }
-    out.extend_from_slice(b"told by solve and replay alone; other persons may have as many\n")
 }
 
-/// The text of a book without a fault: how many records of each kind there are, and the fault that only
-/// `solve` tells, if there is one.
+/// The text of a book without a fault: how many records of each kind there are, and who has too many legal
+/// sets for `solve`, if anybody has.
 fn good_text(alloc: Global, rows: &[Record], problem: &Problem) -> Result<Vec<u8>, AllocError> {
     let mut out = Vec::new(alloc);
     out.extend_from_slice(b"NO FAULT\n")?;

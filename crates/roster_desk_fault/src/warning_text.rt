@@ -1,8 +1,11 @@
 //! The warnings of a book in words.
 
+use crate::alike::{stations, twins};
 use crate::likely::{free_months, long_duties, nights};
 use crate::numbers::{hours, positioning, targets, years};
+use crate::rests::{fixed_rests, layovers, short_rests};
 use crate::rows::{Record, read_rows};
+use crate::sums::{flown_hours, histories, penalties, shares, weights};
 use crate::warning::{Warning, push_warnings};
 use crate::zones::zones;
 use std::alloc::{AllocError, Global};
@@ -18,11 +21,21 @@ enum Sign {
     LongDuty,
     Positioning,
     FreeMonth,
+    ShortRest,
+    Station,
+    Twin,
+    Flown,
+    Weight,
+    Penalty,
+    Share,
+    History,
+    FixedRest,
+    Layover,
 }
 
 impl Sign {
     /// All signs, in the order in which they are told.
-    const ALL: [Sign; 8] = [
+    const ALL: [Sign; 18] = [
         Sign::Zone,
         Sign::Night,
         Sign::Year,
@@ -31,6 +44,16 @@ impl Sign {
         Sign::LongDuty,
         Sign::Positioning,
         Sign::FreeMonth,
+        Sign::ShortRest,
+        Sign::Station,
+        Sign::Twin,
+        Sign::Flown,
+        Sign::Weight,
+        Sign::Penalty,
+        Sign::Share,
+        Sign::History,
+        Sign::FixedRest,
+        Sign::Layover,
     ];
 
     /// The word that a warning has of it.
@@ -44,6 +67,16 @@ impl Sign {
             Sign::LongDuty => "LONGDUTY",
             Sign::Positioning => "POSITIONING",
             Sign::FreeMonth => "FREEMONTH",
+            Sign::ShortRest => "REST",
+            Sign::Station => "STATION",
+            Sign::Twin => "TWIN",
+            Sign::Flown => "ELEVEN",
+            Sign::Weight => "WEIGHT",
+            Sign::Penalty => "PENALTY",
+            Sign::Share => "SHARE",
+            Sign::History => "HISTORY",
+            Sign::FixedRest => "FIXED",
+            Sign::Layover => "AWAY",
         }
     }
 
@@ -58,6 +91,16 @@ impl Sign {
             Sign::LongDuty => long_duties(alloc, rows),
             Sign::Positioning => positioning(alloc, rows),
             Sign::FreeMonth => free_months(alloc, rows),
+            Sign::ShortRest => short_rests(alloc, rows),
+            Sign::Station => stations(alloc, rows),
+            Sign::Twin => twins(alloc, rows),
+            Sign::Flown => flown_hours(alloc, rows),
+            Sign::Weight => weights(alloc, rows),
+            Sign::Penalty => penalties(alloc, rows),
+            Sign::Share => shares(alloc, rows),
+            Sign::History => histories(alloc, rows),
+            Sign::FixedRest => fixed_rests(alloc, rows),
+            Sign::Layover => layovers(alloc, rows),
         }
     }
 }
