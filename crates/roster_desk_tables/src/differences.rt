@@ -38,6 +38,43 @@ fn push_moves(
     Ok(())
 }
 
+/// Whether person `k` has a pairing by one of the rosters only.
+fn is_moved(before: &[u16], after: &[u16], k: usize) -> bool
+    requires { length before.now ≡ length after.now }
+{
+    for p in 0..before.len() {
+        if (usize::from(before[p]) == k) != (usize::from(after[p]) == k) {
+            return true;
+        }
+    }
+    false
+}
+
+/// Appends how many pairings another person has, and how many persons have others.
+fn push_counts(
+    alloc: Global,
+    out: &mut Vec<u8>,
+    problem: &Problem,
+    before: &[u16],
+    after: &[u16],
+) -> Result<(), AllocError>
+    requires { length before.now ≡ length after.now }
+{
+    let (mut pairings, mut persons) = (0usize, 0usize);
+    for p in 0..before.len() {
+        if before[p] != after[p] {
+            pairings = pairings.saturating_add(1);
+        }
+    }
+    for k in 0..problem.persons().len() {
+        if is_moved(before, after, k) {
+            persons = persons.saturating_add(1);
+        }
+    }
+    let line = format!(in alloc; "{pairings} pairings and {persons} persons change\n")?;
+    out.extend_from_slice(line.as_bytes())
+}
+
 /// Appends a line that tells an amount before and after.
 fn push_change(
     out: &mut Vec<u8>,
@@ -121,8 +158,8 @@ fn push_person(
 }
 
 /// What differs between two rosters: a line for each pairing that another person has, a line for each
-/// number of a person that differs, and what both rosters cost. The places are the rosters, which needn't
-/// be legal.
+/// number of a person that differs, what both rosters cost, and how many pairings and persons these are. The
+/// places are the rosters, which needn't be legal.
 pub fn differences_text(
     alloc: Global,
     problem: &Problem,
@@ -140,5 +177,6 @@ pub fn differences_text(
     let from = roster_cost(problem, before).to_string(alloc)?;
     let to = roster_cost(problem, after).to_string(alloc)?;
     push_change(&mut out, b"ROSTER", b"COST", from.as_bytes(), to.as_bytes())?;
+    push_counts(alloc, &mut out, problem, before, after)?;
     Ok(out)
 }
