@@ -5,6 +5,7 @@
 //!
 //! - `sums`: what a person's pairings cost, and the minutes of a report
 //! - `rows`: a row for each duty, leave and pairing of a person
+//! - `month`: days of work and free days of a person
 //! - `persons`: a row for each person
 //! - `table`: both tables
 //! - `differences`: what differs between two rosters
@@ -13,6 +14,7 @@
 
 mod changed;
 mod differences;
+mod month;
 mod persons;
 mod rows;
 mod sums;

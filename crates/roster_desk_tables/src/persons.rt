@@ -2,6 +2,7 @@
 
 ghost use Rattle.std.specs.Prelude.{◌≡◌, ◌<◌, length};
 
+use crate::month::month_days;
 use crate::sums::sums_of;
 use roster_desk_given::duties_with;
 use roster_desk_sheets::Records;
@@ -9,12 +10,15 @@ use roster_problem::Problem;
 use std::alloc::{AllocError, Global};
 
 /// The names of the columns.
-pub(crate) const COLUMNS: [&[u8]; 12] = [
+pub(crate) const COLUMNS: [&[u8]; 15] = [
     b"PERSON",
     b"BASE",
     b"PAIRINGS",
     b"DUTIES",
     b"LEAVES",
+    b"WORKDAYS",
+    b"FREEDAYS",
+    b"WEEKENDS",
     b"FLIGHT",
     b"DUTY7",
     b"DUTY14",
@@ -58,6 +62,10 @@ pub(crate) fn push_person(
     let pairings = count_of(places, k).to_string(alloc)?;
     let duties = list.len().to_string(alloc)?;
     let leaves = leaves_of(problem, k).to_string(alloc)?;
+    let month = month_days(problem, &list, k);
+    let work = month.work.to_string(alloc)?;
+    let free = month.free.to_string(alloc)?;
+    let weekends = month.weekends.to_string(alloc)?;
     let sums = sums_of(alloc, problem, places, k)?;
     let flight = sums.minutes[0].to_string(alloc)?;
     let duty7 = sums.minutes[1].to_string(alloc)?;
@@ -72,6 +80,9 @@ pub(crate) fn push_person(
         pairings.as_bytes(),
         duties.as_bytes(),
         leaves.as_bytes(),
+        work.as_bytes(),
+        free.as_bytes(),
+        weekends.as_bytes(),
         flight.as_bytes(),
         duty7.as_bytes(),
         duty14.as_bytes(),
