@@ -60,14 +60,13 @@ pub(crate) fn person_in(
     Ok(person)
 }
 
-/// Puts the activity of a row behind the others, if its person and its times are known.
-fn push_activity(
+/// The activity of a row, if its person and its times are known.
+fn activity_in(
     cells: &mut Cells,
-    activities: &mut Vec<Activity>,
     stations: &Stations,
     persons: &[Person],
     entry: Entry<'_>,
-) -> Result<(), AllocError> {
+) -> Result<Option<Activity>, AllocError> {
     let person = person_in(cells, persons, entry)?;
     let code = cells.name(entry, Column::Code)?;
     let station = cells.name(entry, Column::Station)?;
@@ -75,19 +74,32 @@ fn push_activity(
     let from = cells.instant(entry, Column::From, zone)?;
     let to = cells.instant(entry, Column::To, zone)?;
     if let (Some(person), Some(from), Some(to)) = (person, from, to) {
-        activities.push(Activity {
+        return Ok(Some(Activity {
             person,
             code,
             station,
             from,
             to,
             place: entry.place(Column::From),
-        })?;
+        }));
     }
-    Ok(())
+    Ok(None)
 }
 
-/// The activities of the table.
+/// Whether the list has an activity of the same person and times.
+fn is_given(activities: &[Activity], activity: &Activity) -> bool {
+    for other in activities {
+        if other.person == activity.person
+            && other.from == activity.from
+            && other.to == activity.to
+        {
+            return true;
+        }
+    }
+    false
+}
+
+/// The activities of the table, and those of the month before that it doesn't have.
 pub(crate) fn read_activities(
     cells: &mut Cells,
     sheets: &Sheets,
@@ -97,10 +109,35 @@ pub(crate) fn read_activities(
     let mut activities = Vec::new(cells.alloc);
     for i in 0..sheets.activities.len() {
         if let Some(entry) = sheets.activities.entry(i) {
-            push_activity(cells, &mut activities, stations, persons, entry)?;
+            if let Some(activity) = activity_in(cells, stations, persons, entry)? {
+                activities.push(activity)?;
+            }
+        }
+    }
+    for i in 0..sheets.carried_activities.len() {
+        if let Some(entry) = sheets.carried_activities.entry(i) {
+            if let Some(activity) = activity_in(cells, stations, persons, entry)? {
+                if !is_given(activities.as_slice(), &activity) {
+                    activities.push(activity)?;
+                }
+            }
         }
     }
     Ok(activities)
+}
+
+/// The place of the first activity of the person in which the instant lies.
+pub(crate) fn activity_at(
+    activities: &[Activity],
+    person: Option<usize>,
+    at: Timestamp,
+) -> Option<usize> {
+    let at = at.as_second();
+    activities.iter().position(|activity| {
+        person == Some(activity.person)
+            && activity.from.as_second() <= at
+            && at < activity.to.as_second()
+    })
 }
 
 /// The date or the instant in the column, by the clocks of the base.
@@ -147,7 +184,7 @@ fn push_leave(
     Ok(())
 }
 
-/// The leave of the table.
+/// The leave of the table, and that of the month before.
 pub(crate) fn read_leave(
     cells: &mut Cells,
     sheets: &Sheets,
@@ -155,9 +192,11 @@ pub(crate) fn read_leave(
     persons: &[Person],
 ) -> Result<Vec<Leave>, AllocError> {
     let mut leaves = Vec::new(cells.alloc);
-    for i in 0..sheets.leave.len() {
-        if let Some(entry) = sheets.leave.entry(i) {
-            push_leave(cells, &mut leaves, stations, persons, entry)?;
+    for sheet in [&sheets.leave, &sheets.carried_leave] {
+        for i in 0..sheet.len() {
+            if let Some(entry) = sheet.entry(i) {
+                push_leave(cells, &mut leaves, stations, persons, entry)?;
+            }
         }
     }
     Ok(leaves)

@@ -6,7 +6,7 @@ use crate::pairings::{Pairing, find_pairing};
 use crate::stations::Stations;
 use jiff::Timestamp;
 use roster_desk_sheets::{Column, Entry, Place};
-use std::alloc::AllocError;
+use std::alloc::{AllocError, Global};
 
 /// A duty of a pairing.
 #[derive(Drop)]
@@ -47,7 +47,47 @@ fn end_column(entry: Entry<'_>) -> Column {
     }
 }
 
-/// Puts the duty of a row behind the others, if its pairing and its times are known.
+/// What a row has of a duty, of the pairing at place 0, if its times are known.
+fn duty_in(
+    cells: &mut Cells,
+    stations: &Stations,
+    entry: Entry<'_>,
+) -> Result<Option<Duty>, AllocError> {
+    let station = cells.name(entry, Column::Station)?;
+    let name = cells.text(entry, Column::Duty)?;
+    let begins = stations.zone(station.as_slice());
+    let report = cells.instant(entry, Column::Report, begins)?;
+    let ends = stations.zone(entry.get(end_column(entry)));
+    let release = cells.instant(entry, Column::Release, ends)?;
+    let (Some(report), Some(release)) = (report, release) else {
+        return Ok(None);
+    };
+    Ok(Some(Duty {
+        pairing: 0,
+        name,
+        station,
+        report,
+        release,
+        place: entry.place(Column::Report),
+    }))
+}
+
+/// The same duty of the pairing at the place.
+fn copy_for(alloc: Global, duty: &Duty, pairing: usize) -> Result<Duty, AllocError> {
+    let name = Vec::from_slice(alloc, duty.name.as_slice())?;
+    let station = Vec::from_slice(alloc, duty.station.as_slice())?;
+    Ok(Duty {
+        pairing,
+        name,
+        station,
+        report: duty.report,
+        release: duty.release,
+        place: duty.place,
+    })
+}
+
+/// Puts the duty of a row behind the others, for each pairing of its name, if there is one and the times are
+/// known.
 fn push_duty(
     cells: &mut Cells,
     duties: &mut Vec<Duty>,
@@ -55,25 +95,18 @@ fn push_duty(
     pairings: &[Pairing],
     entry: Entry<'_>,
 ) -> Result<(), AllocError> {
-    let station = cells.name(entry, Column::Station)?;
-    let name = cells.text(entry, Column::Duty)?;
-    let pairing = find_pairing(pairings, entry.get(Column::Pairing));
-    if pairing.is_none() {
-        cells.tell(entry, Column::Pairing, "a pairing of pairings.csv")?;
+    let wanted = entry.get(Column::Pairing);
+    let duty = duty_in(cells, stations, entry)?;
+    if find_pairing(pairings, wanted).is_none() {
+        return cells.tell(entry, Column::Pairing, "a pairing of pairings.csv");
     }
-    let begins = stations.zone(station.as_slice());
-    let report = cells.instant(entry, Column::Report, begins)?;
-    let ends = stations.zone(entry.get(end_column(entry)));
-    let release = cells.instant(entry, Column::Release, ends)?;
-    if let (Some(pairing), Some(report), Some(release)) = (pairing, report, release) {
-        duties.push(Duty {
-            pairing,
-            name,
-            station,
-            report,
-            release,
-            place: entry.place(Column::Report),
-        })?;
+    let Some(duty) = duty else {
+        return Ok(());
+    };
+    for p in 0..pairings.len() {
+        if pairings[p].name.as_slice() == wanted {
+            duties.push(copy_for(cells.alloc, &duty, p)?)?;
+        }
     }
     Ok(())
 }
@@ -95,26 +128,16 @@ pub(crate) fn read_duties(
     Ok(duties)
 }
 
-/// The place of the duty that a row names: by the duty's own name, or by the pairing's and the time.
-fn find_duty(
-    duties: &[Duty],
-    pairings: &[Pairing],
-    entry: Entry<'_>,
-    off: Timestamp,
-) -> Option<usize> {
+/// Whether the row names the duty: by the duty's own name, or by the pairing's and the time.
+fn is_named(duty: &Duty, pairings: &[Pairing], entry: Entry<'_>, off: Timestamp) -> bool {
     let name = entry.get(Column::Duty);
     if !name.is_empty() {
-        return duties.iter().position(|duty| duty.name.as_slice() == name);
+        return duty.name.as_slice() == name;
     }
-    let pairing = find_pairing(pairings, entry.get(Column::Pairing))?;
     let off = off.as_second();
-    for (i, duty) in duties.iter().enumerate() {
-        let is_in = duty.report.as_second() <= off && off <= duty.release.as_second();
-        if duty.pairing == pairing && is_in {
-            return Some(i);
-        }
-    }
-    None
+    let is_in = duty.report.as_second() <= off && off <= duty.release.as_second();
+    let pairing = pairings.get(duty.pairing);
+    is_in && pairing.is_some_and(|pairing| pairing.name.as_slice() == entry.get(Column::Pairing))
 }
 
 /// Whether the sector of a row is operated: yes, if nothing is said.
@@ -143,6 +166,36 @@ fn tell_no_duty(cells: &mut Cells, entry: Entry<'_>) -> Result<(), AllocError> {
     }
 }
 
+/// The sector of a row, of the duty at place 0, if its times are known.
+pub(crate) fn sector_in(
+    cells: &mut Cells,
+    stations: &Stations,
+    entry: Entry<'_>,
+) -> Result<Option<Sector>, AllocError> {
+    let from = stations.zone(entry.get(Column::From));
+    let off = cells.instant(entry, Column::Off, from)?;
+    let to = stations.zone(entry.get(Column::To));
+    let on = cells.instant(entry, Column::On, to)?;
+    let operates = operates(cells, entry)?;
+    let (Some(off), Some(on)) = (off, on) else {
+        return Ok(None);
+    };
+    Ok(Some(Sector {
+        duty: 0,
+        off,
+        on,
+        operates,
+        place: entry.place(Column::Off),
+    }))
+}
+
+/// Whether the row is one of an activity: it names a person, and neither a pairing nor a duty.
+pub(crate) fn is_of_activity(entry: Entry<'_>) -> bool {
+    entry.get(Column::Pairing).is_empty()
+        && entry.get(Column::Duty).is_empty()
+        && !entry.get(Column::Person).is_empty()
+}
+
 /// Puts the sector of a row behind the others, if its duty and its times are known.
 fn push_sector(
     cells: &mut Cells,
@@ -152,24 +205,27 @@ fn push_sector(
     duties: &[Duty],
     entry: Entry<'_>,
 ) -> Result<(), AllocError> {
-    let from = stations.zone(entry.get(Column::From));
-    let off = cells.instant(entry, Column::Off, from)?;
-    let to = stations.zone(entry.get(Column::To));
-    let on = cells.instant(entry, Column::On, to)?;
-    let operates = operates(cells, entry)?;
-    let (Some(off), Some(on)) = (off, on) else {
+    if is_of_activity(entry) {
+        return Ok(());
+    }
+    let Some(sector) = sector_in(cells, stations, entry)? else {
         return Ok(());
     };
-    let Some(duty) = find_duty(duties, pairings, entry, off) else {
+    // The first duty of each pairing: duties stand pairing by pairing.
+    let mut last = None;
+    for (place, duty) in duties.iter().enumerate() {
+        let is_other = last != Some(duty.pairing);
+        if is_other && is_named(duty, pairings, entry, sector.off) {
+            sectors.push(Sector {
+                duty: place,
+                ..sector
+            })?;
+            last = Some(duty.pairing);
+        }
+    }
+    if last.is_none() {
         return tell_no_duty(cells, entry);
-    };
-    sectors.push(Sector {
-        duty,
-        off,
-        on,
-        operates,
-        place: entry.place(Column::Off),
-    })?;
+    }
     Ok(())
 }
 

@@ -45,6 +45,10 @@ pub struct Sheets {
     pub(crate) leave: Sheet,
     pub(crate) wishes: Sheet,
     pub(crate) flown: Sheet,
+    pub(crate) carried_activities: Sheet,
+    pub(crate) carried_sectors: Sheet,
+    pub(crate) carried_leave: Sheet,
+    pub(crate) carried_flown: Sheet,
 }
 
 /// The table among the files; one that isn't there has no row.
@@ -79,6 +83,10 @@ pub fn read_sheets(
         leave: sheet_in(alloc, files, Table::Leave, mistakes)?,
         wishes: sheet_in(alloc, files, Table::Wishes, mistakes)?,
         flown: sheet_in(alloc, files, Table::Flown, mistakes)?,
+        carried_activities: sheet_in(alloc, files, Table::CarriedActivities, mistakes)?,
+        carried_sectors: sheet_in(alloc, files, Table::CarriedSectors, mistakes)?,
+        carried_leave: sheet_in(alloc, files, Table::CarriedLeave, mistakes)?,
+        carried_flown: sheet_in(alloc, files, Table::CarriedFlown, mistakes)?,
     })
 }
 
@@ -96,6 +104,10 @@ impl Sheets {
             Table::Leave => &self.leave,
             Table::Wishes => &self.wishes,
             Table::Flown => &self.flown,
+            Table::CarriedActivities => &self.carried_activities,
+            Table::CarriedSectors => &self.carried_sectors,
+            Table::CarriedLeave => &self.carried_leave,
+            Table::CarriedFlown => &self.carried_flown,
         }
     }
 }

@@ -8,6 +8,7 @@
 //! - `pairings`: pairings
 //! - `duties`: the duties of pairings, and their sectors
 //! - `activities`: what persons do besides pairings, and their leave
+//! - `flights`: the sectors of what persons do besides pairings
 //! - `wishes`: what persons wish, and what they have flown
 //! - `tables`: all tables
 #![tactic(auto)]
@@ -17,6 +18,7 @@ mod cells;
 mod crew;
 mod duties;
 mod files;
+mod flights;
 mod pairings;
 mod stations;
 mod tables;

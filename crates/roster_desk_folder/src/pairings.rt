@@ -30,11 +30,17 @@ pub struct Pairing {
     pub place: Place,
 }
 
-/// The place of the pairing of the name.
+/// The place of the first pairing of the name: there may be one for each rank.
 pub(crate) fn find_pairing(pairings: &[Pairing], name: &[u8]) -> Option<usize> {
     pairings
         .iter()
         .position(|pairing| pairing.name.as_slice() == name)
+}
+
+/// Whether a pairing has the name and the rank.
+fn is_given(pairings: &[Pairing], name: &[u8], rank: &[u8]) -> bool {
+    pairings.iter().any(|pairing| pairing.name.as_slice() == name
+        && pairing.rank.as_slice() == rank)
 }
 
 /// How many persons fly the pairing of a row: one if nothing is said.
@@ -54,12 +60,12 @@ fn push_pairing(
     entry: Entry<'_>,
 ) -> Result<(), AllocError> {
     let name = cells.name(entry, Column::Pairing)?;
-    if find_pairing(pairings.as_slice(), name.as_slice()).is_some() {
-        return cells.tell(entry, Column::Pairing, "each name once");
+    let rank = cells.text(entry, Column::Rank)?;
+    if is_given(pairings.as_slice(), name.as_slice(), rank.as_slice()) {
+        return cells.tell(entry, Column::Pairing, "each name once for each rank");
     }
     tell_unknown_base(cells, stations, entry)?;
     let base = cells.text(entry, Column::Base)?;
-    let rank = cells.text(entry, Column::Rank)?;
     let penalty = cells.number(entry, Column::Penalty, USUAL_PENALTY)?;
     let count = count_in(cells, entry)?;
     pairings.push(Pairing {

@@ -5,6 +5,7 @@ use crate::cells::Cells;
 use crate::crew::{Person, read_crew};
 use crate::duties::{Duty, Sector, read_duties, read_sectors};
 use crate::files::{Sheets, ZoneFile};
+use crate::flights::read_flights;
 use crate::pairings::{Pairing, read_pairings};
 use crate::stations::{Stations, read_stations};
 use crate::wishes::{Flown, Wish, read_flown, read_wishes};
@@ -25,6 +26,8 @@ pub struct Tables {
     pub sectors: Vec<Sector>,
     /// What persons do besides pairings.
     pub activities: Vec<Activity>,
+    /// The sectors of that, activity by activity, by their begin.
+    pub flights: Vec<Sector>,
     /// Their leave.
     pub leaves: Vec<Leave>,
     /// Their wishes.
@@ -52,6 +55,13 @@ pub fn read_tables(
         duties.as_slice(),
     )?;
     let activities = read_activities(cells, sheets, &stations, persons.as_slice())?;
+    let flights = read_flights(
+        cells,
+        sheets,
+        &stations,
+        persons.as_slice(),
+        activities.as_slice(),
+    )?;
     let leaves = read_leave(cells, sheets, &stations, persons.as_slice())?;
     let wishes = read_wishes(cells, sheets, persons.as_slice(), pairings.as_slice())?;
     let flown = read_flown(cells, sheets, persons.as_slice())?;
@@ -62,6 +72,7 @@ pub fn read_tables(
         duties,
         sectors,
         activities,
+        flights,
         leaves,
         wishes,
         flown,

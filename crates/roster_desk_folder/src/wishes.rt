@@ -119,31 +119,65 @@ fn is_given(flown: &[Flown], person: usize, month: Date) -> bool {
     false
 }
 
-/// Puts the month of a row behind the others, if its person is known. A second one is told.
+/// What a row of a ledger has, if its person and its month are known.
+fn flown_in(
+    cells: &mut Cells,
+    persons: &[Person],
+    entry: Entry<'_>,
+) -> Result<Option<Flown>, AllocError> {
+    let person = person_in(cells, persons, entry)?;
+    let month = cells.month(entry, Column::Month)?;
+    let minutes = cells.minutes(entry, Column::Flight)?;
+    let (Some(person), Some(month)) = (person, month) else {
+        return Ok(None);
+    };
+    Ok(Some(Flown {
+        person,
+        month,
+        minutes,
+    }))
+}
+
+/// Puts the month of a row behind the others. One that a row before has is told.
 fn push_flown(
     cells: &mut Cells,
     flown: &mut Vec<Flown>,
     persons: &[Person],
     entry: Entry<'_>,
 ) -> Result<(), AllocError> {
-    let person = person_in(cells, persons, entry)?;
-    let month = cells.month(entry, Column::Month)?;
-    let minutes = cells.minutes(entry, Column::Flight)?;
-    let (Some(person), Some(month)) = (person, month) else {
+    let Some(row) = flown_in(cells, persons, entry)? else {
         return Ok(());
     };
-    if is_given(flown.as_slice(), person, month) {
+    if is_given(flown.as_slice(), row.person, row.month) {
         return cells.tell(entry, Column::Month, "each month of a person once");
     }
-    flown.push(Flown {
-        person,
-        month,
-        minutes,
-    })?;
+    flown.push(row)?;
     Ok(())
 }
 
-/// What the ledger of the table has.
+/// Puts the month of a row of carry behind the others, unless the ledger has it by now.
+fn push_carried(
+    cells: &mut Cells,
+    flown: &mut Vec<Flown>,
+    ledger: usize,
+    persons: &[Person],
+    entry: Entry<'_>,
+) -> Result<(), AllocError> {
+    let Some(row) = flown_in(cells, persons, entry)? else {
+        return Ok(());
+    };
+    let of_ledger = flown.get(..ledger).unwrap_or(&[]);
+    if is_given(of_ledger, row.person, row.month) {
+        return Ok(());
+    }
+    if is_given(flown.as_slice(), row.person, row.month) {
+        return cells.tell(entry, Column::Month, "each month of a person once");
+    }
+    flown.push(row)?;
+    Ok(())
+}
+
+/// What the ledger of the table has, and the months that only the one of the months before has.
 pub(crate) fn read_flown(
     cells: &mut Cells,
     sheets: &Sheets,
@@ -153,6 +187,12 @@ pub(crate) fn read_flown(
     for i in 0..sheets.flown.len() {
         if let Some(entry) = sheets.flown.entry(i) {
             push_flown(cells, &mut flown, persons, entry)?;
+        }
+    }
+    let ledger = flown.len();
+    for i in 0..sheets.carried_flown.len() {
+        if let Some(entry) = sheets.carried_flown.entry(i) {
+            push_carried(cells, &mut flown, ledger, persons, entry)?;
         }
     }
     Ok(flown)

@@ -97,9 +97,30 @@ impl Mistakes {
     /// A line for each that is kept, and how many there are besides. The folder's path stands before the
     /// names of files.
     pub fn text(&self, alloc: Global, folder: &str) -> Result<Vec<u8>, AllocError> {
+        self.text_in(alloc, folder, None)
+    }
+
+    /// The same, if the ledger has a path of its own.
+    pub fn text_with(
+        &self,
+        alloc: Global,
+        folder: &str,
+        ledger: &str,
+    ) -> Result<Vec<u8>, AllocError> {
+        self.text_in(alloc, folder, Some(ledger))
+    }
+
+    // The lines, with the path of the ledger if it isn't in the folder.
+    fn text_in(
+        &self,
+        alloc: Global,
+        folder: &str,
+        ledger: Option<&str>,
+    ) -> Result<Vec<u8>, AllocError> {
         let mut out = Vec::new(alloc);
         for mistake in &self.kept {
-            push_mistake(alloc, &mut out, folder, mistake)?;
+            let path = path_of(alloc, folder, ledger, mistake.place.table)?;
+            push_mistake(alloc, &mut out, path.as_str(), mistake)?;
         }
         if self.more > 0 {
             let more = self.more;
@@ -110,20 +131,30 @@ impl Mistakes {
     }
 }
 
-/// Appends the line of a mistake.
+/// The path of the table's file.
+fn path_of(
+    alloc: Global,
+    folder: &str,
+    ledger: Option<&str>,
+    table: Table,
+) -> Result<String, AllocError> {
+    if let (Some(path), Table::Flown) = (ledger, table) {
+        return String::from_str(alloc, path);
+    }
+    let file = table.file();
+    format!(in alloc; "{folder}/{file}")
+}
+
+/// Appends the line of a mistake in the file at the path.
 fn push_mistake(
     alloc: Global,
     out: &mut Vec<u8>,
-    folder: &str,
+    path: &str,
     mistake: &Mistake,
 ) -> Result<(), AllocError> {
-    let Place {
-        table,
-        line,
-        column,
-    } = mistake.place;
-    let (file, column) = (table.file(), column.name());
-    let head = format!(in alloc; "error: {folder}/{file}, line {line}, {column}: has ")?;
+    let Place { line, column, .. } = mistake.place;
+    let column = column.name();
+    let head = format!(in alloc; "error: {path}, line {line}, {column}: has ")?;
     out.extend_from_slice(head.as_bytes())?;
     if mistake.has.is_empty() {
         out.extend_from_slice(b"nothing")?;

@@ -23,6 +23,14 @@ pub enum Table {
     Wishes,
     /// What persons have flown, month by month.
     Flown,
+    /// What persons do by the month before.
+    CarriedActivities,
+    /// The sectors of that.
+    CarriedSectors,
+    /// The leave of persons by the month before.
+    CarriedLeave,
+    /// What persons have flown by the months before.
+    CarriedFlown,
 }
 
 /// A column of a table.
@@ -86,7 +94,7 @@ pub enum Column {
 
 impl Table {
     /// All tables, in the order in which they are read.
-    pub const ALL: [Table; 10] = [
+    pub const ALL: [Table; 14] = [
         Table::Bases,
         Table::Stations,
         Table::Crew,
@@ -97,6 +105,10 @@ impl Table {
         Table::Leave,
         Table::Wishes,
         Table::Flown,
+        Table::CarriedActivities,
+        Table::CarriedSectors,
+        Table::CarriedLeave,
+        Table::CarriedFlown,
     ];
 
     /// The name of its file.
@@ -112,6 +124,10 @@ impl Table {
             Table::Leave => "leave.csv",
             Table::Wishes => "wishes.csv",
             Table::Flown => "flown.csv",
+            Table::CarriedActivities => "carried-activities.csv",
+            Table::CarriedSectors => "carried-sectors.csv",
+            Table::CarriedLeave => "carried-leave.csv",
+            Table::CarriedFlown => "carried-flown.csv",
         }
     }
 
@@ -137,16 +153,19 @@ impl Table {
                 Column::Release,
             ],
             Table::Sectors => &[Column::Off, Column::On],
-            Table::Activities => &[
+            Table::Activities | Table::CarriedActivities => &[
                 Column::Person,
                 Column::Code,
                 Column::Station,
                 Column::From,
                 Column::To,
             ],
-            Table::Leave => &[Column::Person, Column::From, Column::To],
+            Table::Leave | Table::CarriedLeave => &[Column::Person, Column::From, Column::To],
             Table::Wishes => &[Column::Person, Column::Units],
-            Table::Flown => &[Column::Person, Column::Month, Column::Flight],
+            Table::Flown | Table::CarriedFlown => {
+                &[Column::Person, Column::Month, Column::Flight]
+            }
+            Table::CarriedSectors => &[Column::Person, Column::Off, Column::On],
         }
     }
 
@@ -159,10 +178,12 @@ impl Table {
             Table::Sectors => &[
                 Column::Pairing,
                 Column::Duty,
+                Column::Person,
                 Column::From,
                 Column::To,
                 Column::Kind,
             ],
+            Table::CarriedSectors => &[Column::Kind],
             Table::Wishes => &[Column::Pairing, Column::Date],
             _ => &[],
         }
