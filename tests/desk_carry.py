@@ -236,7 +236,7 @@ def with_minutes(rows, draw, month):
 
 def wrongs(tests, run, roster, desk, second, name, rows, months, draw, folder, size, seed):
     """What is wrong with so many months that follow one another, from the one of these records on."""
-    whole, rows_of_ledger = {}, None
+    whole, rows_of_ledger, own = {}, None, None
     for number in range(months):
         data = book_of(rows)
         report = run(roster, "solve", book=data)
@@ -267,8 +267,10 @@ def wrongs(tests, run, roster, desk, second, name, rows, months, draw, folder, s
         others = made_month(folder, size, seed + 1000 * (number + 1), year, month)
         rows = rows_of(carried.stdout) + pairings_of(others, "QR"[number])
         read = second.read_book("check", book_of(rows))
-        tables = f"{tests.folder}/tables-{size}-{seed}-{number}"
-        write_folder(tables, rows, pairings_of(others, "QR"[number]), ledger)
+        # The folder's own ledger never gets a month that was carried.
+        tables = f"{tests.folder}/tables-{size}-{seed}"
+        own = own or ledger
+        write_folder(tables, rows, pairings_of(others, "QR"[number]), own)
         into = run(desk, "carry", paths[0], paths[1], "--into", tables)
         again = run(desk, "carry", paths[0], paths[1], "--flown", paths[2], "--into", tables)
         if into.returncode or again.returncode or into.stdout or into.stderr:
@@ -395,3 +397,71 @@ def april_of_two_bases(tests, run, roster, desk, folder):
     for paths in ((f"{book}.not", report), (book, f"{report}.not")):
         ended = run(desk, "carry", *paths)
         tests.told("a file that isn't there", ended.returncode != 4 and f"status {ended.returncode}", ended.stdout and "standard output")
+
+
+# What a folder has of months that were carried into it before, and what it has after March: rows of who isn't in the book
+# stay, and so do other months of the ledger.
+BEFORE = {
+    "carried-activities": b"PERSON;STATION;CODE;FROM;TO\nZOE;LIS;2024-03;2024-03-02T08:00Z;2024-03-02T12:00Z\nANA;LIS;2024-02;2024-02-02T08:00Z;2024-02-02T12:00Z\n",
+    "carried-flown": b"MONTH,PERSON,FLIGHT\n2024-02,ANA,100\n2024-03,ANA,7\n2024-03,ZOE,0:55\n",
+}
+AFTER = {
+    "carried-activities": b"""PERSON,CODE,STATION,FROM,TO
+ZOE,2024-03,LIS,2024-03-02T08:00Z,2024-03-02T12:00Z
+ANA,2024-03,LIS,2024-03-04T06:00Z,2024-03-04T15:30Z
+ANA,2024-03,MAD,2024-03-05T08:00Z,2024-03-05T14:00Z
+ANA,2024-03,LIS,2024-03-07T08:00Z,2024-03-07T16:00Z
+ANA,2024-03,LIS,2024-03-12T06:00Z,2024-03-12T15:00Z
+BRUNO,2024-03,LIS,2024-03-06T03:00Z,2024-03-06T12:00Z
+BRUNO,2024-03,LIS,2024-03-30T20:00Z,2024-03-31T03:00Z
+KARI,2024-03,OSL,2024-03-04T05:00Z,2024-03-04T13:00Z
+KARI,2024-03,OSL,2024-03-21T06:00Z,2024-03-21T14:00Z
+KARI,2024-03,OSL,2024-03-26T06:00Z,2024-03-26T14:00Z
+LARS,2024-03,OSL,2024-03-20T15:00Z,2024-03-20T22:00Z
+""",
+    "carried-leave": b"PERSON,FROM,TO\nBRUNO,2024-03-11T00:00Z,2024-03-18T00:00Z\n",
+    "carried-flown": b"PERSON,MONTH,FLIGHT\nANA,2024-02,100\nZOE,2024-03,0:55\nANA,2024-03,830\nBRUNO,2024-03,630\nKARI,2024-03,640\nLARS,2024-03,280\n",
+}
+
+
+def april_into_tables(tests, run, desk, folder):
+    """The same into tables of a folder."""
+    book, report = (f"{folder}/examples/month-of-two-bases.{end}" for end in ("csv", "txt"))
+    tables = f"{tests.folder}/into"
+    os.makedirs(tables)
+    for name, content in BEFORE.items():
+        with open(f"{tables}/{name}.csv", "wb") as file:
+            file.write(content)
+    ended = run(desk, "carry", book, report, "--into", tables)
+    found = {}
+    for name in os.listdir(tables):
+        with open(f"{tables}/{name}", "rb") as file:
+            found[name.removesuffix(".csv")] = file.read()
+    sectors = found.pop("carried-sectors", b"")
+    tests.told(
+        "April into tables",
+        ended.returncode != 0 and f"status {ended.returncode}: {ended.stderr}",
+        ended.stdout and "standard output",
+        b"ANA: YEAR and ELEVEN before 2024-03 are 14000 and 42000 by the book, 100 and 100 by the ledger" not in ended.stderr and f"told {ended.stderr}",
+        found != AFTER and f"other tables {found}",
+        b"\nANA,2024-03-04T13:30Z,2024-03-04T15:00Z,P\n" not in sectors and f"other sectors {sectors}",
+    )
+    wrong = b"PERSON,FROM\nANA,2024-03-01T00:00Z\n"
+    with open(f"{tables}/carried-leave.csv", "wb") as file:
+        file.write(wrong)
+    ended = run(desk, "carry", book, report, "--into", tables)
+    with open(f"{tables}/carried-leave.csv", "rb") as file:
+        kept = file.read()
+    tests.told(
+        "into a table without a column",
+        ended.returncode != 1 and f"status {ended.returncode}",
+        not ended.stderr.endswith(f"error: {tables}/carried-leave.csv, line 1, TO: has nothing; wanted a column of this name in the header row\n".encode()) and f"told {ended.stderr}",
+        kept != wrong and "a table that isn't as it was",
+        any(name.endswith(".part") for name in os.listdir(tables)) and "a file that isn't whole",
+    )
+    ended = run(desk, "carry", book, report, "--into", f"{tables}/not")
+    tests.told(
+        "into a folder that isn't there",
+        ended.returncode != 4 and f"status {ended.returncode}",
+        not ended.stderr.endswith(f"error: the tables of {tables}/not can't be written\n".encode()) and f"told {ended.stderr}",
+    )
