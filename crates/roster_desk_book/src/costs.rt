@@ -31,7 +31,10 @@ fn span_of(tables: &Tables, p: usize) -> Option<Span> {
 /// Whether the wish is about the pairing at the place.
 fn is_about(tables: &Tables, wish: &Wish, person: &Person, p: usize, pairing: &Pairing) -> bool {
     match wish.wanted {
-        Wanted::Pairing(wanted) => wanted == p,
+        Wanted::Pairing(wanted) => tables
+            .pairings
+            .get(wanted)
+            .is_some_and(|other| other.name == pairing.name),
         Wanted::On(date) => {
             let zone = tables.stations.zone(person.base.as_slice());
             let day = zone.and_then(|zone| day_of(zone, date));

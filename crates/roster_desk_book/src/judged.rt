@@ -45,7 +45,7 @@ fn name_column(table: Table) -> Column {
         Table::Bases => Column::Base,
         Table::Crew => Column::Person,
         Table::Pairings => Column::Pairing,
-        Table::Activities => Column::Code,
+        Table::Activities | Table::CarriedActivities => Column::Code,
         _ => Column::Duty,
     }
 }
@@ -69,8 +69,8 @@ fn column_of(table: Table, field: &str) -> Column {
         return Column::Kind;
     }
     match (table, column_named(field)) {
-        (Table::Activities, Column::Report) => Column::From,
-        (Table::Activities, Column::Release) => Column::To,
+        (Table::Activities | Table::CarriedActivities, Column::Report) => Column::From,
+        (Table::Activities | Table::CarriedActivities, Column::Release) => Column::To,
         (_, column) => column,
     }
 }

@@ -34,21 +34,21 @@ fn duty_name(alloc: Global, duty: &Duty, i: usize) -> Result<Vec<u8>, AllocError
     Vec::from_slice(alloc, name.as_bytes())
 }
 
-/// The sectors of the duty at the place.
-fn sectors_of(tables: &Tables, i: usize) -> &[Sector] {
-    let from = tables.sectors.partition_point(|sector| sector.duty < i);
-    let to = tables.sectors.partition_point(|sector| sector.duty <= i);
-    tables.sectors.get(from..to).unwrap_or(&[])
+/// Those of the sectors that are of the duty at the place.
+fn sectors_of(sectors: &[Sector], i: usize) -> &[Sector] {
+    let from = sectors.partition_point(|sector| sector.duty < i);
+    let to = sectors.partition_point(|sector| sector.duty <= i);
+    sectors.get(from..to).unwrap_or(&[])
 }
 
-/// The records of the sectors of the duty at the place.
+/// The records of those of the sectors that are of the duty at the place, which has the name.
 fn push_sectors(
     draft: &mut Draft,
-    tables: &Tables,
+    sectors: &[Sector],
     i: usize,
     name: &[u8],
 ) -> Result<(), AllocError> {
-    for sector in sectors_of(tables, i) {
+    for sector in sectors_of(sectors, i) {
         let off = instant_text(draft.alloc, sector.off)?;
         let on = instant_text(draft.alloc, sector.on)?;
         let letter = if sector.operates {
@@ -117,7 +117,7 @@ fn push_copy(
         let own = duty_name(alloc, duty, i)?;
         let own = copy_name(alloc, own.as_slice(), copies, n)?;
         push_duty(draft, duty, own.as_slice(), name.as_slice())?;
-        push_sectors(draft, tables, i, own.as_slice())?;
+        push_sectors(draft, tables.sectors.as_slice(), i, own.as_slice())?;
     }
     Ok(())
 }
@@ -155,17 +155,18 @@ fn is_in_window(asked: &Asked<'_>, tables: &Tables, activity: &Activity) -> bool
     window_of(zone, asked.first()).is_some_and(|window| window.holds(span))
 }
 
-/// The record of an activity, as a fixed duty.
+/// The records of the activity at the place, as a fixed duty, and of its sectors.
 fn push_activity(
     draft: &mut Draft,
     tables: &Tables,
     activity: &Activity,
-    number: usize,
+    i: usize,
 ) -> Result<(), AllocError> {
     let Some(person) = tables.persons.get(activity.person) else {
         return Ok(());
     };
     let mut name = Vec::from_slice(draft.alloc, activity.code.as_slice())?;
+    let number = i.saturating_add(1);
     let number = format!(in draft.alloc; "-{number}")?;
     name.extend_from_slice(number.as_bytes())?;
     let from = second_text(draft.alloc, activity.from.as_second())?;
@@ -182,7 +183,8 @@ fn push_activity(
             from.as_bytes(),
             to.as_bytes(),
         ],
-    )
+    )?;
+    push_sectors(draft, tables.flights.as_slice(), i, name.as_slice())
 }
 
 /// The records of activities that lie in the window.
@@ -194,7 +196,7 @@ pub(crate) fn push_activities(
 ) -> Result<(), AllocError> {
     for (i, activity) in tables.activities.iter().enumerate() {
         if taken.has_person(activity.person) && is_in_window(asked, tables, activity) {
-            push_activity(draft, tables, activity, i.saturating_add(1))?;
+            push_activity(draft, tables, activity, i)?;
         }
     }
     Ok(())
