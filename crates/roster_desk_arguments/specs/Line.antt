@@ -1,161 +1,24 @@
--- The desk's command line, as `clap` reads it.
-use Rattle.std.specs.Prelude.{◌≡◌, ◌≢◌, ⊤, ℕ, List, [], ◌∷◌, Some, None, codes, option_map, true, false}
+-- What the words of the desk's command line ask for.
+use Rattle.std.specs.Prelude.{◌≡◌, ◌≢◌, ⊤, ℕ, List, [], Some, None, codes, map, option_map, true, false, unwrap_or}
 use Rattle.std.specs.Str.Parse.{digits_value, without_leading_plus}
-use Rattle.clap.specs.Words.{App, IsAmong, Kinds, Row, Rule, first_of, kind_of, new_app, new_rule, one_of, subcommand_of, with_rule, with_subcommand}
+use Rattle.clap.specs.Words.{IsAmong, Kinds, Row, all_of, first_of, kind_of, one_of, subcommand_of}
 use Rattle.clap.specs.ValueTests.{is_unsigned_in}
-use Rattle.clap.specs.declared.builder.action.ArgAction.TheVariants as actions
-use Rattle.clap.specs.declared.builder.value_parser.ValueParser.TheVariants as parsers
 use Rattle.clap.specs.declared.error.kind.ErrorKind.TheVariants.{OutOfMemory}
 use Rattle.roster_model.specs.declared.limits.TheConstants.{MOST_LINES, MOST_UNITS, MOST_WORKERS}
-use Rattle.roster_desk_arguments.specs.declared.line.Line.{Line}
+use Rattle.roster_desk_arguments.specs.Commands.{desk_app}
+use Rattle.roster_desk_arguments.specs.declared.line.BookLine.{BookLine}
+use Rattle.roster_desk_arguments.specs.declared.line.CarryLine.{CarryLine}
 use Rattle.roster_desk_arguments.specs.declared.line.Line.TheVariants as lines
-use Rattle.roster_desk_arguments.specs.declared.line.LineFault.{LineFault}
+use Rattle.roster_desk_arguments.specs.declared.line.Line.{Line}
 use Rattle.roster_desk_arguments.specs.declared.line.LineFault.TheVariants as faults
-use Rattle.roster_desk_arguments.specs.declared.line.Page.{Page}
+use Rattle.roster_desk_arguments.specs.declared.line.LineFault.{LineFault}
 use Rattle.roster_desk_arguments.specs.declared.line.Page.TheVariants as pages
+use Rattle.roster_desk_arguments.specs.declared.line.Page.{Page}
 use Rattle.roster_desk_arguments.specs.declared.line.PlanLine.{PlanLine}
-use Rattle.roster_desk_arguments.specs.declared.line.Question.{Question}
 use Rattle.roster_desk_arguments.specs.declared.line.Question.TheVariants as questions
+use Rattle.roster_desk_arguments.specs.declared.line.Question.{Question}
 use Rattle.roster_desk_arguments.specs.declared.line.RepairLine.{RepairLine}
 use Rattle.roster_desk_arguments.specs.declared.line.TellLine.{TellLine}
-
--- ---- the arguments
-
--- one that stands at its place
-abbrev pub placed_rule : List ℕ → Rule
-placed_rule id = record (new_rule id) { value_names = 1 }
-
-abbrev pub needed_rule : List ℕ → Rule
-needed_rule id = record (placed_rule id) { required = true }
-
-abbrev pub book_rule : Rule
-book_rule = needed_rule (codes "book")
-
-abbrev pub report_rule : Rule
-report_rule = placed_rule (codes "report")
-
--- one with two dashes before its name, and a value
-abbrev pub named_rule : List ℕ → Rule
-named_rule id = record (placed_rule id) { long = Some id }
-
--- one with two dashes before its name, and no value
-abbrev pub flag_rule : List ℕ → Rule
-flag_rule id = record (new_rule id) { long = Some id; action = Some actions.SetTrue }
-
--- one whose value is a number between two
-abbrev pub number_rule : List ℕ → ℕ → ℕ → Rule
-number_rule id low high = record (named_rule id) { parser = Some (parsers.Unsigned low high) }
-
-abbrev pub person_rule : Rule
-person_rule = named_rule (codes "person")
-
-abbrev pub pairing_rule : Rule
-pairing_rule = named_rule (codes "pairing")
-
-abbrev pub persons_rule : Rule
-persons_rule = flag_rule (codes "persons")
-
-abbrev pub effort_rule : Rule
-effort_rule = record (number_rule (codes "effort") 0 9) { defaults = codes "5" ∷ [] }
-
-abbrev pub workers_rule : Rule
-workers_rule = record (number_rule (codes "workers") 1 MOST_WORKERS) { defaults = codes "1" ∷ [] }
-
-abbrev pub sets_rule : Rule
-sets_rule = number_rule (codes "sets") 1 MOST_LINES
-
-abbrev pub start_rule : Rule
-start_rule = named_rule (codes "start")
-
-abbrev pub progress_rule : Rule
-progress_rule = flag_rule (codes "progress")
-
-abbrev pub keep_rule : Rule
-keep_rule = named_rule (codes "keep")
-
-abbrev pub from_rule : Rule
-from_rule = record (named_rule (codes "from")) { required = true }
-
-abbrev pub change_rule : Rule
-change_rule = record (number_rule (codes "change") 0 MOST_UNITS) { defaults = codes "500" ∷ [] }
-
-abbrev pub notice_rule : Rule
-notice_rule = named_rule (codes "notice")
-
--- ---- the commands
-
-abbrev pub bounded_plan_app : App
-bounded_plan_app =
-    with_rule
-    (with_rule (with_rule (with_rule (new_app (codes "plan")) book_rule) effort_rule) workers_rule) sets_rule
-
-abbrev pub plan_app : App
-plan_app = with_rule (with_rule (with_rule bounded_plan_app start_rule) progress_rule) keep_rule
-
-abbrev pub why_app : App
-why_app =
-    with_rule
-    (with_rule (with_rule (with_rule (new_app (codes "why")) book_rule) report_rule) pairing_rule) person_rule
-
-abbrev pub limits_app : App
-limits_app =
-    with_rule (with_rule (with_rule (new_app (codes "limits")) book_rule) report_rule) person_rule
-
-abbrev pub table_app : App
-table_app =
-    with_rule (with_rule (with_rule (new_app (codes "table")) book_rule) report_rule) persons_rule
-
-abbrev pub chart_app : App
-chart_app = with_rule (with_rule (new_app (codes "chart")) book_rule) report_rule
-
-abbrev pub diff_app : App
-diff_app =
-    with_rule
-    (with_rule
-    (with_rule (with_rule (new_app (codes "diff")) book_rule) (needed_rule (codes "report")))
-    (needed_rule (codes "other"))) persons_rule
-
-abbrev pub assigns_app : App
-assigns_app = with_rule (new_app (codes "assigns")) (needed_rule (codes "report"))
-
-abbrev pub fault_app : App
-fault_app = with_rule (new_app (codes "fault")) book_rule
-
-abbrev pub warn_app : App
-warn_app = with_rule (new_app (codes "warn")) book_rule
-
-abbrev pub begun_repair_app : App
-begun_repair_app =
-    with_rule
-    (with_rule (with_rule (new_app (codes "repair")) book_rule) (needed_rule (codes "report"))) from_rule
-
-abbrev pub repair_app : App
-repair_app = with_rule (with_rule begun_repair_app change_rule) notice_rule
-
--- ---- `roster-desk`, of whose commands one has to be given
-
-abbrev pub bare_app : App
-bare_app = new_app (codes "roster-desk")
-
-abbrev pub demanding_app : App
-demanding_app = record bare_app { top = record bare_app.top { subcommand_required = true } }
-
-abbrev pub planner_app : App
-planner_app =
-    with_subcommand (with_subcommand (with_subcommand demanding_app plan_app.top) why_app.top) limits_app.top
-
-abbrev pub shower_app : App
-shower_app =
-    with_subcommand (with_subcommand (with_subcommand planner_app table_app.top) chart_app.top) diff_app.top
-
-abbrev pub checker_app : App
-checker_app =
-    with_subcommand (with_subcommand (with_subcommand shower_app assigns_app.top) fault_app.top) warn_app.top
-
-abbrev pub desk_app : App
-desk_app = with_subcommand checker_app repair_app.top
-
--- ---- what the words ask for
 
 -- how the command of a line is spelled
 abbrev pub spelling_of_question : Question → List ℕ
@@ -177,6 +40,8 @@ spelling (lines.Tell tell) = spelling_of_question tell.question
 spelling (lines.Assigns path) = codes "assigns"
 spelling (lines.Page page) = spelling_of_page page.page
 spelling (lines.Repair repair) = codes "repair"
+spelling (lines.Book book) = codes "book"
+spelling (lines.Carry carry) = codes "carry"
 
 -- the number that a text spells
 abbrev pub number_spelled : List ℕ → ℕ
@@ -210,6 +75,24 @@ pub record IsRepairIn (rows : List Row) (repair : RepairLine) : Type 0 where
   pub change : IsNumberIn rows (codes "change") 0 MOST_UNITS 500 repair.change
   pub notice : first_of (codes "notice") rows ≡ option_map (λ text. text.now) repair.notice
 
+-- each path, text and number of the book is the value of its own argument, and its bases are all values of theirs
+pub record IsBookIn (rows : List Row) (book : BookLine) : Type 0 where
+  pub folder : first_of (codes "folder") rows ≡ Some book.folder.now
+  pub month : first_of (codes "month") rows ≡ Some book.month.now
+  pub bases : map (λ base. base.now) book.bases.items ≡ unwrap_or (all_of (codes "base") rows) []
+  pub rank : first_of (codes "rank") rows ≡ option_map (λ text. text.now) book.rank
+  pub weight : (text : List ℕ) → one_of (codes "weight") rows ≡ Some text → is_unsigned_in 0 MOST_UNITS text ≡ true
+      → book.weight ≡ Some (number_spelled text)
+  pub no_weight : one_of (codes "weight") rows ≡ None → book.weight ≡ None
+  pub start : first_of (codes "start") rows ≡ option_map (λ path. path.now) book.start
+
+-- each path of what is carried is the value of its own argument
+pub record IsCarryIn (rows : List Row) (carry : CarryLine) : Type 0 where
+  pub book : first_of (codes "book") rows ≡ Some carry.book.now
+  pub report : first_of (codes "report") rows ≡ Some carry.report.now
+  pub flown : first_of (codes "flown") rows ≡ option_map (λ path. path.now) carry.flown
+  pub into : first_of (codes "into") rows ≡ option_map (λ path. path.now) carry.into
+
 -- each name of the question is the value of its own argument
 abbrev pub HasNames : List Row → Question → Type 0
 HasNames rows (questions.Why pairing person) =
@@ -238,6 +121,8 @@ AsksIn rows (lines.Tell tell) = IsTellIn rows tell
 AsksIn rows (lines.Assigns path) = first_of (codes "report") rows ≡ Some path.now
 AsksIn rows (lines.Page page) = first_of (codes "book") rows ≡ Some page.book.now
 AsksIn rows (lines.Repair repair) = IsRepairIn rows repair
+AsksIn rows (lines.Book book) = IsBookIn rows book
+AsksIn rows (lines.Carry carry) = IsCarryIn rows carry
 
 -- the words name the command of the line, and the line is what they say
 pub record Asks (words : List (List ℕ)) (line : Line) : Type 0 where

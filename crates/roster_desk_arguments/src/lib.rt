@@ -1,12 +1,21 @@
 //! The desk's command line, on `clap`: what its words ask for, as plain values.
 //!
-//! - `commands`: the commands and their options
+//! - `args`: arguments, and commands that have them
+//! - `planning`, `telling`, `months`: the commands
+//! - `commands`: the command line
 //! - `line`: `read_line` takes the words, or tells why it refuses them
+//! - `asked`: what the words that are taken ask for
 #![tactic(auto)]
 
+mod args;
+mod asked;
 mod commands;
 mod line;
+mod months;
+mod planning;
+mod telling;
 
 pub use line::{
-    Line, LineFault, Page, PageLine, PlanLine, Question, RepairLine, TellLine, read_line,
+    BookLine, CarryLine, Line, LineFault, Page, PageLine, PlanLine, Question, RepairLine, TellLine,
+    read_line,
 };

@@ -1,25 +1,14 @@
 //! What the words of the command line ask for.
 
-ghost use Rattle.std.specs.Prelude.{◌≡◌, ◌≢◌, ℕ, [], codes, false, true, IfErr, IfOk, IfSome, List, map, None};
-ghost use Rattle.std.specs.Prelude.{Some, option_map, string_bytes};
-ghost use Rattle.clap.specs.ValueTests.{is_unsigned_in};
-ghost use Rattle.clap.specs.Words.{fault_of, first_of, found_of, one_of, rows_of, subcommand_rows_of};
-ghost use Rattle.clap.specs.Words.{HasKind, Kinds, Row};
-ghost use Rattle.roster_desk_arguments.specs.Line.{desk_app, number_spelled, spelling, spelling_of_page};
-ghost use Rattle.roster_desk_arguments.specs.Line.{spelling_of_question, Asks, AsksIn, HasNames, IsNumberIn};
-ghost use Rattle.roster_desk_arguments.specs.Line.{NamesMemory, TellsKind};
+ghost use Rattle.std.specs.Prelude.{◌≡◌, ◌≢◌, [], IfErr, IfOk, map, string_bytes};
+ghost use Rattle.clap.specs.Words.{fault_of, HasKind, Kinds};
+ghost use Rattle.roster_desk_arguments.specs.Commands.{desk_app};
+ghost use Rattle.roster_desk_arguments.specs.Line.{Asks, NamesMemory, TellsKind};
 
+use crate::asked::asked;
 use crate::commands::desk;
-use clap::ArgMatches;
 use clap::error::ErrorKind;
-use roster_model::limits::{MOST_UNITS, MOST_WORKERS};
 use std::alloc::{AllocError, Global};
-
-/// How much is tried if nothing is said of it.
-const USUAL_EFFORT: u32 = 5;
-
-/// What it costs that a pairing moves if nothing is said of it, in cost units.
-const USUAL_CHANGE: usize = 500;
 
 /// What the words ask for.
 #[derive(Drop)]
@@ -34,6 +23,10 @@ pub enum Line<'a> {
     Page(PageLine<'a>),
     /// A repair of a book.
     Repair(RepairLine<'a>),
+    /// A book of the tables of a folder.
+    Book(BookLine<'a>),
+    /// What the next month has of this one.
+    Carry(CarryLine<'a>),
 }
 
 /// A plan of a book.
@@ -132,6 +125,36 @@ pub struct RepairLine<'a> {
     pub notice: Option<&'a str>,
 }
 
+/// A book of the tables of a folder.
+#[derive(Drop)]
+pub struct BookLine<'a> {
+    /// The path of the folder.
+    pub folder: &'a str,
+    /// The text of the month.
+    pub month: &'a str,
+    /// The names of the bases that the book is to have; all if there is none.
+    pub bases: Vec<&'a str>,
+    /// The rank of whom the book is to have, if one is named.
+    pub rank: Option<&'a str>,
+    /// What each minute costs by which a target is missed, from 0 to `MOST_UNITS` cost units, if it is given.
+    pub weight: Option<usize>,
+    /// The path of the report whose roster the book is to give, or `-`, if there is one.
+    pub start: Option<&'a str>,
+}
+
+/// What the next month has of this one.
+#[derive(Clone, Copy)]
+pub struct CarryLine<'a> {
+    /// The path of the book of this month, or `-`.
+    pub book: &'a str,
+    /// The path of the report that was published, or `-`.
+    pub report: &'a str,
+    /// The path of the table of what persons have flown, if there is one.
+    pub flown: Option<&'a str>,
+    /// The path of the folder whose tables get it, in place of records on standard output.
+    pub into: Option<&'a str>,
+}
+
 /// Why the words ask for nothing.
 #[derive(Drop)]
 pub enum LineFault {
@@ -166,211 +189,13 @@ pub fn read_line<'a>(alloc: Global, words: &'a [String]) -> Result<Line<'a>, Lin
         Ok(matches) => matches,
         Err(error) => return Err(refusal(error)),
     };
-    match asked(&matches) {
+    match asked(alloc, &matches)? {
         Some(line) => Ok(line),
         None => Err(LineFault::Refused(command.error(
             ErrorKind::InvalidSubcommand,
             "unknown command",
         )?)),
     }
-}
-
-/// The command in the matches.
-fn asked<'a>(matches: &ArgMatches<'a>) -> Option<Line<'a>>
-    ensures { IfSome result (λ line. (rows : List Row)
-        × (subcommand_rows_of matches.now ≡ Some (spelling line, rows)) × AsksIn rows line) }
-{
-    let (command, found) = matches.subcommand()?;
-    match command {
-        "plan" => planned(found),
-        "why" => why(found),
-        "limits" => limits(found),
-        "table" => told(found, rows_of_table(found)),
-        "chart" => told(found, Question::Chart),
-        "diff" => differences(found),
-        "assigns" => assigns(found),
-        "fault" => of_records(found, Page::Fault),
-        "warn" => of_records(found, Page::Warn),
-        "repair" => repaired(found),
-        _ => None,
-    }
-}
-
-/// The value of the argument in the matches, if it has one.
-fn value<'a>(found: &ArgMatches<'a>, name: &str) -> Option<&'a str>
-    ensures { option_map (λ text. text.now) result ≡ first_of name.now (rows_of (found_of found.now)) }
-{
-    found.get_str(name)
-}
-
-/// The number that is the value of the argument in the matches, if it has one.
-fn number(found: &ArgMatches<'_>, name: &str) -> Option<usize>
-    ensures given { (low high : ℕ) (text : List ℕ) → one_of name.now (rows_of (found_of found.now)) ≡ Some text
-        → is_unsigned_in low high text ≡ true → result ≡ Some (number_spelled text) }
-    ensures left_out { one_of name.now (rows_of (found_of found.now)) ≡ None → result ≡ None }
-{
-    found.get_one::<usize>(name)
-}
-
-/// Whether the flag is given in the matches.
-fn flag(found: &ArgMatches<'_>, name: &str) -> bool
-    ensures given { one_of name.now (rows_of (found_of found.now)) ≡ Some (codes "true") → result ≡ true }
-    ensures left_out { one_of name.now (rows_of (found_of found.now)) ≡ Some (codes "false")
-        → result ≡ false }
-{
-    found.get_flag(name)
-}
-
-/// How much is tried, by the matches.
-fn effort(found: &ArgMatches<'_>) -> u32
-    ensures { IsNumberIn (rows_of (found_of found.now)) (codes "effort") 0 9 USUAL_EFFORT result }
-{
-    match number(found, "effort") {
-        Some(effort) if effort <= 9 => effort as u32,
-        _ => USUAL_EFFORT,
-    }
-}
-
-/// How many threads may share the work, by the matches.
-fn workers(found: &ArgMatches<'_>) -> usize
-    ensures { IsNumberIn (rows_of (found_of found.now)) (codes "workers") 1 MOST_WORKERS 1 result }
-{
-    number(found, "workers").unwrap_or(1)
-}
-
-/// The plan in the matches.
-fn planned<'a>(found: &ArgMatches<'a>) -> Option<Line<'a>>
-    ensures named { IfSome result (λ line. spelling line ≡ codes "plan") }
-    ensures asks { IfSome result (AsksIn (rows_of (found_of found.now))) }
-{
-    let book = value(found, "book")?;
-    let effort = effort(found);
-    let workers = workers(found);
-    let sets = number(found, "sets");
-    let start = value(found, "start");
-    let progress = flag(found, "progress");
-    let keep = value(found, "keep");
-    Some(Line::Plan(PlanLine {
-        book,
-        effort,
-        workers,
-        sets,
-        start,
-        progress,
-        keep,
-    }))
-}
-
-/// The question that `why` in the matches asks.
-fn why<'a>(found: &ArgMatches<'a>) -> Option<Line<'a>>
-    ensures named { IfSome result (λ line. spelling line ≡ codes "why") }
-    ensures asks { IfSome result (AsksIn (rows_of (found_of found.now))) }
-{
-    let pairing = value(found, "pairing");
-    let person = value(found, "person");
-    told(found, Question::Why { pairing, person })
-}
-
-/// The question that `limits` in the matches asks.
-fn limits<'a>(found: &ArgMatches<'a>) -> Option<Line<'a>>
-    ensures named { IfSome result (λ line. spelling line ≡ codes "limits") }
-    ensures asks { IfSome result (AsksIn (rows_of (found_of found.now))) }
-{
-    let person = value(found, "person");
-    told(found, Question::Limits { person })
-}
-
-/// The question that `diff` in the matches asks.
-fn differences<'a>(found: &ArgMatches<'a>) -> Option<Line<'a>>
-    ensures named { IfSome result (λ line. spelling line ≡ codes "diff") }
-    ensures asks { IfSome result (AsksIn (rows_of (found_of found.now))) }
-{
-    let other = value(found, "other")?;
-    told(found, question_of_other(found, other))
-}
-
-/// What the lines of `diff` in the matches tell of the other roster.
-fn question_of_other<'a>(found: &ArgMatches<'a>, other: &'a str) -> Question<'a>
-    requires { first_of (codes "other") (rows_of (found_of found.now)) ≡ Some other.now }
-    ensures named { spelling_of_question result ≡ codes "diff" }
-    ensures asks { HasNames (rows_of (found_of found.now)) result }
-{
-    if flag(found, "persons") {
-        Question::Changed { other }
-    } else {
-        Question::Differences { other }
-    }
-}
-
-/// What the rows of the table in the matches are.
-fn rows_of_table<'a>(found: &ArgMatches<'a>) -> Question<'a>
-    ensures named { spelling_of_question result ≡ codes "table" }
-    ensures asks { HasNames (rows_of (found_of found.now)) result }
-{
-    if flag(found, "persons") {
-        Question::Persons
-    } else {
-        Question::Table
-    }
-}
-
-/// The question, of the book and the report in the matches.
-fn told<'a>(found: &ArgMatches<'a>, question: Question<'a>) -> Option<Line<'a>>
-    requires { HasNames (rows_of (found_of found.now)) question }
-    ensures named { IfSome result (λ line. spelling line ≡ spelling_of_question question.entry) }
-    ensures asks { IfSome result (AsksIn (rows_of (found_of found.now))) }
-{
-    let book = value(found, "book")?;
-    let report = value(found, "report");
-    Some(Line::Tell(TellLine {
-        question,
-        book,
-        report,
-    }))
-}
-
-/// The report in the matches, of which `assign` records are wanted.
-fn assigns<'a>(found: &ArgMatches<'a>) -> Option<Line<'a>>
-    ensures named { IfSome result (λ line. spelling line ≡ codes "assigns") }
-    ensures asks { IfSome result (AsksIn (rows_of (found_of found.now))) }
-{
-    let report = value(found, "report")?;
-    Some(Line::Assigns(report))
-}
-
-/// The book in the matches, and what is to be told of it.
-fn of_records<'a>(found: &ArgMatches<'a>, page: Page) -> Option<Line<'a>>
-    ensures named { IfSome result (λ line. spelling line ≡ spelling_of_page page) }
-    ensures asks { IfSome result (AsksIn (rows_of (found_of found.now))) }
-{
-    let book = value(found, "book")?;
-    Some(Line::Page(PageLine { book, page }))
-}
-
-/// What it costs that a pairing moves, by the matches.
-fn change(found: &ArgMatches<'_>) -> usize
-    ensures { IsNumberIn (rows_of (found_of found.now)) (codes "change") 0 MOST_UNITS USUAL_CHANGE result }
-{
-    number(found, "change").unwrap_or(USUAL_CHANGE)
-}
-
-/// The repair in the matches.
-fn repaired<'a>(found: &ArgMatches<'a>) -> Option<Line<'a>>
-    ensures named { IfSome result (λ line. spelling line ≡ codes "repair") }
-    ensures asks { IfSome result (AsksIn (rows_of (found_of found.now))) }
-{
-    let book = value(found, "book")?;
-    let report = value(found, "report")?;
-    let from = value(found, "from")?;
-    let change = change(found);
-    let notice = value(found, "notice");
-    Some(Line::Repair(RepairLine {
-        book,
-        report,
-        from,
-        change,
-        notice,
-    }))
 }
 
 /// clap's want of memory by its own name.

@@ -1,9 +1,12 @@
 use Rattle.std.proofs.Common.{◌≡◌, ◌∙◌, ◌∷◌, ℕ, List, [], Option, Some, None, option_map, true, ap, codes, map, refl, string_bytes, subst, sym}
-use Rattle.std.specs.Prelude.{option_and_then}
-use Rattle.clap.specs.Words.{fault_of, is_simple, is_simple_and_free, one_of, subcommand_of, HasKind, HasMatchesOf}
+use Rattle.std.specs.Prelude.{option_and_then, IfSome}
+use Rattle.clap.specs.Words.{fault_of, is_simple, is_simple_and_free, one_of, subcommand_of, subcommand_rows_of, HasKind, HasMatchesOf, Row}
+use Rattle.clap.specs.declared.parser.matches.ArgMatches.{ArgMatches}
+use Rattle.roster_desk_arguments.specs.Line.{spelling, AsksIn}
+use Rattle.roster_desk_arguments.specs.declared.line.Line.{Line}
 use Rattle.clap.specs.declared.error.kind.ErrorKind.TheVariants.{MissingRequiredArgument, ValueValidation}
 use Rattle.clap.proofs.OnLiterals.{clap_on_literals}
-use Rattle.roster_desk_arguments.specs.Line.{desk_app}
+use Rattle.roster_desk_arguments.specs.Commands.{desk_app}
 use Rattle.roster_desk_arguments.proofs.line.read_line.Goals.{In-Ok}
 use Rattle.roster_desk_arguments.proofs.line.read_line.Goals as goal
 
@@ -32,11 +35,14 @@ pub returns-in-Some-clause-faultless : goal.returns-in-Some-clause-faultless
 returns-in-Some-clause-faultless c = faultless (goal.at.returns-in-Some-clause-faultless c).In-Ok
 
 -- and its matches are those that the words have
+abbrev IsAsked : ArgMatches → Line → Type 0
+IsAsked matches line = (rows : List Row) × (subcommand_rows_of matches ≡ Some (spelling line, rows)) × AsksIn rows line
+
 pub returns-in-Some-clause-asked : goal.returns-in-Some-clause-asked
 returns-in-Some-clause-asked c =
     let words = map string_bytes c.args.words.now in
     let same = (subst (λ app. HasMatchesOf app words c.in-Ok.matches) c.in_ok-command.ensures.app c.in-Ok.ensures.ok.2 is_whole).1 in
-    let found = c.in-Some.ensures in
+    let found = subst (λ line. IfSome line (IsAsked c.in-Ok.matches)) c.in-Some.is c.in_ok-line.ensures in
     record { rows = found.0; named = sym same ∙ found.1; asks = found.2 }
 
 pub returns-clause-kind : goal.returns-clause-kind

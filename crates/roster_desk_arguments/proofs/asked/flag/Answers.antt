@@ -1,7 +1,7 @@
 use Rattle.std.proofs.Common.{◌∙◌}
 use Rattle.clap.specs.Words.{found_of}
 use Rattle.clap.proofs.WalkLemmas.{one_text-rows}
-use Rattle.roster_desk_arguments.proofs.line.flag.Goals as goal
+use Rattle.roster_desk_arguments.proofs.asked.flag.Goals as goal
 
 pub returns : goal.returns
 returns c =

@@ -8,7 +8,7 @@ use Rattle.clap.specs.declared.builder.value_parser.ValueParser.TheVariants as p
 use Rattle.clap.proofs.ValueTestLemmas.{accepts-Accepts}
 use Rattle.clap.proofs.WalkLemmas.{one_text-rows}
 use Rattle.roster_desk_arguments.specs.Line.{number_spelled}
-use Rattle.roster_desk_arguments.proofs.line.number.Goals as goal
+use Rattle.roster_desk_arguments.proofs.asked.number.Goals as goal
 
 -- a number between two is what `parse` reads of its text
 reads : {E : Type 0} (G : List ℕ → Result ℕ E → Type 0) (low high : ℕ) (text : List ℕ) (number : Option ℕ)

@@ -1,0 +1,164 @@
+//! The commands that tell of a roster, a report or a book.
+
+ghost use Rattle.std.specs.Prelude.{◌≡◌, false, IfOk};
+ghost use Rattle.clap.specs.Words.{app_of};
+ghost use Rattle.clap.specs.declared.builder.command.Command.TheViews as views;
+ghost use Rattle.roster_desk_arguments.specs.Commands.{assigns_app, chart_app, diff_app, fault_app};
+ghost use Rattle.roster_desk_arguments.specs.Commands.{limits_app, table_app, warn_app, why_app};
+
+use crate::args::{book, command, flag, named, needed_report, report, with};
+use clap::Command;
+use std::alloc::{AllocError, Global};
+
+/// `why`, with its book and report, and what it may be asked of.
+pub(crate) fn why<'a>(alloc: Global) -> Result<Command<'a>, AllocError>
+    ensures app { IfOk result (λ c. app_of c ≡ why_app) }
+    ensures local { IfOk result (λ c. (views.out-Command c).has_globals ≡ false) }
+{
+    let why = command(
+        alloc,
+        "why",
+        "Tells of each open pairing who could have it at what cost, and why others mustn't",
+        "Examples:
+  roster-desk why book.csv plan.txt
+  roster-desk why --pairing OUT-BACK --person ANNA book.csv plan.txt",
+    );
+    let why = with(why, book(alloc))?;
+    let why = with(why, report(alloc))?;
+    let why = with(
+        why,
+        named(
+            alloc,
+            "pairing",
+            "PAIRING",
+            "Only this pairing, open or not",
+        ),
+    )?;
+    with(why, named(alloc, "person", "PERSON", "Only this person"))
+}
+
+/// `limits`, with its book and report, and whom it may be asked of.
+pub(crate) fn limits<'a>(alloc: Global) -> Result<Command<'a>, AllocError>
+    ensures app { IfOk result (λ c. app_of c ≡ limits_app) }
+    ensures local { IfOk result (λ c. (views.out-Command c).has_globals ≡ false) }
+{
+    let limits = command(
+        alloc,
+        "limits",
+        "Tells how much of each limit each person uses, and what is left",
+        "Examples:
+  roster-desk limits book.csv plan.txt
+  roster-desk limits --person ANNA book.csv plan.txt",
+    );
+    let limits = with(limits, book(alloc))?;
+    let limits = with(limits, report(alloc))?;
+    with(limits, named(alloc, "person", "PERSON", "Only this person"))
+}
+
+/// `table`, with its book and report, and what its rows are.
+pub(crate) fn table<'a>(alloc: Global) -> Result<Command<'a>, AllocError>
+    ensures app { IfOk result (λ c. app_of c ≡ table_app) }
+    ensures local { IfOk result (λ c. (views.out-Command c).has_globals ≡ false) }
+{
+    let table = command(
+        alloc,
+        "table",
+        "Writes CSV for a spreadsheet: who has which pairings, duties and leaves, and when",
+        "Examples:
+  roster-desk table book.csv plan.txt > table.csv
+  roster-desk table --persons book.csv plan.txt > persons.csv",
+    );
+    let table = with(table, book(alloc))?;
+    let table = with(table, report(alloc))?;
+    with(
+        table,
+        flag(alloc, "persons", "A row for each person, with sums"),
+    )
+}
+
+/// `chart`, with its book and report.
+pub(crate) fn chart<'a>(alloc: Global) -> Result<Command<'a>, AllocError>
+    ensures app { IfOk result (λ c. app_of c ≡ chart_app) }
+    ensures local { IfOk result (λ c. (views.out-Command c).has_globals ≡ false) }
+{
+    let chart = command(
+        alloc,
+        "chart",
+        "Draws the roster as a page for a browser",
+        "Examples:
+  roster-desk chart book.csv plan.txt > chart.html",
+    );
+    let chart = with(chart, book(alloc))?;
+    with(chart, report(alloc))
+}
+
+/// `diff`, with its book and its two reports, and what its lines tell.
+pub(crate) fn diff<'a>(alloc: Global) -> Result<Command<'a>, AllocError>
+    ensures app { IfOk result (λ c. app_of c ≡ diff_app) }
+    ensures local { IfOk result (λ c. (views.out-Command c).has_globals ≡ false) }
+{
+    let diff = command(
+        alloc,
+        "diff",
+        "Tells which pairings move from one roster to another, and what that changes",
+        "Examples:
+  roster-desk diff book.csv plan.txt better.txt
+  roster-desk diff --persons book.csv plan.txt better.txt",
+    );
+    let diff = with(diff, book(alloc))?;
+    let diff = with(diff, needed_report(alloc, "report"))?;
+    let diff = with(diff, needed_report(alloc, "other"))?;
+    with(
+        diff,
+        flag(
+            alloc,
+            "persons",
+            "Only whose month differs, and on which days",
+        ),
+    )
+}
+
+/// `assigns`, with its report.
+pub(crate) fn assigns<'a>(alloc: Global) -> Result<Command<'a>, AllocError>
+    ensures app { IfOk result (λ c. app_of c ≡ assigns_app) }
+    ensures local { IfOk result (λ c. (views.out-Command c).has_globals ≡ false) }
+{
+    let assigns = command(
+        alloc,
+        "assigns",
+        "Writes the assign records that give a book the roster of a report or plan",
+        "Examples:
+  roster-desk assigns plan.txt > assigns.csv",
+    );
+    with(assigns, needed_report(alloc, "report"))
+}
+
+/// `fault`, with its book.
+pub(crate) fn fault<'a>(alloc: Global) -> Result<Command<'a>, AllocError>
+    ensures app { IfOk result (λ c. app_of c ≡ fault_app) }
+    ensures local { IfOk result (λ c. (views.out-Command c).has_globals ≡ false) }
+{
+    let fault = command(
+        alloc,
+        "fault",
+        "Tells which records of a refused book have faults, and what is wanted in their fields",
+        "Examples:
+  roster-desk fault book.csv",
+    );
+    with(fault, book(alloc))
+}
+
+/// `warn`, with its book.
+pub(crate) fn warn<'a>(alloc: Global) -> Result<Command<'a>, AllocError>
+    ensures app { IfOk result (λ c. app_of c ≡ warn_app) }
+    ensures local { IfOk result (λ c. (views.out-Command c).has_globals ≡ false) }
+{
+    let warn = command(
+        alloc,
+        "warn",
+        "Tells what is likely a mistake in a book without a fault",
+        "Examples:
+  roster-desk warn book.csv",
+    );
+    with(warn, book(alloc))
+}
