@@ -14,6 +14,7 @@ import time
 import engines
 from books import FILES, Result, books_of, place_of, write_whole
 from programs import NAMES, fail, program, sum_of, version, wrong_with
+from tables import has_tables, make_books
 
 HERE = os.path.dirname(os.path.realpath(__file__))
 
@@ -22,9 +23,12 @@ def words_of(words):
     at = argparse.ArgumentParser(
         prog="roster-airline run",
         description="Solves each book of the folder if its persons have few enough legal sets, and plans the others. What comes of "
-        "BOOK.csv lies in out/BOOK. A run that was broken off goes on with what is missing.",
+        "BOOK.csv lies in out/BOOK. A run that was broken off goes on with what is missing. With --month the folder has tables of a crew "
+        "system, and a book of each base and rank is made of them first.",
     )
-    at.add_argument("folder", metavar="FOLDER", help="has the books: files that end in .csv")
+    at.add_argument("folder", metavar="FOLDER", help="has the books: files that end in .csv; or tables")
+    at.add_argument("--month", metavar="YYYY-MM", help="of the tables: its books are made in FOLDER/books/YYYY-MM")
+    at.add_argument("--weight", type=int, metavar="UNITS", help="of the books that are made: what each minute costs by which a target is missed")
     at.add_argument("--effort", type=int, choices=range(10), default=5, metavar="N", help="of plans, from 0 to 9 (5)")
     at.add_argument("--engine", choices=("parallel", "slurm"), default="parallel", help="GNU parallel or Slurm (parallel)")
     at.add_argument("--hosts", metavar="FILE", help="a line for each host that GNU parallel reaches by ssh; ':' is this machine")
@@ -182,6 +186,10 @@ def main(words):
     given = words_of(words)
     if given.workers < 1 or given.workers > 64 or (given.jobs or 1) < 1:
         fail("--workers is from 1 to 64, and --jobs at least 1")
+    if (given.month is not None) != has_tables(given.folder) or (given.weight is not None and given.month is None):
+        fail("--month is for a folder with bases.csv, crew.csv, pairings.csv and duties.csv, and --weight goes with it")
+    if given.month is not None:
+        given.folder = make_books(os.path.abspath(given.folder), given.month, given.weight)
     for each in (signal.SIGTERM, signal.SIGHUP):
         signal.signal(each, interrupted)
     return Run(given).go()

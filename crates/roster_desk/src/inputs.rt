@@ -35,7 +35,10 @@ fn failed(error: &io::Error) -> InputFault<'static> {
 }
 
 /// The bytes of the reader up to its end.
-fn all_of<R: Read + Drop>(alloc: Global, mut reader: R) -> Result<Vec<u8>, InputFault<'static>> {
+pub(crate) fn all_of<R: Read + Drop>(
+    alloc: Global,
+    mut reader: R,
+) -> Result<Vec<u8>, InputFault<'static>> {
     let mut bytes = Vec::new(alloc);
     match reader.read_to_end(&mut bytes) {
         Ok(_) => Ok(bytes),

@@ -1,22 +1,33 @@
 //! `roster-desk`: a planner's companion to `roster`.
 //!
 //! - `inputs`: what the paths of the command line hold
+//! - `tables`: the files of a folder of tables
+//! - `carried`: what is carried into the next month
 //! - `watching`: what is told and kept of a plan while it is made
+//! - `months`: the commands that write a book, or tables of one
+//! - `ending`: how a run ends
 //!
 //! `main` opens the book and hands it to `run` of `roster_desk_run`, with the report that a plan begins with,
-//! or reads it and the reports whole and hands them to `tell` or `show` of `roster_desk_answers`.
+//! or reads it and the reports whole and hands them to `roster_desk_answers`.
 #![tactic(auto)]
 
+mod carried;
+mod ending;
 mod inputs;
+mod months;
+mod tables;
 mod watching;
 
 ghost use Rattle.std.specs.Prelude.{◌≡◌, ◌<◌, IfSome, false};
 ghost use Rattle.roster_watched.specs.Watch.{has_failed};
 
-use inputs::{InputFault, STANDARD_INPUT, read_book_at, read_inputs, read_report_at, shares_input};
-use roster_desk_answers::{Untold, mend, show, tell, tell_assigns};
-use roster_desk_arguments::{Line, LineFault, PageLine, PlanLine, RepairLine, TellLine, read_line};
-use roster_desk_given::Unknown;
+use ending::{
+    LINE_REFUSED, ended, inputs_shared, told, unopened, unread, unread_input, untold_ended,
+};
+use inputs::{STANDARD_INPUT, read_book_at, read_inputs, read_report_at, shares_input};
+use months::{answer_book, answer_carry, answer_repair};
+use roster_desk_answers::{show, tell, tell_assigns};
+use roster_desk_arguments::{Line, LineFault, PageLine, PlanLine, TellLine, read_line};
 use roster_desk_run::{Status, run};
 use roster_plan::Means;
 use roster_watched::Watched;
@@ -24,11 +35,8 @@ use std::fs::File;
 use std::io::{IsTerminal, Read};
 use std::process::ExitCode;
 use std::thread::Threads;
-use std::{env, io, str};
+use std::{env, io};
 use watching::Companion;
-
-/// The exit status of a command line that is refused.
-const LINE_REFUSED: u8 = 2;
 
 fn main(rt: HostRuntime) -> ExitCode {
     let words = match words(&rt) {
@@ -47,15 +55,6 @@ fn words<R: env::Env + AllocGlobal>(rt: &R) -> io::Result<Vec<String>> {
     Ok(env::args(rt)?.collect(rt.alloc())?)
 }
 
-/// A word of the command line is no text, or memory ran out on the way.
-fn unread(rt: &HostRuntime, error: &io::Error) -> ExitCode {
-    if error.kind() == io::ErrorKind::OutOfMemory {
-        return ended(rt, Status::Memory);
-    }
-    let _ = eprintln!(rt; "error: a word of the command line is not UTF-8");
-    ExitCode::from(LINE_REFUSED)
-}
-
 /// Answers the line.
 fn answer<T: Threads + Sync>(rt: &HostRuntime, threads: &T, line: &Line<'_>) -> ExitCode {
     match line {
@@ -64,6 +63,8 @@ fn answer<T: Threads + Sync>(rt: &HostRuntime, threads: &T, line: &Line<'_>) -> 
         Line::Assigns(path) => answer_assigns(rt, path),
         Line::Page(page) => answer_page(rt, page),
         Line::Repair(repair) => answer_repair(rt, repair),
+        Line::Book(book) => answer_book(rt, book),
+        Line::Carry(carry) => answer_carry(rt, carry),
     }
 }
 
@@ -188,121 +189,4 @@ fn answer_page(rt: &HostRuntime, line: &PageLine<'_>) -> ExitCode {
         rt,
         show(rt.alloc(), line.page, book.as_slice(), &mut writer),
     )
-}
-
-/// Writes the book of a repair.
-fn answer_repair(rt: &HostRuntime, line: &RepairLine<'_>) -> ExitCode {
-    if line.book == STANDARD_INPUT && line.report == STANDARD_INPUT {
-        return inputs_shared(rt);
-    }
-    let book = match read_book_at(rt, line.book) {
-        Ok(book) => book,
-        Err(fault) => return unread_input(rt, fault),
-    };
-    let report = match read_report_at(rt, line.report) {
-        Ok(report) => report,
-        Err(fault) => return unread_input(rt, fault),
-    };
-    let mut writer = Watched::new(io::writer(rt));
-    match mend(
-        rt.alloc(),
-        line,
-        book.as_slice(),
-        report.as_slice(),
-        &mut writer,
-    ) {
-        Ok(mended) => {
-            if mended.status == Status::Answered {
-                tell_text(rt, mended.notes.as_slice());
-            }
-            ended(rt, mended.status)
-        }
-        Err(untold) => untold_ended(rt, &untold),
-    }
-}
-
-/// Tells standard error a text.
-fn tell_text(rt: &HostRuntime, text: &[u8]) {
-    if let Ok(text) = str::from_utf8(text) {
-        let _ = eprint!(rt; "{text}");
-    }
-}
-
-/// Tells why nothing was told.
-fn untold_ended(rt: &HostRuntime, untold: &Untold<'_>) -> ExitCode {
-    match untold {
-        Untold::Unknown(Unknown::Pairing) => {
-            let _ = eprintln!(rt; "error: the book has no such pairing");
-            ExitCode::from(LINE_REFUSED)
-        }
-        Untold::Unknown(Unknown::Person) => {
-            let _ = eprintln!(rt; "error: the book has no such person");
-            ExitCode::from(LINE_REFUSED)
-        }
-        Untold::Report { path, fault } => {
-            let _ = eprintln!(rt; "error: {path}, {fault}");
-            Status::Refused.exit_code()
-        }
-        Untold::Words(wanted) => {
-            let _ = eprintln!(rt; "error: {wanted}");
-            ExitCode::from(LINE_REFUSED)
-        }
-        Untold::Faulty(faults) => {
-            let _ = eprintln!(rt;
-                "error: the repaired book would have a fault, as roster-desk fault tells it:"
-            );
-            tell_text(rt, faults.as_slice());
-            Status::Refused.exit_code()
-        }
-        Untold::Unlike => {
-            let _ = eprintln!(rt;
-                "error: the repaired book wouldn't ask for the same, so none is written"
-            );
-            Status::Refused.exit_code()
-        }
-        Untold::Memory => ended(rt, Status::Memory),
-    }
-}
-
-/// Tells that more than one path is standard input.
-fn inputs_shared(rt: &HostRuntime) -> ExitCode {
-    let _ = eprintln!(rt; "error: only one of the paths may be -");
-    ExitCode::from(LINE_REFUSED)
-}
-
-/// Tells why an input wasn't read.
-fn unread_input(rt: &HostRuntime, fault: InputFault<'_>) -> ExitCode {
-    match fault {
-        InputFault::Unopened(path) => unopened(rt, path),
-        InputFault::TooLong(path) => {
-            let _ = eprintln!(rt; "error: {path} is too long for a report");
-            Status::Refused.exit_code()
-        }
-        InputFault::Device => ended(rt, Status::ReadFailed),
-        InputFault::Memory => ended(rt, Status::Memory),
-    }
-}
-
-/// Tells that the file at the path can't be opened.
-fn unopened(rt: &HostRuntime, path: &str) -> ExitCode {
-    let _ = eprintln!(rt; "error: {path} can't be opened");
-    Status::ReadFailed.exit_code()
-}
-
-/// Tells why the words are refused, or what help they ask for.
-fn told(rt: &HostRuntime, error: &clap::Error) -> ExitCode {
-    let _ = error.print(rt);
-    if error.use_stderr() {
-        ExitCode::from(LINE_REFUSED)
-    } else {
-        ExitCode::SUCCESS
-    }
-}
-
-/// Tells what a run's status says, and gives the exit status.
-fn ended(rt: &HostRuntime, status: Status) -> ExitCode {
-    if let Some(text) = status.message() {
-        let _ = eprintln!(rt; "{text}");
-    }
-    status.exit_code()
 }

@@ -1,14 +1,21 @@
-//! What the desk answers of a roster of a book, of a report, or of the records of a book, written to a writer.
+//! What the desk answers of a roster of a book, of a report, of the records of a book, or of tables, written to a
+//! writer.
 //!
 //! - `telling`: what is told of a roster, and the records of a report
 //! - `pages`: what is told of the records of a book
 //! - `mending`: the book of a repair
+//! - `making`: the book of the tables of a folder
+//! - `carrying`: what the next month has of a month
 #![tactic(auto)]
 
+mod carrying;
+mod making;
 mod mending;
 mod pages;
 mod telling;
 
+pub use carrying::{Carried, CarryFiles, carry_on};
+pub use making::write_book;
 pub use mending::{Mended, mend};
 pub use pages::show;
 pub use telling::{Inputs, ReportRead, Untold, tell, tell_assigns};

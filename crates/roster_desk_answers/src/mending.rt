@@ -87,7 +87,7 @@ fn terms_of<'a>(line: &RepairLine<'a>) -> Result<Terms, Untold<'a>> {
 }
 
 /// Appends a line for each pairing of the report that the book doesn't have.
-fn push_unknown(
+pub(crate) fn push_unknown(
     alloc: Global,
     notes: &mut Vec<u8>,
     book: &Problem,

@@ -51,9 +51,9 @@ pub enum Untold<'a> {
     },
     /// A value of the command line is none: the sentence says which.
     Words(&'static str),
-    /// The repaired book would have the faults that the text tells.
+    /// The book that is made would have the faults that the text tells.
     Faulty(Vec<u8>),
-    /// The repaired book wouldn't ask for what is meant.
+    /// The book that is made wouldn't ask for what is meant.
     Unlike,
     /// Memory ran out.
     Memory,
