@@ -18,6 +18,10 @@ use std::alloc::{AllocError, Global};
 /// How often a region is tightened at once, at most.
 const MOST_TIGHTENINGS: usize = 32;
 
+/// It is tightened again if more than one in so many of what was left to decide has gone: what is left over goes
+/// after the next prices. With none left over a round more, which takes nothing away, ends it each time.
+const LEAST_PART: usize = 50;
+
 /// How far a cost lies from what it costs that nobody has a pairing, at most, in parts of a cost unit.
 pub(crate) const MOST_LIMIT: u64 = 1 << 61;
 
@@ -204,7 +208,8 @@ pub fn tighten(
         if !tighten_once(alloc, problem, region, prices, most)? {
             return Ok(false);
         }
-        if weight(problem, region) == before {
+        let gone = before.saturating_sub(weight(problem, region));
+        if gone <= before / LEAST_PART {
             break;
         }
     }

@@ -6,8 +6,8 @@ use Rattle.roster_search_fixing.proofs.Fixing.{match_true}
 use Rattle.roster_search_fixing.proofs.Narrowing.{narrowed_then}
 use Rattle.roster_search_fixing.proofs.tightening.tighten.Goals as goal
 
-pub returns-then-weight-before : goal.returns-then-weight-before
-returns-then-weight-before c =
+pub returns-then-gone-before : goal.returns-then-gone-before
+returns-then-gone-before c =
     let problem = c.args.problem.now in
     let most = to_z w64 (of_z w64 c.args.most) in
     let yes : c.in_ok-tighten_once.field-0 ≡ true = search rules in
