@@ -18,6 +18,10 @@ use std::alloc::{AllocError, Global};
 /// How often a region is tightened at once, at most.
 const MOST_TIGHTENINGS: usize = 32;
 
+/// It is tightened again if what follows takes away more than one in so many of what is left to decide: nothing
+/// else makes the bound rise, and each round looks at all lines.
+const LEAST_PART: usize = 50;
+
 /// How far a cost lies from what it costs that nobody has a pairing, at most, in parts of a cost unit.
 pub(crate) const MOST_LIMIT: u64 = 1 << 61;
 
@@ -200,11 +204,15 @@ pub fn tighten(
         (IsAllAbove problem.now region.old most)) }
 {
     for _ in 0..MOST_TIGHTENINGS {
-        let before = weight(problem, region);
         if !tighten_once(alloc, problem, region, prices, most)? {
             return Ok(false);
         }
-        if weight(problem, region) == before {
+        let before = weight(problem, region);
+        if !propagate(alloc, problem, region)? {
+            return Ok(false);
+        }
+        let gone = before.saturating_sub(weight(problem, region));
+        if gone <= before / LEAST_PART {
             break;
         }
     }
