@@ -196,7 +196,8 @@ def codes_in_documents(root, desk, tests, told):
     report = open(f"{root}/docs/REPORT.md", encoding="utf-8").read()
     for code, words in sorted(told.items()):
         tests.told(f"code {code} in docs/REPORT.md", f"| {code} | {words}" not in report and f"other words: {words}")
-    tests.told("codes of data/", set(told) != set(range(1, 16)) and f"only {sorted(told)}")
+    # Code 15 is no fault of a book for the desk: `crowded_books` asks for its words.
+    tests.told("codes of data/", set(told) != set(range(1, 15)) and f"only {sorted(told)}")
 
 
 def fault_books(root, desk, check, tests):
@@ -262,6 +263,9 @@ def crowded_books(root, desk, tests):
     wanted = open(f"{folder}/stdout").read().strip()
     told = text.partition("\nNOT FOR SOLVE\n")[2]
     tests.told("a person with too many sets", not text.startswith("NO FAULT\n") and "a fault", wanted not in told and f"told is {told}")
+    words = re.search("why     the record (.*): `roster solve` answers", told)
+    row = words and f"| 15 | {words[1]}"
+    tests.told("code 15 in docs/REPORT.md", (not row or row not in open(f"{root}/docs/REPORT.md", encoding="utf-8").read()) and f"other words: {told}")
     few = desk("fault", f"{root}/data/196527-legal-sets/book.csv").stdout.decode()
     tests.told("a person with as many sets as there may be", "SOLVE" in few and "too many")
 
@@ -364,7 +368,7 @@ WARNINGS = [
     (GOOD.replace("LHR,2024-06-12T08:00Z", "LHR,2024-06-12T07:59Z"), [("REST", 12)]),
     (GOOD + "duty,L1,C,ANNA,zrh,2024-06-20T08:00Z,2024-06-20T12:00Z\n", [("STATION", 15)]),
     (GOOD + MORNINGS, [("TWIN", 32)]),
-    (GOOD + MORNINGS.replace("T1,P,T1,ZRH,2024-06-11", "T1,P,T1,ZRH,2024-06-12"), []),
+    (GOOD + MORNINGS.replace("2024-06-11", "2024-06-12"), []),
     (GOOD.replace("P1,ZRH,500", "P1,ZRH,0") + MORNINGS, [("TWIN", 32), ("PENALTY", 9)]),
     (NO_CREW + "".join(f"crew,C{n},ZRH,0,{n},{100 * n + 7}\n" for n in range(1, 6)), [("ELEVEN", 15)]),
     (GOOD.replace("weight,2", "weight,0") + "".join(f"crew,C{n},ZRH,400,0,0\n" for n in range(4)), [("WEIGHT", 5)]),

@@ -638,10 +638,13 @@ def wrong_of_broken(run, desk, book):
 
 
 def walk(tests, run, roster, desk, root):
-    """The walk of the example: books without a fault or a warning, and a roster that is repaired and legal."""
+    """The walk of the example: books without a fault, whose targets are the only warning, and a roster that is repaired
+    and legal."""
     out = f"{tests.folder}/walk"
     walked = run(f"{root}/examples/tables/walk.sh", out, env={**os.environ, "DESK": desk})
-    is_clean = walked.stdout.startswith(b"NO FAULT\n") and walked.stdout.endswith(b"NO WARNING\nNO WARNING\n")
+    # So few pairings have less flight than the targets ask for.
+    warned = [line.split()[2] for line in walked.stdout.splitlines() if line.startswith(b"WARN ")]
+    is_clean = walked.stdout.startswith(b"NO FAULT\n") and warned == [b"SHARE", b"SHARE"]
     tests.told("the walk", walked.returncode != 0 and f"status {walked.returncode}: {walked.stderr}", not is_clean and f"told {walked.stdout}")
     june, published, changed, repaired, called = (read(f"{out}/{name}") for name in ("june.csv", "june.txt", "changed.csv", "rest.txt", "called.txt"))
     tests.told("the walk: DORA is on leave", b"leave,DORA,2024-06-11T22:00Z,2024-06-16T22:00Z" not in set(changed.splitlines()) - set(june.splitlines()) and "no leave")
