@@ -1,0 +1,110 @@
+"""What `tests/desk` asks of receipts of plans, which are written by scripts."""
+
+import hashlib
+import os
+import shutil
+
+
+def sum_of(data):
+    return hashlib.sha256(data).hexdigest()
+
+
+def read(path):
+    with open(path, "rb") as file:
+        return file.read()
+
+
+def write(path, data):
+    with open(path, "wb") as file:
+        file.write(data)
+
+
+def ends(tests, name, told, status, stdout=None, stderr=None):
+    """The run ended so; what isn't told here isn't asked."""
+    tests.told(
+        name,
+        told.returncode != status and f"status {told.returncode}",
+        stdout is not None and told.stdout != stdout and f"standard output {told.stdout[:300]}",
+        stderr is not None and told.stderr != stderr and f"standard error {told.stderr[:300]}",
+    )
+
+
+def receipts(tests, run, desk, root):
+    """A receipt has the sums of what a plan is made from, and of the plan, and the bytes come again."""
+    script, folder = f"{root}/roster-desk", os.path.join(tests.folder, "a folder")
+    os.mkdir(folder)
+    for name in ("book.csv", "start.txt"):
+        shutil.copy(f"{root}/examples/left-open{'.csv' if name == 'book.csv' else '.txt'}", f"{folder}/{name}")
+    # One that `solve` refuses, so more effort makes another plan.
+    shutil.copy(f"{root}/examples/month-of-twenty.csv", f"{folder}/large.csv")
+
+    def ran(*words, **more):
+        return run(script, *words, cwd=folder, **more)
+
+    version = ran("--version").stdout.decode()
+    for words, effort, sets, files in (
+        (["book.csv"], "5", "usual", ["book.csv"]),
+        (["--start", "start.txt", "--sets=7", "book.csv", "--effort", "1"], "1", "7", ["start.txt", "book.csv"]),
+        (["--effort=0", "--workers", "2", "--progress", "--keep", "kept.txt", "large.csv"], "0", "usual", ["large.csv"]),
+    ):
+        plain = run(desk, "plan", *words, cwd=folder)
+        told = ran("plan", "--receipt", "plan.receipt", *words)
+        ends(tests, f"plan {words} with a receipt", told, 0, plain.stdout, plain.stderr)
+        # What the bytes don't depend on isn't kept, and each value stands apart.
+        kept = [word for word in " ".join(words).replace("=", " ").split() if word not in ("--workers", "2", "--progress", "--keep", "kept.txt")]
+        wanted = "RECEIPT\n" + "".join(f"word         {word}\n" for word in kept) + f"effort       {effort}\nsets         {sets}\n"
+        wanted += "".join(f"file         {sum_of(read(f'{folder}/{file}'))}  {file}\n" for file in files)
+        wanted += f"plan         {sum_of(plain.stdout)}\n{version}"
+        receipt = read(f"{folder}/plan.receipt").decode()
+        tests.told(f"receipt of {words}", receipt != wanted and f"told is {receipt}")
+        if "--keep" in words:
+            write(f"{folder}/kept.txt", b"kept")
+        ends(tests, f"again {words}", ran("again", "plan.receipt"), 0, f"the same bytes: {sum_of(plain.stdout)}\n".encode(), b"")
+        tests.told(f"again {words} keeps nothing", "--keep" in words and read(f"{folder}/kept.txt") != b"kept" and "another file")
+    changed_receipts(tests, ran, folder)
+    refused_receipts(tests, ran, folder)
+
+
+def changed_receipts(tests, ran, folder):
+    """Whatever differs is told."""
+    good = read(f"{folder}/plan.receipt")
+    lines = good.splitlines(True)
+    for at, line in enumerate(lines):
+        word = line.split()[0].decode()
+        if word not in ("plan", "sources", "definitions", "program", "kit"):
+            continue
+        other = line[:13] + (b"0" if line[13:14] != b"0" else b"1") + line[14:]
+        write(f"{folder}/other.receipt", b"".join([*lines[:at], other, *lines[at + 1 :]]))
+        told = ran("again", "other.receipt")
+        comes = b"" if word == "plan" else b"the same bytes: " + good.split(b"plan         ")[1][:64] + b"\n"
+        ends(tests, f"again with another line {word}", told, 1, f"differs: {word}\n".encode() + comes)
+    write(f"{folder}/other.receipt", good.replace(b"effort\nword         0", b"effort\nword         1"))
+    told = ran("again", "other.receipt")
+    ends(tests, "again with more effort", told, 1, b"differs: plan\n")
+    book = read(f"{folder}/large.csv")
+    write(f"{folder}/large.csv", book + b"\n")
+    ends(tests, "again with another book", ran("again", "plan.receipt"), 1, b"differs: large.csv\n")
+    os.remove(f"{folder}/large.csv")
+    ends(tests, "again without the book", ran("again", "plan.receipt"), 4, b"", b"error: large.csv can't be opened\n")
+    write(f"{folder}/large.csv", book)
+
+
+def refused_receipts(tests, ran, folder):
+    """What no receipt is made of, and what is none."""
+    first = read(f"{folder}/book.csv")
+    for words in (["plan", "--receipt", "r", "-"], ["plan", "--receipt", "r", "--start", "-", "book.csv"], ["plan", "--receipt", "book.csv", "book.csv"], ["plan", "book.csv", "--receipt"], ["plan", "--receipt=", "book.csv"], ["again"], ["again", "plan.receipt", "plan.receipt"], ["plan", "--receipt", "r"], ["plan", "--receipt", "r", "--effort", "10", "book.csv"]):
+        told = ran(*words)
+        ends(tests, f"words {words}", told, 2, b"")
+        tests.told(f"reason of {words}", not told.stderr and "no reason", os.path.exists(f"{folder}/r") and "a receipt")
+    tests.told("the book that no receipt may be kept in", read(f"{folder}/book.csv") != first and "is another one")
+    helped = ran("plan", "--receipt", "r", "--help")
+    ends(tests, "help with a receipt", helped, 0, ran("plan", "--help").stdout)
+    ends(tests, "a receipt in no folder", ran("plan", "--receipt", "none/r", "book.csv"), 4, b"")
+    ends(tests, "a receipt of no book", ran("plan", "--receipt", "r", "none.csv"), 4, b"")
+    write(f"{folder}/fault.csv", b"period\n")
+    ends(tests, "a receipt of a fault", ran("plan", "--receipt", "r", "fault.csv"), 1, b"FAULT 1 3\n")
+    tests.told("a receipt of what is no plan", os.path.exists(f"{folder}/r") and "is there")
+    for text in (b"", b"RECEIPT\n", first):
+        write(f"{folder}/none.receipt", text)
+        ends(tests, f"again of {text[:9]}", ran("again", "none.receipt"), 1, b"", b"error: none.receipt is no receipt\n")
+    ends(tests, "again of nothing", ran("again", "nothing"), 4, b"", b"error: nothing can't be opened\n")
