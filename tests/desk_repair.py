@@ -229,6 +229,44 @@ def two_bases(tests, run, roster, desk, folder):
     tests.told("a pairing that the book lacks", not told.stderr.startswith(b"not in the book: K3 of KARI\n") and f"told {told.stderr}")
 
 
+# P7 is A's by the report, and breaks off at LHR: docs/REPAIR.md has the records in place of it.
+WHOLE = """period,2024-03
+base,BAS,UTC0
+crew,A,BAS,0,0,0
+crew,B,BAS,0,0,0
+pairing,P7,BAS,1000
+duty,D1,P,P7,BAS,2024-03-10T06:00Z,2024-03-10T14:00Z
+duty,D2,P,P7,LHR,2024-03-11T06:00Z,2024-03-11T12:00Z
+duty,D3,P,P7,LHR,2024-03-12T07:00Z,2024-03-12T13:00Z
+"""
+
+
+def broken_off(tests, run, roster, desk, root):
+    """What is left of a pairing that breaks off is a pairing that begins with a positioning duty."""
+    page = open(f"{root}/docs/REPAIR.md", encoding="utf-8").read()
+    records = page.partition("## A pairing that breaks off")[2].partition("```text\n")[2].partition("```")[0]
+    report = f"{tests.folder}/broken-off.txt"
+    with open(report, "wb") as file:
+        file.write(run(roster, "solve", book=WHOLE.encode()).stdout)
+    rest = WHOLE.partition("pairing,")[0] + records
+    made = run(desk, "repair", "--from", "2024-03-10T15:00Z", "-", report, book=rest.encode())
+    tests.told(
+        "a pairing that breaks off",
+        made.returncode != 0 and f"status {made.returncode}, {made.stderr}",
+        b"duty,D1,C,A,BAS," not in made.stdout and "D1 isn't fixed for A",
+        not made.stderr.startswith(b"fixed: 1 pairings, and 0 that stay open\n") and f"told {made.stderr}",
+    )
+    plan = run(desk, "plan", "-", book=made.stdout).stdout
+    rows = {line.split()[1]: line.split()[7:] for line in plan.splitlines() if line.startswith(b"CREW ")}
+    tests.told("the rest of a pairing that breaks off", rows != {b"A": [b"-"], b"B": [b"P7-2"]} and f"told {plan}")
+    late = rest.replace("2024-03-10T16:00Z,2024-03-10T19:00Z", "2024-03-10T16:00Z,2024-03-10T20:01Z")
+    told = run(desk, "why", "-", book=run(desk, "repair", "--from", "2024-03-10T15:00Z", "-", report, book=late.encode()).stdout)
+    tests.told("a positioning that is too late", b"P7-2 - nobody can fly it: REST: 9:59 of rest between D2-0 and D2 " not in told.stdout and f"told {told.stdout}")
+    away = "\n".join(line for line in rest.splitlines() if "D2-0" not in line) + "\n"
+    told = run(desk, "repair", "--from", "2024-03-10T15:00Z", "-", report, book=away.encode())
+    tests.told("a rest that begins away from base", told.returncode != 1 and f"status {told.returncode}", not told.stdout.endswith(b" 12\n") and f"told {told.stdout}")
+
+
 def repairs(tests, run, roster, desk, folder, first, count):
     """So many repairs, from this seed on."""
     for seed in range(first, first + count):
