@@ -1,5 +1,6 @@
--- What a report gives of a book that doesn't have all of its pairings.
-use Rattle.std.specs.Prelude.{ℕ, Bool, List, [], Option, is_some, map, filter}
+-- What a report gives of a book that doesn't have all of its persons and pairings.
+use Rattle.std.specs.Prelude.{◌++◌, ◌∷◌, ℕ, Bool, List, [], Option, codes, filter, if◌then◌else◌, is_some, map}
+use Rattle.std.specs.List.{flat_map}
 use Rattle.std.specs.Option.{option_or}
 use Rattle.roster_model.specs.Problem.{Problem}
 use Rattle.roster_model.specs.Record.{place_named}
@@ -10,6 +11,10 @@ use Rattle.roster_desk_reports.specs.Text.{Given, numbered_by_text}
 abbrev pub is_known : Problem → List ℕ → Bool
 is_known problem name = is_some (place_named (λ pairing. pairing.id) name problem.pairings)
 
+-- the book has a person of the name
+abbrev pub is_there : Problem → List ℕ → Bool
+is_there problem name = is_some (place_named (λ person. person.id) name problem.persons)
+
 abbrev pub known_names : Problem → List (List ℕ) → List (List ℕ)
 known_names problem names = filter (is_known problem) names
 
@@ -17,13 +22,33 @@ known_names problem names = filter (is_known problem) names
 abbrev pub known_numbered : Problem → ℕ × Given → ℕ × Given
 known_numbered problem numbered = (numbered.0, (numbered.1.0, known_names problem numbered.1.1))
 
--- what a text gives of the book's pairings, in its order
-abbrev pub known_by_text : Problem → List ℕ → List Given
-known_by_text problem text = map (λ numbered. (known_numbered problem numbered).1) (numbered_by_text text)
+-- so it is of the book's persons
+abbrev pub known_lines : Problem → List (ℕ × Given) → List (ℕ × Given)
+known_lines problem lines = map (known_numbered problem) (filter (λ numbered. is_there problem numbered.1.0) lines)
 
--- what is wrong with the report as one of a book that doesn't have all of its pairings
+-- what a text gives the book's persons of its pairings, in its order
+abbrev pub known_by_text : Problem → List ℕ → List Given
+known_by_text problem text = map (λ numbered. numbered.1) (known_lines problem (numbered_by_text text))
+
+-- what is wrong with the report as one of a book that doesn't have all of its persons and pairings
 abbrev pub fault_of_known : Problem → List ℕ → Option Told
 fault_of_known problem text =
     option_or (fault_of_text text)
     (option_or (month_fault problem (heading_of text))
-    (placing_fault problem [] (map (known_numbered problem) (numbered_by_text text))))
+    (placing_fault problem [] (known_lines problem (numbered_by_text text))))
+
+-- ---- what is passed over
+
+-- the line of a pairing of the person
+abbrev pub unknown_line : List ℕ → List ℕ → List ℕ
+unknown_line person pairing = codes "not in the book: " ++ pairing ++ codes " of " ++ person ++ 10 ∷ []
+
+-- that of the pairing if the book doesn't have it
+abbrev pub unknown_name : Problem → List ℕ → List ℕ → List ℕ
+unknown_name problem person pairing = if is_known problem pairing then [] else unknown_line person pairing
+
+-- the line of the person if the book doesn't have the person, and else those of the pairings that it doesn't have
+abbrev pub unknown_of : Problem → Given → List ℕ
+unknown_of problem given =
+    if is_there problem given.0 then flat_map (unknown_name problem given.0) given.1
+    else codes "not in the book: person " ++ given.0 ++ 10 ∷ []

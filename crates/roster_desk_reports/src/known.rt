@@ -1,4 +1,4 @@
-//! The roster that a report of another book gives, as far as the book has its pairings.
+//! The roster that a report of another book gives, as far as the book has its persons and pairings.
 
 ghost use Rattle.std.specs.Prelude.{◌≡◌, ◌<◌, ◌≤◌, ℕ, [], All, IfErr, IfOk, None, Some, is_some, length, map};
 ghost use Rattle.std.specs.Prelude.{filter, slice_get};
@@ -6,11 +6,12 @@ ghost use Rattle.std.specs.Option.{option_or};
 ghost use Rattle.roster_model.specs.Record.{place_named};
 ghost use Rattle.roster_desk_reports.specs.Faults.{IsTold};
 ghost use Rattle.roster_desk_reports.specs.Given.{HasAll, IsGiven};
-ghost use Rattle.roster_desk_reports.specs.Known.{fault_of_known, known_by_text, known_names, known_numbered};
+ghost use Rattle.roster_desk_reports.specs.Known.{fault_of_known, is_there, known_by_text, known_names};
+ghost use Rattle.roster_desk_reports.specs.Known.{known_numbered};
 ghost use Rattle.roster_desk_reports.specs.Text.{numbered_by_line};
 
 use crate::fault::ReportFault;
-use crate::named::pairing_named;
+use crate::named::{pairing_named, person_named};
 use crate::placing::places_of;
 use crate::report::{CrewLine, Report, read_report};
 use roster_problem::Problem;
@@ -43,24 +44,28 @@ fn known_line(alloc: Global, problem: &Problem, crew: CrewLine) -> Result<CrewLi
     })
 }
 
-/// The lines with those of their pairings that the book has.
-fn known_lines(
+/// The lines of the book's persons, with those of their pairings that the book has.
+fn known_crew(
     alloc: Global,
     problem: &Problem,
     lines: Vec<CrewLine>,
 ) -> Result<Vec<CrewLine>, AllocError>
     ensures { IfOk result (λ known. map numbered_by_line known.items
-        ≡ map (λ crew. known_numbered problem.now (numbered_by_line crew)) lines.items) }
+        ≡ map (λ crew. known_numbered problem.now (numbered_by_line crew))
+        (filter (λ crew. is_there problem.now crew.person) lines.items)) }
 {
     let mut known = Vec::new(alloc);
     for crew in lines {
-        known.push(known_line(alloc, problem, crew)?)?;
+        if person_named(problem, crew.person.as_bytes()).is_some() {
+            known.push(known_line(alloc, problem, crew)?)?;
+        }
     }
     Ok(known)
 }
 
-/// The roster that the text of a report gives of a book, as `read_roster` tells it, but that pairings which
-/// the book doesn't have are passed over: the report may be one of the book as it was.
+/// The roster that the text of a report gives of a book, as `read_roster` tells it, but that persons and
+/// pairings which the book doesn't have are passed over: the report may be one of the book as it was.
+/// `unknown_text` tells them.
 pub fn read_known_roster(
     alloc: Global,
     problem: &Problem,
@@ -69,7 +74,7 @@ pub fn read_known_roster(
     ensures covers { IfOk result (λ places. length places ≡ length problem.now.pairings) }
     ensures numbers { IfOk result
         (λ places. All (λ x. x ≤ length problem.now.persons) places) }
-    // Each person of a `CREW` line is in the book, and each of the line's pairings that the book has is theirs.
+    // Each of the book's pairings that a `CREW` line of one of its persons gives is theirs.
     ensures has { IfOk result
         (λ places. HasAll problem.now places (known_by_text problem.now text.now)) }
     // Who has a pairing has it by a `CREW` line.
@@ -82,7 +87,7 @@ pub fn read_known_roster(
 {
     match read_report(alloc, text) {
         Ok(report) => {
-            let crew = known_lines(alloc, problem, report.crew)?;
+            let crew = known_crew(alloc, problem, report.crew)?;
             let report = Report {
                 period: report.period,
                 first: report.first,

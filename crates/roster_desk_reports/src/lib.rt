@@ -10,6 +10,7 @@
 //! - `named`: persons and pairings of a book by their names
 //! - `placing`: the roster that a report gives of a book
 //! - `known`: that of a report of the book as it was
+//! - `unknown`: what such a report has and the book doesn't
 //! - `assigns`: the `assign` records that make a report's roster
 #![tactic(auto)]
 
@@ -19,6 +20,7 @@ mod known;
 mod named;
 mod placing;
 mod report;
+mod unknown;
 mod words;
 
 pub use assigns::assigns_text;
@@ -27,3 +29,4 @@ pub use known::read_known_roster;
 pub use named::{pairing_named, person_named};
 pub use placing::read_roster;
 pub use report::{CrewLine, Report, read_report};
+pub use unknown::unknown_text;

@@ -1,0 +1,86 @@
+//! What a report has and the book doesn't.
+
+ghost use Rattle.std.specs.Prelude.{◌≡◌, ◌++◌, IfOk, map, OnOk};
+ghost use Rattle.std.specs.List.{flat_map};
+ghost use Rattle.roster_desk_reports.specs.Known.{unknown_line, unknown_name, unknown_of};
+ghost use Rattle.roster_desk_reports.specs.Text.{given_by_line, given_by_text};
+
+use crate::fault::ReportFault;
+use crate::named::{pairing_named, person_named};
+use crate::report::{CrewLine, Report, read_report};
+use roster_problem::Problem;
+use roster_values::Name;
+use std::alloc::{AllocError, Global};
+
+/// Appends the line of a pairing of the person.
+fn push_line(out: &mut Vec<u8>, person: &Name, pairing: &Name) -> Result<(), AllocError>
+    ensures { OnOk result (out.new.items ≡ out.old.items ++ unknown_line person.now pairing.now) }
+{
+    out.extend_from_slice(b"not in the book: ")?;
+    out.extend_from_slice(pairing.as_bytes())?;
+    out.extend_from_slice(b" of ")?;
+    out.extend_from_slice(person.as_bytes())?;
+    out.push(b'\n')?;
+    Ok(())
+}
+
+/// Appends the line of the pairing of the person, if the book doesn't have it.
+fn push_name(
+    out: &mut Vec<u8>,
+    problem: &Problem,
+    person: &Name,
+    pairing: &Name,
+) -> Result<(), AllocError>
+    ensures { OnOk result (out.new.items ≡ out.old.items ++ unknown_name problem.now person.now pairing.now) }
+{
+    if pairing_named(problem, pairing.as_bytes()).is_some() {
+        return Ok(());
+    }
+    push_line(out, person, pairing)
+}
+
+/// Appends a line for each pairing of the `CREW` line that the book doesn't have.
+fn push_names(out: &mut Vec<u8>, problem: &Problem, crew: &CrewLine) -> Result<(), AllocError>
+    ensures { OnOk result (out.new.items
+        ≡ out.old.items ++ flat_map (unknown_name problem.now crew.now.person) crew.now.pairings.items) }
+{
+    for i in 0..crew.pairings.len() {
+        push_name(out, problem, &crew.person, &crew.pairings[i])?;
+    }
+    Ok(())
+}
+
+/// Appends what the book doesn't have of a `CREW` line: the person, or else pairings.
+fn push_crew(out: &mut Vec<u8>, problem: &Problem, crew: &CrewLine) -> Result<(), AllocError>
+    ensures { OnOk result
+        (out.new.items ≡ out.old.items ++ unknown_of problem.now (given_by_line crew.now)) }
+{
+    if person_named(problem, crew.person.as_bytes()).is_some() {
+        return push_names(out, problem, crew);
+    }
+    out.extend_from_slice(b"not in the book: person ")?;
+    out.extend_from_slice(crew.person.as_bytes())?;
+    out.push(b'\n')?;
+    Ok(())
+}
+
+/// What the book doesn't have of the report.
+fn unknown_in(alloc: Global, problem: &Problem, report: &Report) -> Result<Vec<u8>, AllocError>
+    ensures { IfOk result (λ out. out.items
+        ≡ flat_map (unknown_of problem.now) (map given_by_line report.now.crew.items)) }
+{
+    let mut out = Vec::new(alloc);
+    for i in 0..report.crew.len() {
+        push_crew(&mut out, problem, &report.crew[i])?;
+    }
+    Ok(out)
+}
+
+/// A line for each person of the report whom the book doesn't have, and for each other pairing of it that the
+/// book doesn't have, in the order of the report.
+pub fn unknown_text(alloc: Global, problem: &Problem, text: &[u8]) -> Result<Vec<u8>, ReportFault>
+    ensures { IfOk result (λ out. out.items ≡ flat_map (unknown_of problem.now) (given_by_text text.now)) }
+{
+    let report = read_report(alloc, text)?;
+    Ok(unknown_in(alloc, problem, &report)?)
+}
