@@ -1,3 +1,4 @@
 pub mod Asked
 pub mod Status
+pub mod Nearest
 pub mod Outcomes

@@ -11,3 +11,4 @@ exit_number (statuses.StartRefused line wrong) = 1
 exit_number statuses.Memory = 3
 exit_number statuses.ReadFailed = 4
 exit_number statuses.WriteFailed = 4
+exit_number statuses.Closed = 4

@@ -27,6 +27,8 @@ pub enum Status {
     ReadFailed,
     /// The writer failed, and the first bytes of the text were written, none or perhaps all.
     WriteFailed,
+    /// Whoever read what is written has stopped, and its first bytes were written.
+    Closed,
 }
 
 impl Status {
@@ -38,14 +40,15 @@ impl Status {
             Status::Answered => ExitCode::SUCCESS,
             Status::Refused | Status::StartRefused { .. } => ExitCode::from(1),
             Status::Memory => ExitCode::from(3),
-            Status::ReadFailed | Status::WriteFailed => ExitCode::from(4),
+            Status::ReadFailed | Status::WriteFailed | Status::Closed => ExitCode::from(4),
         }
     }
 
     /// What standard error is told, if anything. That a report is refused is told by whoever has its path.
     pub fn message(self) -> Option<&'static str> {
         match self {
-            Status::Answered | Status::Refused | Status::StartRefused { .. } => None,
+            Status::Answered | Status::Refused | Status::StartRefused { .. } | Status::Closed =>
+                None,
             Status::Memory => Some("error: memory"),
             Status::ReadFailed => Some("error: read"),
             Status::WriteFailed => Some("error: write"),

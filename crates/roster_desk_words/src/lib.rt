@@ -8,16 +8,19 @@
 //! - `times`: from when to when what is told of lies
 //! - `sentences`: a reason in words
 //! - `why`: who could have a pairing, and why others mustn't
+//! - `summary`: who is nearest to a pairing
 //! - `limits`: how near to each limit each person is
 #![tactic(auto)]
 
 mod limits;
 mod sentences;
+mod summary;
 mod times;
 mod why;
 mod words;
 
 pub use limits::{limits_text, push_limit};
 pub use sentences::push_reason;
+pub use summary::{open_text, pairing_text, push_near, push_summary};
 pub use why::why_text;
 pub use words::{instant, pairing_name, push_all, time};

@@ -14,7 +14,7 @@ use std::alloc::{AllocError, Global};
 const NO_PAIRING: &[u8] = b"-";
 
 /// Appends the rule and what breaks it.
-fn push_told(
+pub(crate) fn push_told(
     alloc: Global,
     out: &mut Vec<u8>,
     problem: &Problem,
@@ -52,8 +52,35 @@ fn push_broken(
     out.extend_from_slice(b"\n")
 }
 
-/// Appends the line of a pairing and a person: what the roster would cost if the person had it too, or why
-/// that isn't legal.
+/// Appends the person, and what the roster would cost if they had the pairing too, or why that isn't legal.
+pub(crate) fn push_outcome(
+    alloc: Global,
+    out: &mut Vec<u8>,
+    problem: &Problem,
+    zones: &Zones,
+    places: &[u16],
+    p: usize,
+    k: usize,
+) -> Result<(), AllocError>
+    requires covers { length places.now ≡ length problem.now.pairings }
+    requires pairing { p < length problem.now.pairings }
+    requires person { k < length problem.now.persons }
+{
+    push_all(out, &[problem.person(k).id.as_bytes(), b" "])?;
+    let (moved, outcome) = with_outcome(alloc, problem, places, p, k)?;
+    match outcome {
+        Outcome::Broken(told) => {
+            let list = duties_with(alloc, problem, moved.as_slice(), k)?;
+            push_told(alloc, out, problem, zones, k, &list, told)
+        }
+        Outcome::Costs(cost) => {
+            let digits = cost.to_string(alloc)?;
+            push_all(out, &[b"OK: the roster costs ", digits.as_bytes()])
+        }
+    }
+}
+
+/// Appends the line of a pairing and a person.
 fn push_line(
     alloc: Global,
     out: &mut Vec<u8>,
@@ -67,25 +94,13 @@ fn push_line(
     requires pairing { p < length problem.now.pairings }
     requires person { k < length problem.now.persons }
 {
-    let pairing = problem.pairing(p).id.as_bytes();
-    let person = problem.person(k).id.as_bytes();
-    push_all(out, &[pairing, b" ", person, b" "])?;
-    let (moved, outcome) = with_outcome(alloc, problem, places, p, k)?;
-    match outcome {
-        Outcome::Broken(told) => {
-            let list = duties_with(alloc, problem, moved.as_slice(), k)?;
-            push_told(alloc, out, problem, zones, k, &list, told)?;
-        }
-        Outcome::Costs(cost) => {
-            let digits = cost.to_string(alloc)?;
-            push_all(out, &[b"OK: the roster costs ", digits.as_bytes()])?;
-        }
-    }
+    push_all(out, &[problem.pairing(p).id.as_bytes(), b" "])?;
+    push_outcome(alloc, out, problem, zones, places, p, k)?;
     out.extend_from_slice(b"\n")
 }
 
 /// Appends the lines of those who break a rule with the roster or are locked, of the persons asked for.
-fn push_all_broken(
+pub(crate) fn push_all_broken(
     alloc: Global,
     out: &mut Vec<u8>,
     problem: &Problem,
