@@ -109,7 +109,7 @@ fn tell_fault(
         line,
         column,
     };
-    let cell = sheets.of(table).cell_at(line, column);
+    let cell = sheets.cell_at(place);
     let has = if cell.is_empty() {
         fault.has.as_slice()
     } else {

@@ -56,7 +56,10 @@ fn draft_of(
 fn passed_over(alloc: Global, sheets: &Sheets) -> Result<Vec<u8>, AllocError> {
     let mut out = Vec::new(alloc);
     for &table in &Table::ALL {
-        let names = sheets.of(table).passed_over(alloc)?;
+        let Some(sheet) = sheets.of(table) else {
+            continue;
+        };
+        let names = sheet.passed_over(alloc)?;
         if !names.is_empty() {
             let file = table.file();
             let head = format!(in alloc; "{file}: passed over ")?;

@@ -1,6 +1,6 @@
 //! The files of a folder, and the zone files that its tables name.
 
-use roster_desk_sheets::{Column, Mistakes, Sheet, Table, read_sheet};
+use roster_desk_sheets::{Column, Mistakes, Place, Sheet, Table, read_sheet};
 use roster_desk_times::{is_zone_name, read_zone};
 use std::alloc::{AllocError, Global};
 use std::str;
@@ -91,9 +91,9 @@ pub fn read_sheets(
 }
 
 impl Sheets {
-    /// The rows of the table.
-    pub fn of(&self, table: Table) -> &Sheet {
-        match table {
+    /// The rows of the table, if it is one of a folder.
+    pub fn of(&self, table: Table) -> Option<&Sheet> {
+        let sheet = match table {
             Table::Bases => &self.bases,
             Table::Stations => &self.stations,
             Table::Crew => &self.crew,
@@ -108,6 +108,16 @@ impl Sheets {
             Table::CarriedSectors => &self.carried_sectors,
             Table::CarriedLeave => &self.carried_leave,
             Table::CarriedFlown => &self.carried_flown,
+            Table::Names => return None,
+        };
+        Some(sheet)
+    }
+
+    /// What stands at the place; nothing if there is no such cell.
+    pub fn cell_at(&self, place: Place) -> &[u8] {
+        match self.of(place.table) {
+            Some(sheet) => sheet.cell_at(place.line, place.column),
+            None => &[],
         }
     }
 }

@@ -6,9 +6,11 @@
 //! - `mistakes`: what is wrong with cells, and what is wanted of them
 //! - `sheet`: the rows of a table
 //! - `records`: the records of a text that is written
+//! - `names`: what persons are called
 #![tactic(auto)]
 
 mod mistakes;
+mod names;
 mod records;
 mod rows;
 mod sheet;
@@ -16,7 +18,8 @@ mod shown;
 mod tables;
 
 pub use mistakes::{MOST_MISTAKES, Mistakes, Place};
-pub use records::Records;
+pub use names::{Called, Names, read_names};
+pub use records::{Look, Records};
 pub use rows::{Row, read_rows};
 pub use sheet::{Entry, Sheet, read_sheet};
 pub use shown::push_field;

@@ -100,26 +100,27 @@ impl Mistakes {
         self.text_in(alloc, folder, None)
     }
 
-    /// The same, if the ledger has a path of its own.
+    /// The same, if a table has a path of its own.
     pub fn text_with(
         &self,
         alloc: Global,
         folder: &str,
-        ledger: &str,
+        table: Table,
+        path: &str,
     ) -> Result<Vec<u8>, AllocError> {
-        self.text_in(alloc, folder, Some(ledger))
+        self.text_in(alloc, folder, Some((table, path)))
     }
 
-    // The lines, with the path of the ledger if it isn't in the folder.
+    // The lines, with the path of the table that isn't in the folder, if there is one.
     fn text_in(
         &self,
         alloc: Global,
         folder: &str,
-        ledger: Option<&str>,
+        outside: Option<(Table, &str)>,
     ) -> Result<Vec<u8>, AllocError> {
         let mut out = Vec::new(alloc);
         for mistake in &self.kept {
-            let path = path_of(alloc, folder, ledger, mistake.place.table)?;
+            let path = path_of(alloc, folder, outside, mistake.place.table)?;
             push_mistake(alloc, &mut out, path.as_str(), mistake)?;
         }
         if self.more > 0 {
@@ -135,11 +136,12 @@ impl Mistakes {
 fn path_of(
     alloc: Global,
     folder: &str,
-    ledger: Option<&str>,
+    outside: Option<(Table, &str)>,
     table: Table,
 ) -> Result<String, AllocError> {
-    if let (Some(path), Table::Flown) = (ledger, table) {
-        return String::from_str(alloc, path);
+    match outside {
+        Some((other, path)) if other == table => return String::from_str(alloc, path),
+        _ => {}
     }
     let file = table.file();
     format!(in alloc; "{folder}/{file}")

@@ -92,6 +92,14 @@ fn push_cut(alloc: Global, out: &mut Vec<u8>, field: &[u8], most: usize) -> Resu
     Ok(())
 }
 
+/// Whether the bytes are text of which each character can be shown.
+pub(crate) fn is_shown(bytes: &[u8]) -> bool {
+    match str::from_utf8(bytes) {
+        Ok(text) => !text.chars().any(is_hidden),
+        Err(_) => false,
+    }
+}
+
 /// Appends a field so that it can be shown.
 pub fn push_field(alloc: Global, out: &mut Vec<u8>, field: &[u8]) -> Result<(), AllocError> {
     push_cut(alloc, out, field, MOST_SHOWN)

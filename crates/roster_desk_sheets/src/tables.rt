@@ -31,6 +31,8 @@ pub enum Table {
     CarriedLeave,
     /// What persons have flown by the months before.
     CarriedFlown,
+    /// What persons are called: it has a path of its own, and no place in a folder.
+    Names,
 }
 
 /// A column of a table.
@@ -86,6 +88,8 @@ pub enum Column {
     Year,
     /// What was flown in the eleven months before: it comes from the ledger.
     Eleven,
+    /// What a person is called.
+    Name,
     /// All rows of a table.
     Rows,
     /// None: a cell behind the last one.
@@ -93,7 +97,7 @@ pub enum Column {
 }
 
 impl Table {
-    /// All tables, in the order in which they are read.
+    /// All tables of a folder, in the order in which they are read.
     pub const ALL: [Table; 14] = [
         Table::Bases,
         Table::Stations,
@@ -128,6 +132,7 @@ impl Table {
             Table::CarriedSectors => "carried-sectors.csv",
             Table::CarriedLeave => "carried-leave.csv",
             Table::CarriedFlown => "carried-flown.csv",
+            Table::Names => "names.csv",
         }
     }
 
@@ -166,6 +171,7 @@ impl Table {
                 &[Column::Person, Column::Month, Column::Flight]
             }
             Table::CarriedSectors => &[Column::Person, Column::Off, Column::On],
+            Table::Names => &[Column::Person, Column::Name],
         }
     }
 
@@ -226,6 +232,7 @@ impl Column {
             Column::Flight => "FLIGHT",
             Column::Year => "YEAR",
             Column::Eleven => "ELEVEN",
+            Column::Name => "NAME",
             Column::Outside => "behind the last column",
             _ => "its rows",
         }

@@ -4,6 +4,7 @@
 //! are only tested. In reading order:
 //!
 //! - `sums`: what a person's pairings cost, and the minutes of a report
+//! - `writing`: how a table looks, and what persons are called
 //! - `rows`: a row for each duty, leave and pairing of a person
 //! - `month`: days of work and free days of a person
 //! - `persons`: a row for each person
@@ -19,7 +20,9 @@ mod persons;
 mod rows;
 mod sums;
 mod table;
+mod writing;
 
 pub use changed::changed_text;
 pub use differences::differences_text;
 pub use table::{persons_table, roster_table};
+pub use writing::Sheet;

@@ -4,8 +4,8 @@ ghost use Rattle.std.specs.Prelude.{◌≡◌, ◌<◌, length};
 
 use crate::month::month_days;
 use crate::sums::sums_of;
+use crate::writing::TableRows;
 use roster_desk_given::duties_with;
-use roster_desk_sheets::Records;
 use roster_problem::Problem;
 use std::alloc::{AllocError, Global};
 
@@ -49,7 +49,7 @@ fn leaves_of(problem: &Problem, k: usize) -> usize
 /// Puts the row of person `k` behind the others.
 pub(crate) fn push_person(
     alloc: Global,
-    records: &mut Records,
+    rows: &mut TableRows<'_>,
     problem: &Problem,
     places: &[u16],
     k: usize,
@@ -74,7 +74,7 @@ pub(crate) fn push_person(
     let flight28 = sums.minutes[4].to_string(alloc)?;
     let target = person.target.to_string(alloc)?;
     let cost = sums.cost.to_string(alloc)?;
-    records.push(&[
+    rows.push(&[
         person.id.as_bytes(),
         problem.home(k).id.as_bytes(),
         pairings.as_bytes(),

@@ -2,8 +2,8 @@
 
 ghost use Rattle.std.specs.Prelude.{◌≡◌, ◌<◌, length};
 
+use crate::writing::TableRows;
 use roster_desk_given::{Zones, duties_with, utc};
-use roster_desk_sheets::Records;
 use roster_desk_words::pairing_name;
 use roster_instants::Minute;
 use roster_problem::{Duty, Holder, Problem, Sector};
@@ -106,7 +106,7 @@ fn pairing_row(problem: &Problem, p: usize) -> Option<TableRow<'_>>
 /// Puts the row of person `k` behind the others.
 fn push_row(
     alloc: Global,
-    records: &mut Records,
+    rows: &mut TableRows<'_>,
     problem: &Problem,
     zones: &Zones,
     k: usize,
@@ -124,7 +124,7 @@ fn push_row(
     let to = utc(alloc, row.to)?;
     let local_from = zones.local(alloc, person.base, row.from)?;
     let local_to = zones.local(alloc, person.base, row.to)?;
-    records.push(&[
+    rows.push(&[
         person.id.as_bytes(),
         row.kind,
         row.name,
@@ -142,7 +142,7 @@ fn push_row(
 /// Puts the rows of the pairings of person `k` behind the others.
 fn push_pairings(
     alloc: Global,
-    records: &mut Records,
+    rows: &mut TableRows<'_>,
     problem: &Problem,
     zones: &Zones,
     places: &[u16],
@@ -154,7 +154,7 @@ fn push_pairings(
     for p in 0..places.len() {
         if usize::from(places[p]) == k {
             if let Some(row) = pairing_row(problem, p) {
-                push_row(alloc, records, problem, zones, k, &row)?;
+                push_row(alloc, rows, problem, zones, k, &row)?;
             }
         }
     }
@@ -164,7 +164,7 @@ fn push_pairings(
 /// Puts the rows of the duties of person `k` behind the others.
 fn push_duties(
     alloc: Global,
-    records: &mut Records,
+    rows: &mut TableRows<'_>,
     problem: &Problem,
     zones: &Zones,
     places: &[u16],
@@ -176,7 +176,7 @@ fn push_duties(
     let list = duties_with(alloc, problem, places, k)?;
     for i in 0..list.len() {
         let row = duty_row(problem, list.duty(i));
-        push_row(alloc, records, problem, zones, k, &row)?;
+        push_row(alloc, rows, problem, zones, k, &row)?;
     }
     Ok(())
 }
@@ -184,7 +184,7 @@ fn push_duties(
 /// Puts the rows of the leaves of person `k` behind the others.
 fn push_leaves(
     alloc: Global,
-    records: &mut Records,
+    rows: &mut TableRows<'_>,
     problem: &Problem,
     zones: &Zones,
     k: usize,
@@ -202,7 +202,7 @@ fn push_leaves(
                 to: leave.to,
                 flight: None,
             };
-            push_row(alloc, records, problem, zones, k, &row)?;
+            push_row(alloc, rows, problem, zones, k, &row)?;
         }
     }
     Ok(())
@@ -212,7 +212,7 @@ fn push_leaves(
 /// leaves in book order.
 pub(crate) fn push_rows(
     alloc: Global,
-    records: &mut Records,
+    rows: &mut TableRows<'_>,
     problem: &Problem,
     zones: &Zones,
     places: &[u16],
@@ -221,7 +221,7 @@ pub(crate) fn push_rows(
     requires covers { length places.now ≡ length problem.now.pairings }
     requires person { k < length problem.now.persons }
 {
-    push_pairings(alloc, records, problem, zones, places, k)?;
-    push_duties(alloc, records, problem, zones, places, k)?;
-    push_leaves(alloc, records, problem, zones, k)
+    push_pairings(alloc, rows, problem, zones, places, k)?;
+    push_duties(alloc, rows, problem, zones, places, k)?;
+    push_leaves(alloc, rows, problem, zones, k)
 }

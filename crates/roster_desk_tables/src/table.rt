@@ -4,9 +4,9 @@ ghost use Rattle.std.specs.Prelude.{◌≡◌, ◌<◌, length};
 
 use crate::persons::push_person;
 use crate::rows::push_rows;
+use crate::writing::{Sheet, TableRows};
 use crate::{persons, rows};
 use roster_desk_given::Zones;
-use roster_desk_sheets::Records;
 use roster_problem::Problem;
 use std::alloc::{AllocError, Global};
 
@@ -17,15 +17,15 @@ pub fn roster_table(
     problem: &Problem,
     places: &[u16],
     zones: &Zones,
+    sheet: Sheet<'_>,
 ) -> Result<Vec<u8>, AllocError>
     requires { length places.now ≡ length problem.now.pairings }
 {
-    let mut records = Records::new(alloc);
-    records.push(&rows::COLUMNS)?;
+    let mut table = TableRows::under(alloc, sheet, &rows::COLUMNS)?;
     for k in 0..problem.persons().len() {
-        push_rows(alloc, &mut records, problem, zones, places, k)?;
+        push_rows(alloc, &mut table, problem, zones, places, k)?;
     }
-    records.finish()
+    table.finish()
 }
 
 /// A row for each person with the roster, under a row of names. The places are the roster, which needn't
@@ -34,13 +34,13 @@ pub fn persons_table(
     alloc: Global,
     problem: &Problem,
     places: &[u16],
+    sheet: Sheet<'_>,
 ) -> Result<Vec<u8>, AllocError>
     requires { length places.now ≡ length problem.now.pairings }
 {
-    let mut records = Records::new(alloc);
-    records.push(&persons::COLUMNS)?;
+    let mut table = TableRows::under(alloc, sheet, &persons::COLUMNS)?;
     for k in 0..problem.persons().len() {
-        push_person(alloc, &mut records, problem, places, k)?;
+        push_person(alloc, &mut table, problem, places, k)?;
     }
-    records.finish()
+    table.finish()
 }
