@@ -273,7 +273,7 @@ def crowded_books(root, desk, tests):
 # How many books are broken at random.
 BROKEN = 2000
 # What is asked of a broken book beside its faults.
-ASKED = [["why"], ["limits"], ["table"], ["table", "--persons"], ["chart"], ["warn"], ["plan", "--effort", "0"]]
+ASKED = [["why"], ["limits"], ["table"], ["table", "--persons"], ["chart"], ["warn"], ["fair"], ["plan", "--effort", "0"]]
 
 
 def is_clean(text):
@@ -453,12 +453,65 @@ def wrong_page(text):
     return page.wrong[:3] or page.open
 
 
+class Rows(html.parser.HTMLParser):
+    """What is drawn in the rows of persons and open pairings, by the row's head: tag and class, where it begins and ends
+    in hundredths of a percent, its title and its text."""
+
+    def __init__(self):
+        super().__init__()
+        self.rows, self.head, self.drawn, self.is_body = {}, "", None, False
+
+    def handle_starttag(self, tag, attrs):
+        attrs = dict(attrs)
+        self.is_body = self.is_body or tag == "tbody"
+        if tag == "th" and self.is_body:
+            self.head = attrs["title"].split(":")[0].split(" ")[0]
+            self.rows[self.head] = []
+        elif self.is_body and tag in ("i", "b", "u", "s", "var"):
+            left, width = re.findall(r"(?:left|width):(\d+\.\d\d)%", attrs["style"])
+            left, width = (round(100 * float(number)) for number in (left, width))
+            self.drawn = [tag, attrs.get("class", ""), left, left + width, attrs.get("title", ""), ""]
+            self.rows[self.head].append(self.drawn)
+
+    def handle_data(self, data):
+        if self.drawn:
+            self.drawn[5] += data
+
+    def handle_endtag(self, tag):
+        self.drawn = None
+        self.is_body = self.is_body and tag != "tbody"
+
+
+def wrong_row(row):
+    """What is wrong with a row: a pairing of several duties has one band round them, each pairing and each fixed duty has
+    its name once, no name runs over what begins behind it, and each layover has its station."""
+    duties, places = {}, {}
+    for tag, _, left, right, title, _ in row:
+        if tag == "i":
+            name = title.split(", duty ")[0] if ", duty " in title else title.split(" at ")[0].removeprefix("fixed duty ")
+            duties.setdefault(name, []).append((left, right, title.split(" at ")[1].split(":")[0]))
+    bands = {title.split(":")[0]: (left, right) for tag, kind, left, right, title, _ in row if tag == "u" and kind == "p"}
+    names = [(left, right, text) for tag, kind, left, right, _, text in row if tag == "var" and kind != "l"]
+    layovers = [(left, right, text) for tag, kind, left, right, _, text in row if tag == "var" and kind == "l"]
+    wanted = {name: (min(left for left, _, _ in all_of), max(right for _, right, _ in all_of)) for name, all_of in duties.items() if len(all_of) > 1}
+    begins = sorted(left for left, _, _ in names) + [left for tag, _, left, _, _, _ in row if tag == "b"]
+    gaps = [(one[1], other[0], other[2]) for all_of in duties.values() for one, other in zip(all_of, all_of[1:]) if one[1] < other[0]]
+    return (
+        bands != wanted and f"bands are {bands}"
+        or sorted(text for _, _, text in names) != sorted(duties) and f"names are {names}"
+        or any(left < begin < right for left, right, _ in names for begin in begins) and f"a name runs over another: {names}"
+        or any(left != duties[text][0][0] for left, _, text in names) and "a name stands elsewhere"
+        or sorted(layovers) != sorted(gaps) and f"layovers are {layovers}"
+    )
+
+
 def made(root, *words):
     return subprocess.run([f"{root}/bench/{words[0]}", *words[1:]], capture_output=True, check=True).stdout
 
 
 def charts(root, desk, check, tests):
     """A page is well-formed, fetches nothing, and has what the book has."""
+    drawn = 0
     for path in sorted(glob.glob(f"{root}/data/check-*/book.csv") + glob.glob(f"{root}/examples/*.csv")):
         book = open(path, "rb").read()
         if b"step," in book or check(book).startswith("FAULT "):
@@ -468,6 +521,15 @@ def charts(root, desk, check, tests):
         names = [line.split(b",")[1].decode() for line in book.splitlines() if line.startswith(b"crew,")]
         missing = [name for name in names if f">{name}" not in text]
         tests.told(f"chart of {path}", told.returncode != 0 and f"status {told.returncode}", wrong_page(text), missing and f"without {missing}")
+        rows = Rows()
+        rows.feed(text)
+        # Only in a legal roster duties don't overlap.
+        legal = {line.split()[1] for line in check(book, whole=True).splitlines() if line.startswith("CREW ") and line.endswith((" OK", " REST", " DUTY7", " FLIGHTYEAR"))}
+        for head, row in rows.rows.items():
+            if head in legal or head not in names:
+                tests.told(f"the row of {head} in {path}", wrong_row(row))
+        drawn += sum(len(row) for row in rows.rows.values())
+    tests.told("rows of charts", drawn < 100 and "hardly anything is drawn")
     told = desk("chart", "-", book=SANTIAGO)
     title = "P1, duty D1 at SCL: 2024-04-06T20:00Z (Sa 6, 17:00 local) to 2024-04-07T02:30Z; duty 6:30, flight 0:00"
     tests.told("local times beside a change of clocks", f'title="{title}"' not in told.stdout.decode() and "other times")

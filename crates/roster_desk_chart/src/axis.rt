@@ -1,6 +1,6 @@
 //! The days across, by the clocks of a base.
 
-ghost use Rattle.std.specs.Prelude.{◌≤◌};
+ghost use Rattle.std.specs.Prelude.{◌≡◌, ◌≤◌};
 
 use crate::html::{Place, percent};
 use jiff_core::civil::Date;
@@ -42,7 +42,9 @@ pub(crate) fn midnight(days: &BaseDays, day: usize) -> u64 {
 }
 
 /// The minute of the instant.
-pub(crate) fn minute(instant: Minute) -> u64 {
+pub(crate) fn minute(instant: Minute) -> u64
+    ensures { result ≡ instant }
+{
     instant.get().unsigned_abs()
 }
 

@@ -3,6 +3,7 @@
 ghost use Rattle.std.specs.Prelude.{◌<◌, length};
 
 use crate::axis::{Axis, midnight, minute};
+use crate::bands::{before_leave, hue_of, is_first, name_end, push_band, push_label};
 use crate::html::{Place, percent, push_open, push_text};
 use roster_desk_words::{pairing_name, push_all, time};
 use roster_instants::Minute;
@@ -95,8 +96,7 @@ fn push_bar(
     })?;
     push_all(out, &[left.as_bytes(), b";width:", width.as_bytes()])?;
     if let Holder::Pairing(p) = holder {
-        // Neighbours in the book get colours that lie far apart.
-        let hue = p.saturating_mul(137) % 360;
+        let hue = hue_of(p);
         let hue = format!(in alloc; ";--h:{hue}")?;
         out.extend_from_slice(hue.as_bytes())?;
     }
@@ -120,24 +120,56 @@ pub(crate) fn push_duty(
     push_bar(alloc, out, place, duty.holder, is_told)?;
     out.extend_from_slice(b" title=\"")?;
     push_text(out, title.as_slice())?;
-    out.extend_from_slice(b"\">")?;
-    match duty.holder {
-        Holder::Pairing(p) => push_text(out, pairing_name(problem, p))?,
-        Holder::Person(_) => push_text(out, duty.id.as_bytes())?,
-    }
-    out.extend_from_slice(b"</i>")
+    out.extend_from_slice(b"\"></i>")
 }
 
-/// Appends the bars of the duties of the list; those that the reason speaks of are marked.
-pub(crate) fn push_duties(
+/// Appends what stands under and over the bar of the duty at place `i` of the list of person `k`: the band of its
+/// pairing, if it is the first duty of it, and the name.
+fn push_name(
     alloc: Global,
     out: &mut Vec<u8>,
     axis: &Axis,
     problem: &Problem,
     list: &DutyList,
+    k: usize,
+    i: usize,
+) -> Result<(), AllocError>
+    requires person { k < length problem.now.persons }
+    requires duty { i < length list.now }
+{
+    let duty = list.duty(i);
+    let from = minute(duty.report);
+    // What ends before the days that are drawn has no bar.
+    if axis.place(from, minute(duty.release)).is_none() {
+        return Ok(());
+    }
+    let end = before_leave(problem, k, from, name_end(axis, list, duty.holder, i));
+    match duty.holder {
+        Holder::Pairing(p) if p < problem.pairings().len() => {
+            if !is_first(list, i) {
+                return Ok(());
+            }
+            push_band(alloc, out, axis, problem, p, end)
+        }
+        _ => push_label(alloc, out, axis, b"var", from, end, duty.id.as_bytes()),
+    }
+}
+
+/// Appends the bars of the duties of the list of person `k`, with bands and names of pairings; those that the
+/// reason speaks of are marked.
+pub(crate) fn push_duties(
+    alloc: Global,
+    out: &mut Vec<u8>,
+    axis: &Axis,
+    problem: &Problem,
+    k: usize,
+    list: &DutyList,
     reason: Option<Reason>,
-) -> Result<(), AllocError> {
+) -> Result<(), AllocError>
+    requires { k < length problem.now.persons }
+{
     for i in 0..list.len() {
+        push_name(alloc, out, axis, problem, list, k, i)?;
         let before = if i > 0 { Some(list.duty(i - 1)) } else { None };
         push_duty(
             alloc,

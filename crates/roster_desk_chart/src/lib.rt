@@ -6,6 +6,7 @@
 //! - `style`: how the page looks, and what it does
 //! - `html`: text of a page
 //! - `axis`: the days across
+//! - `bands`: pairings as bands, and names that don't run over one another
 //! - `bars`: duties, leave, recurrent rests and days off
 //! - `meters`: how much of each limit is used
 //! - `persons`: a person's row
@@ -14,6 +15,7 @@
 #![tactic(auto)]
 
 mod axis;
+mod bands;
 mod bars;
 mod html;
 mod meters;
@@ -23,3 +25,4 @@ mod persons;
 mod style;
 
 pub use page::chart_text;
+pub use persons::Words;

@@ -5,10 +5,9 @@ ghost use Rattle.std.specs.Prelude.{◌≡◌, ◌<◌, IfSome, length};
 use crate::axis::Axis;
 use crate::meters::push_names;
 use crate::open::{is_open, open_count, push_reasons, push_row};
-use crate::persons::push_person;
+use crate::persons::{Words, push_person};
 use crate::style::{SCRIPT, STYLE};
 use roster_cost::roster_cost;
-use roster_desk_given::Zones;
 use roster_desk_words::push_all;
 use roster_model::limits::MOST_BASES;
 use roster_problem::Problem;
@@ -16,8 +15,9 @@ use std::alloc::{AllocError, Global};
 
 /// What the signs of the page mean.
 const KEY: &[u8] =
-    b"<p class=\"key\"><span><i style=\"--h:137\">P</i>duty of a pairing, in its colour</span>\
-      <span><i class=\"f\">F</i>fixed duty</span><span><i class=\"x\">P</i>breaks the rule that is told</span>\
+    b"<p class=\"key\"><span><i style=\"--h:137\"></i>duty of a pairing, in its colour</span>\
+      <span><u class=\"p\" style=\"--h:137\"></u>from its first report to its last release</span>\
+      <span><i class=\"f\"></i>fixed duty</span><span><i class=\"x\"></i>breaks the rule that is told</span>\
       <span><b>leave</b></span><span><u></u>days off</span>\
       <span><u class=\"r\"></u>recurrent rest</span></p>\n";
 
@@ -120,7 +120,7 @@ fn push_rows(
     out: &mut Vec<u8>,
     axis: &Axis,
     problem: &Problem,
-    zones: &Zones,
+    words: Words<'_>,
     places: &[u16],
     base: usize,
 ) -> Result<(), AllocError>
@@ -128,7 +128,7 @@ fn push_rows(
 {
     for k in 0..problem.persons().len() {
         if problem.person(k).base == base {
-            push_person(alloc, out, axis, problem, zones, places, k)?;
+            push_person(alloc, out, axis, problem, words, places, k)?;
         }
     }
     for p in 0..problem.pairings().len() {
@@ -144,7 +144,7 @@ fn push_why(
     alloc: Global,
     out: &mut Vec<u8>,
     problem: &Problem,
-    zones: &Zones,
+    words: Words<'_>,
     places: &[u16],
     base: usize,
 ) -> Result<(), AllocError>
@@ -152,7 +152,7 @@ fn push_why(
 {
     for p in 0..problem.pairings().len() {
         if problem.pairing(p).base == base && is_open(problem, places, p) {
-            push_reasons(alloc, out, problem, zones, places, p)?;
+            push_reasons(alloc, out, problem, words.zones, places, p)?;
         }
     }
     Ok(())
@@ -175,7 +175,7 @@ fn push_base(
     alloc: Global,
     out: &mut Vec<u8>,
     problem: &Problem,
-    zones: &Zones,
+    words: Words<'_>,
     places: &[u16],
     base: usize,
 ) -> Result<(), AllocError>
@@ -186,9 +186,9 @@ fn push_base(
     };
     let axis = Axis::of_base(problem, base, problem.days_of(k));
     push_table_head(alloc, out, &axis, base, problem.home(k).id.as_bytes())?;
-    push_rows(alloc, out, &axis, problem, zones, places, base)?;
+    push_rows(alloc, out, &axis, problem, words, places, base)?;
     out.extend_from_slice(b"</tbody></table></div>\n")?;
-    push_why(alloc, out, problem, zones, places, base)
+    push_why(alloc, out, problem, words, places, base)
 }
 
 /// Appends the open pairings at whose base nobody is at home.
@@ -211,13 +211,13 @@ fn push_homeless(out: &mut Vec<u8>, problem: &Problem, places: &[u16]) -> Result
 }
 
 /// The page of a book's roster: for each base the days across, a row for each person, and below them the open
-/// pairings and why they are open. The places are the roster, which needn't be legal, and the zones those of
-/// the book's bases.
+/// pairings and why they are open. The places are the roster, which needn't be legal, and the zones of the words
+/// those of the book's bases.
 pub fn chart_text(
     alloc: Global,
     problem: &Problem,
     places: &[u16],
-    zones: &Zones,
+    words: Words<'_>,
 ) -> Result<Vec<u8>, AllocError>
     requires { length places.now ≡ length problem.now.pairings }
 {
@@ -225,7 +225,7 @@ pub fn chart_text(
     push_head(alloc, &mut out, problem)?;
     push_summary(alloc, &mut out, problem, places)?;
     for base in 0..MOST_BASES {
-        push_base(alloc, &mut out, problem, zones, places, base)?;
+        push_base(alloc, &mut out, problem, words, places, base)?;
     }
     push_homeless(&mut out, problem, places)?;
     push_all(

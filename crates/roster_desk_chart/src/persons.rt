@@ -7,39 +7,61 @@ use crate::bars::{push_days_off, push_duties, push_leaves, push_rests};
 use crate::html::push_text;
 use crate::meters::push_meters;
 use roster_desk_given::{Zones, broken_with, duties_with};
+use roster_desk_sheets::Names;
 use roster_desk_words::{push_all, push_reason};
 use roster_legal_reasons::Reason;
 use roster_problem::{DutyList, Problem};
 use std::alloc::{AllocError, Global};
+
+/// What instants and persons are told by.
+#[derive(Clone, Copy)]
+pub struct Words<'a> {
+    /// The zones of the book's bases.
+    pub zones: &'a Zones,
+    /// What persons are called.
+    pub names: &'a Names,
+}
+
+/// Appends what the head of the row begins with: the person's code, and the name if there is another one.
+fn push_code(out: &mut Vec<u8>, code: &[u8], called: &[u8]) -> Result<(), AllocError> {
+    push_all(out, &[b"<th scope=\"row\" tabindex=\"0\" title=\"", code])?;
+    if called != code {
+        out.extend_from_slice(b", ")?;
+        push_text(out, called)?;
+    }
+    Ok(())
+}
 
 /// Appends the head of the row: the name, and the word of the rule that the person breaks.
 fn push_name(
     alloc: Global,
     out: &mut Vec<u8>,
     problem: &Problem,
-    zones: &Zones,
+    words: Words<'_>,
     k: usize,
     list: &DutyList,
     told: Option<Reason>,
 ) -> Result<(), AllocError>
     requires { k < length problem.now.persons }
 {
-    let name = problem.person(k).id.as_bytes();
+    let code = problem.person(k).id.as_bytes();
+    let called = words.names.of(alloc, code)?;
+    let called = called.as_slice();
+    push_code(out, code, called)?;
     let Some(told) = told else {
-        push_all(out, &[b"<th scope=\"row\" tabindex=\"0\" title=\"", name])?;
         out.extend_from_slice(b": no rule is broken\">")?;
-        return push_all(out, &[name, b"</th>"]);
+        push_text(out, called)?;
+        return out.extend_from_slice(b"</th>");
     };
     let mut sentence = Vec::new(alloc);
-    push_reason(alloc, &mut sentence, problem, zones, k, list, told)?;
-    push_all(
-        out,
-        &[b"<th scope=\"row\" tabindex=\"0\" title=\"", name, b" "],
-    )?;
+    push_reason(alloc, &mut sentence, problem, words.zones, k, list, told)?;
+    out.extend_from_slice(b" ")?;
     out.extend_from_slice(told.rule().word().as_bytes())?;
     out.extend_from_slice(b": ")?;
     push_text(out, sentence.as_slice())?;
-    push_all(out, &[b"\">", name, b" <span class=\"w\">"])?;
+    out.extend_from_slice(b"\">")?;
+    push_text(out, called)?;
+    out.extend_from_slice(b" <span class=\"w\">")?;
     out.extend_from_slice(told.rule().word().as_bytes())?;
     out.extend_from_slice(b"</span></th>")
 }
@@ -50,7 +72,7 @@ pub(crate) fn push_person(
     out: &mut Vec<u8>,
     axis: &Axis,
     problem: &Problem,
-    zones: &Zones,
+    words: Words<'_>,
     places: &[u16],
     k: usize,
 ) -> Result<(), AllocError>
@@ -60,13 +82,13 @@ pub(crate) fn push_person(
     let list = duties_with(alloc, problem, places, k)?;
     let told = broken_with(alloc, problem, places, k)?;
     out.extend_from_slice(b"<tr>")?;
-    push_name(alloc, out, problem, zones, k, &list, told)?;
+    push_name(alloc, out, problem, words, k, &list, told)?;
     out.extend_from_slice(b"<td class=\"m\">")?;
     push_meters(alloc, out, problem, k, &list)?;
     out.extend_from_slice(b"</td><td><div class=\"t\">")?;
     push_days_off(alloc, out, axis, &list)?;
     push_rests(alloc, out, axis, &list)?;
     push_leaves(alloc, out, axis, problem, k)?;
-    push_duties(alloc, out, axis, problem, &list, told)?;
+    push_duties(alloc, out, axis, problem, k, &list, told)?;
     out.extend_from_slice(b"</div></td></tr>\n")
 }

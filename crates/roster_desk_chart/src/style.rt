@@ -30,10 +30,13 @@ thead .t{height:30px}
 thead .t span{position:absolute;top:0;bottom:0;text-align:center;line-height:14px;
 overflow:hidden;border-left:1px solid #999}
 thead .t span.c{background:#222;color:#fff}
-.t i,.t b,.t u,.t s{position:absolute;font-style:normal;font-weight:400;text-decoration:none}
+.t i,.t b,.t u,.t s,.t var{position:absolute;font-style:normal;font-weight:400;text-decoration:none}
 i,.key i{top:3px;bottom:3px;min-width:3px;border:1px solid #222;border-radius:3px;
-background:hsl(var(--h,210) 60% 80%);font-size:10px;line-height:17px;padding-left:2px;
-white-space:nowrap;text-shadow:0 0 2px #fff,0 0 2px #fff;z-index:3}
+background:hsl(var(--h,210) 60% 80%);font-size:10px;line-height:17px;z-index:3}
+.t u.p,.key u.p{top:7px;bottom:7px;border:1px solid #555;background:hsl(var(--h,210) 60% 90%);z-index:2}
+.t var{top:3px;height:11px;padding-left:2px;overflow:hidden;white-space:nowrap;font-size:10px;line-height:11px;
+text-shadow:0 0 2px #fff,0 0 2px #fff;pointer-events:none;z-index:5}
+.t var.l{top:auto;bottom:3px;height:9px;padding:0;font-size:8px;line-height:9px;text-align:center}
 i.f{background:repeating-linear-gradient(45deg,#fff 0 3px,#999 3px 5px)}
 i.x{outline:3px solid #c00000;outline-offset:-1px;z-index:4}
 b,.key b{top:1px;bottom:1px;border:1px dashed #555;
@@ -56,7 +59,8 @@ details li{font-variant-numeric:tabular-nums}
 summary{cursor:pointer}
 ul{margin:2px 0;padding-left:18px}
 @page{size:A3 landscape;margin:8mm}
-@media print{body{margin:0;font-size:10px}.say{display:none}.wide{overflow:visible}
+@media print{.t var{white-space:normal;overflow-wrap:anywhere;font-size:7px;line-height:6px}
+body{margin:0;font-size:10px}.say{display:none}.wide{overflow:visible}
 table{min-width:0}thead{display:table-header-group}h2{break-after:avoid}}
 ";
 
