@@ -1,0 +1,136 @@
+//! The text of a book with fair targets, on `csv`.
+
+ghost use Rattle.std.specs.Prelude.{◌≡◌, ◌<◌, ℕ, IfOk, IsTrue, None, Some, length, map, slice_get};
+ghost use Rattle.std.specs.List.{range_with_len};
+ghost use Rattle.roster_model.specs.Answer.{records_of};
+ghost use Rattle.roster_model.specs.Faults.{first_fault};
+ghost use Rattle.roster_model.specs.Problem.{problem_of, target_of};
+ghost use Rattle.roster_model.specs.Record.{Check};
+
+use crate::targets::fair_targets;
+use csv::{ByteRecord, ReaderBuilder};
+use roster_book::{Book, BookFault, Command, read_book};
+use roster_desk_sheets::Records;
+use roster_problem::Problem;
+use roster_watched::Watched;
+use std::alloc::{AllocError, Global};
+
+/// Where the target stands in the record of a person.
+const TARGET: usize = 3;
+
+/// Why there is no book.
+#[derive(Drop)]
+pub enum Unfair {
+    /// The text of the book, which would have a fault.
+    Faulty(Vec<u8>),
+    /// Its targets wouldn't be the fair ones, or a number is no machine's.
+    Other,
+    /// Memory ran out.
+    Memory,
+}
+
+impl From<AllocError> for Unfair {
+    fn from(_error: AllocError) -> Unfair {
+        Unfair::Memory
+    }
+}
+
+/// Puts the record behind the others, with the text in place of the target.
+fn push_person(
+    alloc: Global,
+    records: &mut Records,
+    fields: &ByteRecord,
+    target: &[u8],
+) -> Result<(), AllocError> {
+    let mut cells = Vec::new(alloc);
+    for i in 0..fields.len() {
+        let cell = if i == TARGET {
+            target
+        } else {
+            fields.get(i).unwrap_or(&[])
+        };
+        cells.push(cell)?;
+    }
+    records.push(cells.as_slice())
+}
+
+/// Puts the record behind the others as it is.
+fn push_other(alloc: Global, records: &mut Records, fields: &ByteRecord) -> Result<(), AllocError> {
+    let mut cells = Vec::new(alloc);
+    for i in 0..fields.len() {
+        cells.push(fields.get(i).unwrap_or(&[]))?;
+    }
+    records.push(cells.as_slice())
+}
+
+/// The book, whose bytes are the text, with these targets of its persons, in book order.
+fn text_with(alloc: Global, text: &[u8], fair: &[u64]) -> Result<Vec<u8>, AllocError> {
+    let reader = ReaderBuilder::new()
+        .has_headers(false)
+        .flexible(true)
+        .from_reader(alloc, text);
+    let mut records = Records::new(alloc);
+    let mut k = 0usize;
+    for record in reader.into_byte_records() {
+        // Bytes that are in memory are read without a fault of a device, and a record may have any number
+        // of fields of any bytes: so nothing but want of memory is left.
+        let Ok(fields) = record else {
+            return Err(AllocError);
+        };
+        let is_person = fields.get(0).is_some_and(|kind| kind == b"crew".as_slice());
+        let target = if is_person { fair.get(k) } else { None };
+        match target {
+            Some(target) => {
+                k = k.saturating_add(1);
+                let target = target.to_string(alloc)?;
+                push_person(alloc, &mut records, &fields, target.as_bytes())?;
+            }
+            None => push_other(alloc, &mut records, &fields)?,
+        }
+    }
+    records.finish()
+}
+
+/// The book that is read from the text.
+fn book_of(alloc: Global, text: &[u8]) -> Result<Book, BookFault>
+    ensures faultless { IfOk result (λ _. first_fault Check (records_of text.now) ≡ None) }
+    ensures problem { IfOk result (λ book. book.problem ≡ problem_of (records_of text.now)) }
+{
+    let mut reader = Watched::new(text);
+    read_book(alloc, &mut reader, Command::Check)
+}
+
+/// Whether the book has these targets, and no others.
+fn has_targets(book: &Problem, fair: &[u64]) -> bool
+    ensures { IsTrue result → (length fair.now ≡ length book.now.persons)
+        × ((k : ℕ) → k < length book.now.persons → slice_get fair.now k ≡ Some (target_of book.now k)) }
+{
+    let persons = book.persons();
+    if persons.len() != fair.len() {
+        return false;
+    }
+    for k in 0..persons.len() {
+        let person = &persons[k];
+        if u64::from(person.target) != fair[k] {
+            return false;
+        }
+    }
+    true
+}
+
+/// The book, whose bytes are the text, with fair targets. None is given if a share is more than a book may
+/// have.
+pub fn fair_book(alloc: Global, text: &[u8], book: &Problem) -> Result<Vec<u8>, Unfair>
+    ensures { IfOk result (λ text. first_fault Check (records_of text.items) ≡ None) }
+{
+    let Some(fair) = fair_targets(alloc, book)? else {
+        return Err(Unfair::Other);
+    };
+    let text = text_with(alloc, text, fair.as_slice())?;
+    match book_of(alloc, &text) {
+        Ok(read) if has_targets(&read.problem, &fair) => Ok(text),
+        Ok(_) | Err(BookFault::Device) => Err(Unfair::Other),
+        Err(BookFault::At { .. }) => Err(Unfair::Faulty(text)),
+        Err(BookFault::Memory) => Err(Unfair::Memory),
+    }
+}
