@@ -527,7 +527,17 @@ def starts(tests, run, roster, desk, example):
         tests.told(f"the weight {weight}", refused.returncode != 2 and f"status {refused.returncode}")
     # A report of a book with more pairings, of another month, and none at all.
     fewer = made(run, desk, example, "2024-06", ("ZRH",), "CP", "--start", path)
-    tests.told("a report with other persons", fewer.returncode != 1 and f"status {fewer.returncode}", b"the book has no such person" not in fewer.stderr and f"told {fewer.stderr}", fewer.stdout and "standard output")
+    there = {line.split(b",")[1] for line in fewer.stdout.splitlines() if line.startswith(b"crew,")}
+    left = [line.split(b",")[2] for line in assigns.splitlines() if line.split(b",")[2] not in there]
+    told = [line.split()[-1] for line in fewer.stderr.splitlines() if line.startswith(b"not in the book: person ")]
+    tests.told(
+        "a report with other persons",
+        fewer.returncode != 0 and f"status {fewer.returncode}",
+        not left and "all are there",
+        not set(left) <= set(told) and f"told {fewer.stderr}",
+        there & set(told) and "one who is there",
+        sorted(fewer.stdout.splitlines()[-1:])[0][:7] != b"assign," and "no roster",
+    )
     later = made(run, desk, example, "2024-07", (), "CP", "--start", path)
     tests.told("a report of another month", b", line 1: the book is of another month\n" not in later.stderr and f"told {later.stderr}", later.stdout and "standard output")
     none = made(run, desk, example, "2024-06", (), "CP", "--start", f"{tests.folder}/none.txt")

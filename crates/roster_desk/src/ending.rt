@@ -94,6 +94,10 @@ pub(crate) fn untold_ended(rt: &HostRuntime, untold: &Untold<'_>) -> ExitCode {
             );
             Status::Refused.exit_code()
         }
+        Untold::Names(mistakes) => {
+            tell_text(rt, mistakes.as_slice());
+            Status::Refused.exit_code()
+        }
         Untold::Memory => ended(rt, Status::Memory),
     }
 }

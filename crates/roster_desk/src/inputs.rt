@@ -1,6 +1,6 @@
 //! What the paths of a command line hold.
 
-use roster_desk_answers::{Inputs, ReportRead};
+use roster_desk_answers::{FileRead, Inputs};
 use roster_desk_arguments::{Question, TellLine};
 use std::alloc::Global;
 use std::fs::File;
@@ -83,12 +83,21 @@ fn other_path<'a>(line: &TellLine<'a>) -> Option<&'a str> {
     }
 }
 
-/// Whether more than one path is standard input.
+/// The path of the table that tells what persons are called, if there is one.
+fn names_path<'a>(line: &TellLine<'a>) -> Option<&'a str> {
+    match line.question {
+        Question::Table(table) => table.names,
+        Question::Chart { names } => names,
+        _ => None,
+    }
+}
+
+/// Whether more than one path is standard input. No question has names and another report.
 pub(crate) fn shares_input(line: &TellLine<'_>) -> bool {
     let book = line.book == STANDARD_INPUT;
     let report = line.report == Some(STANDARD_INPUT);
-    let other = other_path(line) == Some(STANDARD_INPUT);
-    book && (report || other) || report && other
+    let third = other_path(line).or(names_path(line)) == Some(STANDARD_INPUT);
+    book && (report || third) || report && third
 }
 
 /// The bytes of all inputs of the line.
@@ -98,7 +107,7 @@ pub(crate) fn read_inputs<'a>(
 ) -> Result<Inputs<'a>, InputFault<'a>> {
     let book = read_book_at(rt, line.book)?;
     let report = match line.report {
-        Some(path) => Some(ReportRead {
+        Some(path) => Some(FileRead {
             path,
             bytes: read_report_at(rt, path)?,
         }),
@@ -108,9 +117,17 @@ pub(crate) fn read_inputs<'a>(
         Some(path) => read_report_at(rt, path)?,
         None => Vec::new(rt.alloc()),
     };
+    let names = match names_path(line) {
+        Some(path) => Some(FileRead {
+            path,
+            bytes: read_book_at(rt, path)?,
+        }),
+        None => None,
+    };
     Ok(Inputs {
         book,
         report,
         other,
+        names,
     })
 }

@@ -18,24 +18,27 @@ mod months;
 mod tables;
 mod watching;
 
-ghost use Rattle.std.specs.Prelude.{◌≡◌, ◌<◌, IfSome, false};
+ghost use Rattle.std.specs.Prelude.{◌≡◌, ◌<◌, ◌≤◌, IfSome, None, false};
+ghost use Rattle.roster_model.specs.declared.limits.TheConstants.{MOST_WORKERS};
 ghost use Rattle.roster_watched.specs.Watch.{has_failed};
 
 use ending::{
-    LINE_REFUSED, ended, inputs_shared, told, unopened, unread, unread_input, untold_ended,
+    LINE_REFUSED, ended, inputs_shared, tell_text, told, unopened, unread, unread_input,
+    untold_ended,
 };
 use inputs::{STANDARD_INPUT, read_book_at, read_inputs, read_report_at, shares_input};
 use months::{answer_book, answer_carry, answer_repair};
 use roster_desk_answers::{show, tell, tell_assigns};
 use roster_desk_arguments::{Line, LineFault, PageLine, PlanLine, TellLine, read_line};
 use roster_desk_run::{Status, run};
+use roster_model::limits::MOST_WORKERS;
 use roster_plan::Means;
 use roster_watched::Watched;
 use std::fs::File;
 use std::io::{IsTerminal, Read};
 use std::process::ExitCode;
 use std::thread::Threads;
-use std::{env, io};
+use std::{env, io, thread};
 use watching::Companion;
 
 fn main(rt: HostRuntime) -> ExitCode {
@@ -120,12 +123,13 @@ fn plan<T: Threads + Sync, R: Read>(
     let status = run(
         threads,
         rt.alloc(),
-        &means_of(line),
+        &means_of(line, processors(threads)),
         report,
         reader,
         &mut writer,
         &mut companion,
     );
+    companion.finish();
     if let (Some(path), Status::StartRefused { line, wrong }) = (line.start, status) {
         let _ = eprintln!(rt; "error: {path}, line {line}: {wrong}");
     }
@@ -135,14 +139,28 @@ fn plan<T: Threads + Sync, R: Read>(
     ended(rt, status)
 }
 
-/// What the plan may take: what the line says, one worker at least.
-fn means_of(line: &PlanLine<'_>) -> Means
+/// How many processors there are for this run, so far as the machine says it and workers may be as many.
+fn processors<T: Threads>(threads: &T) -> usize
+    ensures some { 0 < result }
+    ensures most { result ≤ MOST_WORKERS }
+{
+    match thread::available_parallelism(threads) {
+        Ok(number) => number.get().min(MOST_WORKERS as usize),
+        Err(_) => 1,
+    }
+}
+
+/// What the plan may take: what the line says, and if it says nothing of workers one for each processor.
+fn means_of(line: &PlanLine<'_>, processors: usize) -> Means
+    requires { 0 < processors }
     ensures some { 0 < result.workers }
     ensures effort { result.effort ≡ line.now.effort }
-    ensures workers { 0 < line.now.workers → result.workers ≡ line.now.workers }
+    ensures workers { IfSome line.now.workers (λ workers. 0 < workers → result.workers ≡ workers) }
+    ensures usual_workers { line.now.workers ≡ None → result.workers ≡ processors }
     ensures sets { IfSome line.now.sets (λ sets. result.most_sets ≡ sets) }
 {
-    let usual = Means::of_effort(line.effort, line.workers.max(1));
+    let workers = line.workers.unwrap_or(processors).max(1);
+    let usual = Means::of_effort(line.effort, workers);
     Means {
         most_sets: line.sets.unwrap_or(usual.most_sets),
         ..usual
@@ -160,7 +178,10 @@ fn answer_tell(rt: &HostRuntime, line: &TellLine<'_>) -> ExitCode {
     };
     let mut writer = Watched::new(io::writer(rt));
     match tell(rt.alloc(), line.question, &inputs, &mut writer) {
-        Ok(status) => ended(rt, status),
+        Ok(noted) => {
+            tell_text(rt, noted.notes.as_slice());
+            ended(rt, noted.status)
+        }
         Err(untold) => untold_ended(rt, &untold),
     }
 }
@@ -185,8 +206,8 @@ fn answer_page(rt: &HostRuntime, line: &PageLine<'_>) -> ExitCode {
         Err(fault) => return unread_input(rt, fault),
     };
     let mut writer = Watched::new(io::writer(rt));
-    ended(
-        rt,
-        show(rt.alloc(), line.page, book.as_slice(), &mut writer),
-    )
+    match show(rt.alloc(), line.page, book.as_slice(), &mut writer) {
+        Ok(status) => ended(rt, status),
+        Err(untold) => untold_ended(rt, &untold),
+    }
 }

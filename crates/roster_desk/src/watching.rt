@@ -2,11 +2,14 @@
 
 ghost use Rattle.roster_plan.specs.Planned.{IsKnown};
 
-use roster_desk_run::write_known;
+use crate::ending::tell_text;
+use roster_desk_run::{Starter, write_known};
 use roster_plan::{Phase, Planned, Watcher};
-use roster_problem::Problem;
+use roster_problem::{Problem, open_number};
 use roster_watched::Watched;
+use std::alloc::{AllocError, Global};
 use std::fs::File;
+use std::time::Instant;
 use std::{fs, str};
 
 /// Tells standard error what is known of a plan, and keeps it in a file, as far as that is wanted.
@@ -14,8 +17,14 @@ use std::{fs, str};
 pub(crate) struct Companion<'a> {
     rt: &'a HostRuntime,
     is_told: bool,
-    // The cost and the bound of the last line.
-    last: Option<(i64, i64)>,
+    // When the plan was begun, if the clock tells it.
+    begun: Option<Instant>,
+    // The cost and the bound that are known.
+    known: Option<(i64, i64)>,
+    // The cost of the last line, and its second.
+    told: Option<(i64, u64)>,
+    // The line that isn't told yet, if one isn't.
+    waiting: Option<String>,
     // The path of the file, as long as it can be written.
     keep: Option<&'a str>,
     has_failed: bool,
@@ -27,7 +36,10 @@ impl<'a> Companion<'a> {
         Companion {
             rt,
             is_told,
-            last: None,
+            begun: Instant::now(rt).ok(),
+            known: None,
+            told: None,
+            waiting: None,
             keep,
             has_failed: false,
         }
@@ -38,31 +50,70 @@ impl<'a> Companion<'a> {
         self.has_failed
     }
 
-    // A line, if its numbers are new. A step of one base names it.
-    fn line(&mut self, step: Phase, base: Option<&str>, cost: i64, bound: i64) {
-        if self.last == Some((cost, bound)) {
+    // The whole seconds since the plan was begun.
+    fn seconds(&self) -> u64 {
+        match &self.begun {
+            Some(begun) => begun.elapsed(self.rt).map_or(0, |time| time.as_secs()),
+            None => 0,
+        }
+    }
+
+    // A line, if its numbers are new. One of a new cost is told at once, and others at most once a second.
+    fn line(&mut self, text: String, seconds: u64, cost: i64, bound: i64) {
+        if self.known == Some((cost, bound)) {
             return;
         }
-        self.last = Some((cost, bound));
-        let rt = self.rt;
-        let gap = cost.saturating_sub(bound);
-        let _ = match base {
-            Some(base) => {
-                eprintln!(rt; "{step} of {base}: cost {cost}, bound {bound}, gap {gap}")
-            }
-            None => eprintln!(rt; "{step}: cost {cost}, bound {bound}, gap {gap}"),
-        };
+        self.known = Some((cost, bound));
+        self.waiting = Some(text);
+        if self.told != Some((cost, seconds)) {
+            self.told = Some((cost, seconds));
+            self.finish();
+        }
     }
+
+    /// Tells the line that isn't told yet, if one isn't.
+    pub(crate) fn finish(&mut self) {
+        if let Some(text) = self.waiting.take() {
+            let rt = self.rt;
+            let _ = eprintln!(rt; "{text}");
+        }
+    }
+}
+
+/// The line of what is known by a step. A step of one base names it.
+fn line_of(
+    alloc: Global,
+    problem: &Problem,
+    base: Option<usize>,
+    step: Phase,
+    planned: &Planned,
+    seconds: u64,
+) -> Result<String, AllocError> {
+    let of_base = match base {
+        Some(base) => match name_of(problem, base) {
+            Some(name) => format!(in alloc; " of {name}")?,
+            None => String::new(alloc),
+        },
+        None => String::new(alloc),
+    };
+    let (cost, bound) = (planned.roster.cost, planned.bound);
+    let gap = cost.saturating_sub(bound);
+    let nobody = open_number(problem);
+    let places = planned.roster.places.as_slice();
+    let open = places.iter().filter(|place| **place == nobody).count();
+    format!(in alloc;
+        "{step}{of_base}: cost {cost}, bound {bound}, gap {gap}, {open} open, {seconds} s"
+    )
 }
 
 impl<'a> Watcher for Companion<'a> {
     fn tell(&mut self, problem: &Problem, base: Option<usize>, step: Phase, planned: &Planned) {
         if self.is_told {
-            let base = match base {
-                Some(base) => name_of(problem, base),
-                None => None,
-            };
-            self.line(step, base, planned.roster.cost, planned.bound);
+            let seconds = self.seconds();
+            let text = line_of(self.rt.alloc(), problem, base, step, planned, seconds);
+            if let Ok(text) = text {
+                self.line(text, seconds, planned.roster.cost, planned.bound);
+            }
         }
         let Some(path) = self.keep else {
             return;
@@ -86,6 +137,12 @@ impl<'a> Watcher for Companion<'a> {
         if let (Ok(pairing), Ok(person)) = names {
             let _ = eprintln!(rt; "left out of the start: {pairing} of {person}");
         }
+    }
+}
+
+impl<'a> Starter for Companion<'a> {
+    fn pass_over(&mut self, lines: &[u8]) {
+        tell_text(self.rt, lines);
     }
 }
 

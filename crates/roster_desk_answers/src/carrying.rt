@@ -114,7 +114,7 @@ fn tell_mistakes(
 ) -> Result<(), AllocError> {
     let folder = line.into.unwrap_or(".");
     let told = match line.flown {
-        Some(path) => mistakes.text_with(alloc, folder, path)?,
+        Some(path) => mistakes.text_with(alloc, folder, Table::Flown, path)?,
         None => mistakes.text(alloc, folder)?,
     };
     notes.extend_from_slice(told.as_slice())

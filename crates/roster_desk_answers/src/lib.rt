@@ -16,6 +16,6 @@ mod telling;
 
 pub use carrying::{Carried, CarryFiles, carry_on};
 pub use making::write_book;
-pub use mending::{Mended, mend};
+pub use mending::mend;
 pub use pages::show;
-pub use telling::{Inputs, ReportRead, Untold, tell, tell_assigns};
+pub use telling::{FileRead, Inputs, Noted, Untold, tell, tell_assigns};

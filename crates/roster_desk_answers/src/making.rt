@@ -5,8 +5,7 @@ ghost use Rattle.roster_model.specs.Answer.{records_of};
 ghost use Rattle.roster_model.specs.Faults.{first_fault};
 ghost use Rattle.roster_model.specs.Record.{Check};
 
-use crate::mending::{Mended, push_unknown};
-use crate::telling::{Untold, refused, write};
+use crate::telling::{Noted, Untold, push_unknown, refused, write};
 use roster_book::{BookFault, Command, read_book};
 use roster_desk_arguments::BookLine;
 use roster_desk_book::{Answer, Asked, make_book};
@@ -34,7 +33,7 @@ fn push_roster(records: &mut Records, problem: &Problem, places: &[u16]) -> Resu
 }
 
 /// Puts the `assign` records that give the book the roster of the report at the path behind the others.
-/// Pairings that the book doesn't have are told.
+/// Persons and pairings that the book doesn't have are told.
 fn push_assigns<'a>(
     alloc: Global,
     records: &mut Records,
@@ -49,9 +48,11 @@ fn push_assigns<'a>(
         Err(BookFault::Memory) => return Err(Untold::Memory),
         Err(_) => return Err(Untold::Unlike),
     };
-    push_unknown(alloc, notes, &problem, report)?;
     match read_known_roster(alloc, &problem, report) {
-        Ok(places) => Ok(push_roster(records, &problem, places.as_slice())?),
+        Ok(places) => {
+            push_unknown(alloc, notes, &problem, report)?;
+            Ok(push_roster(records, &problem, places.as_slice())?)
+        }
         Err(fault) => Err(refused(path, fault)),
     }
 }
@@ -125,11 +126,11 @@ pub fn write_book<'a, W: Write>(
     files: &Files,
     report: &[u8],
     writer: &mut Watched<W>,
-) -> Result<Mended, Untold<'a>> {
+) -> Result<Noted, Untold<'a>> {
     let mut notes = Vec::new(alloc);
     let status = match made(alloc, line, files, report, &mut notes)? {
         Some(book) => write(book.as_slice(), writer),
         None => Status::Refused,
     };
-    Ok(Mended { status, notes })
+    Ok(Noted { status, notes })
 }

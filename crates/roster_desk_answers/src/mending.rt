@@ -3,14 +3,14 @@
 ghost use Rattle.std.specs.Prelude.{◌≡◌, false};
 ghost use Rattle.roster_watched.specs.Watch.{has_failed};
 
-use crate::telling::{Untold, refuse, refused, write};
+use crate::telling::{Noted, Untold, push_unknown, refuse, refused, write};
 use roster_book::{Book, BookFault, Command, read_book};
 use roster_desk_arguments::RepairLine;
 use roster_desk_fault::fault_text;
 use roster_desk_given::Status;
 use roster_desk_repair::{RepairedBook, Unrepaired, repair};
 use roster_desk_repair_judged::Terms;
-use roster_desk_reports::{pairing_named, read_known_roster, read_report};
+use roster_desk_reports::read_known_roster;
 use roster_desk_words::push_all;
 use roster_instants::read_minute;
 use roster_legal::locked;
@@ -25,15 +25,6 @@ const NO_INSTANT: &str = "--from wants an instant in UTC, as 2024-06-12T06:00Z";
 
 /// What is said of a notice that is none.
 const NO_NOTICE: &str = "--notice wants a time and cost units, as 2d:2000, 36h:2000 or 90m:2000";
-
-/// A book was written, or not, and what standard error is told.
-#[derive(Drop)]
-pub struct Mended {
-    /// What has come of it.
-    pub status: Status,
-    /// What is told.
-    pub notes: Vec<u8>,
-}
 
 /// The number that the digits spell, so many times.
 fn number_of(digits: &str, times: u32) -> Option<u32> {
@@ -84,28 +75,6 @@ fn terms_of<'a>(line: &RepairLine<'a>) -> Result<Terms, Untold<'a>> {
         short,
         change,
     })
-}
-
-/// Appends a line for each pairing of the report that the book doesn't have.
-pub(crate) fn push_unknown(
-    alloc: Global,
-    notes: &mut Vec<u8>,
-    book: &Problem,
-    report: &[u8],
-) -> Result<(), AllocError> {
-    let Ok(report) = read_report(alloc, report) else {
-        return Ok(());
-    };
-    for crew in report.crew.iter() {
-        for name in crew.pairings.iter() {
-            if pairing_named(book, name.as_bytes()).is_none() {
-                let person = crew.person.as_bytes();
-                let name = name.as_bytes();
-                push_all(notes, &[b"not in the book: ", name, b" of ", person, b"\n"])?;
-            }
-        }
-    }
-    Ok(())
 }
 
 /// Appends a line for each person who is locked by what is fixed.
@@ -196,7 +165,7 @@ pub fn mend<'a, W: Write>(
     text: &[u8],
     report: &[u8],
     writer: &mut Watched<W>,
-) -> Result<Mended, Untold<'a>>
+) -> Result<Noted, Untold<'a>>
     requires { has_failed writer.old ≡ false }
 {
     let terms = terms_of(line)?;
@@ -212,5 +181,5 @@ pub fn mend<'a, W: Write>(
         Err(BookFault::Device) => Status::ReadFailed,
         Err(BookFault::Memory) => Status::Memory,
     };
-    Ok(Mended { status, notes })
+    Ok(Noted { status, notes })
 }

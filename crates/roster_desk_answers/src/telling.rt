@@ -1,40 +1,58 @@
 //! What is told of a roster of a book, and the records of a report.
 
-ghost use Rattle.std.specs.Prelude.{◌≡◌, IfOk, length, false};
+ghost use Rattle.std.specs.Prelude.{◌≡◌, ◌++◌, [], IfOk, length, false, None, OnOk};
+ghost use Rattle.std.specs.List.{flat_map};
+ghost use Rattle.roster_desk_reports.specs.Known.{unknown_of};
+ghost use Rattle.roster_desk_reports.specs.Text.{given_by_text};
 ghost use Rattle.roster_watched.specs.Watch.{has_failed};
 
 use roster_book::{Book, BookFault, Command, read_book};
-use roster_desk_arguments::Question;
-use roster_desk_chart::chart_text;
-use roster_desk_given::{Status, Unknown, find, read_zones};
-use roster_desk_reports::{ReportFault, assigns_text, read_known_roster, read_report, read_roster};
-use roster_desk_tables::{changed_text, differences_text, persons_table, roster_table};
-use roster_desk_words::{limits_text, why_text};
+use roster_desk_arguments::{Question, TableLine};
+use roster_desk_chart::{Words, chart_text};
+use roster_desk_given::{Asked, Status, Unknown, Zones, find, read_zones};
+use roster_desk_reports::{
+    ReportFault, assigns_text, read_known_roster, read_report, read_roster, unknown_text,
+};
+use roster_desk_sheets::{Look, Mistakes, Names, Table, read_names};
+use roster_desk_tables::{Sheet, changed_text, differences_text, persons_table, roster_table};
+use roster_desk_words::{limits_text, open_text, pairing_text, why_text};
 use roster_problem::Problem;
 use roster_report::{TextFault, write_fault};
 use roster_values::Places;
 use roster_watched::Watched;
 use std::alloc::{AllocError, Global};
+use std::io;
 use std::io::Write;
 
-/// A report that was read.
+/// A file that was read.
 #[derive(Drop)]
-pub struct ReportRead<'a> {
+pub struct FileRead<'a> {
     /// Its path, or `-`.
     pub path: &'a str,
     /// What it holds.
     pub bytes: Vec<u8>,
 }
 
-/// A book and the reports beside it, as their bytes.
+/// A book and the files beside it, as their bytes.
 #[derive(Drop)]
 pub struct Inputs<'a> {
     /// The book.
     pub book: Vec<u8>,
     /// The report that gives the roster; none if the book gives it.
-    pub report: Option<ReportRead<'a>>,
+    pub report: Option<FileRead<'a>>,
     /// The report that gives the other roster; empty if there is none.
     pub other: Vec<u8>,
+    /// The table that tells what persons are called, if there is one.
+    pub names: Option<FileRead<'a>>,
+}
+
+/// What has come of it, and what standard error is told.
+#[derive(Drop)]
+pub struct Noted {
+    /// How it ended.
+    pub status: Status,
+    /// What is told.
+    pub notes: Vec<u8>,
 }
 
 /// Why nothing was told, if that isn't the book's fault.
@@ -55,6 +73,8 @@ pub enum Untold<'a> {
     Faulty(Vec<u8>),
     /// The book that is made wouldn't ask for what is meant.
     Unlike,
+    /// Something is wrong with the table of names, as the text tells.
+    Names(Vec<u8>),
     /// Memory ran out.
     Memory,
 }
@@ -85,19 +105,57 @@ pub fn tell<'a, W: Write>(
     question: Question<'a>,
     inputs: &Inputs<'a>,
     writer: &mut Watched<W>,
-) -> Result<Status, Untold<'a>>
+) -> Result<Noted, Untold<'a>>
     requires { has_failed writer.old ≡ false }
 {
+    let mut notes = Vec::new(alloc);
     let mut reader = Watched::new(inputs.book.as_slice());
-    match read_book(alloc, &mut reader, Command::Check) {
+    let status = match read_book(alloc, &mut reader, Command::Check) {
         Ok(book) => {
             let text = text(alloc, question, inputs, &book)?;
-            Ok(write(text.as_slice(), writer))
+            push_notes(alloc, &mut notes, question, inputs, &book.problem)?;
+            write(text.as_slice(), writer)
         }
-        Err(BookFault::At { row, code }) => Ok(refuse(alloc, row, code, writer)),
-        Err(BookFault::Device) => Ok(Status::ReadFailed),
-        Err(BookFault::Memory) => Ok(Status::Memory),
+        Err(BookFault::At { row, code }) => refuse(alloc, row, code, writer),
+        Err(BookFault::Device) => Status::ReadFailed,
+        Err(BookFault::Memory) => Status::Memory,
+    };
+    Ok(Noted { status, notes })
+}
+
+/// Appends a line for each person and pairing of the report, which gives a roster of the book, that the book
+/// doesn't have.
+pub(crate) fn push_unknown(
+    alloc: Global,
+    notes: &mut Vec<u8>,
+    book: &Problem,
+    report: &[u8],
+) -> Result<(), AllocError>
+    ensures { OnOk result (notes.new.items
+        ≡ notes.old.items ++ flat_map (unknown_of book.now) (given_by_text report.now)) }
+{
+    match unknown_text(alloc, book, report) {
+        Ok(text) => notes.extend_from_slice(text.as_slice()),
+        Err(_) => Err(AllocError),
     }
+}
+
+/// Appends what the reports of a difference have and the book doesn't.
+fn push_notes<'a>(
+    alloc: Global,
+    notes: &mut Vec<u8>,
+    question: Question<'a>,
+    inputs: &Inputs<'a>,
+    book: &Problem,
+) -> Result<(), AllocError> {
+    match question {
+        Question::Differences { .. } | Question::Changed { .. } => {}
+        _ => return Ok(()),
+    }
+    if let Some(report) = &inputs.report {
+        push_unknown(alloc, notes, book, report.bytes.as_slice())?;
+    }
+    push_unknown(alloc, notes, book, inputs.other.as_slice())
 }
 
 /// Writes the `assign` records that the report at the path gives.
@@ -136,7 +194,7 @@ pub(crate) fn refuse<W: Write>(
 }
 
 /// The roster that the report at the path gives of the book. A difference may be one of reports of the book as
-/// it was, so it passes over pairings that the book doesn't have.
+/// it was, so it passes over persons and pairings that the book doesn't have.
 fn given<'a>(
     alloc: Global,
     question: Question<'a>,
@@ -195,23 +253,28 @@ fn told<'a>(
     requires { length places.now ≡ length problem.now.pairings }
 {
     match question {
-        Question::Why { pairing, person } => {
+        Question::Why {
+            pairing,
+            person,
+            all,
+        } => {
             let found = find(problem, pairing, person)?;
             let zones = read_zones(alloc, inputs.book.as_slice())?;
-            Ok(why_text(alloc, problem, places, &zones, found)?)
+            Ok(why(alloc, problem, places, &zones, found, all)?)
         }
         Question::Limits { person } => {
             let found = find(problem, None, person)?;
             Ok(limits_text(alloc, problem, places, found.person)?)
         }
-        Question::Table => {
+        Question::Table(line) => table_of(alloc, line, inputs, problem, places),
+        Question::Chart { .. } => {
             let zones = read_zones(alloc, inputs.book.as_slice())?;
-            Ok(roster_table(alloc, problem, places, &zones)?)
-        }
-        Question::Persons => Ok(persons_table(alloc, problem, places)?),
-        Question::Chart => {
-            let zones = read_zones(alloc, inputs.book.as_slice())?;
-            Ok(chart_text(alloc, problem, places, &zones)?)
+            let names = names_of(alloc, inputs)?;
+            let words = Words {
+                zones: &zones,
+                names: &names,
+            };
+            Ok(chart_text(alloc, problem, places, words)?)
         }
         Question::Differences { other } => {
             let after = given(alloc, question, problem, other, inputs.other.as_slice())?;
@@ -222,6 +285,71 @@ fn told<'a>(
             changed(alloc, inputs, problem, places, after.as_slice())
         }
     }
+}
+
+/// The text that tells why pairings are open: each line of what is asked for if all are wanted or a person is
+/// named, and else who is nearest.
+fn why(
+    alloc: Global,
+    problem: &Problem,
+    places: &[u16],
+    zones: &Zones,
+    asked: Asked,
+    all: bool,
+) -> Result<Vec<u8>, AllocError>
+    requires { length places.now ≡ length problem.now.pairings }
+{
+    if all || asked.person.is_some() {
+        return why_text(alloc, problem, places, zones, asked);
+    }
+    match asked.pairing {
+        Some(p) if p < places.len() => pairing_text(alloc, problem, places, zones, p),
+        _ => open_text(alloc, problem, places, zones),
+    }
+}
+
+/// What persons are called by the table among the inputs; nobody has a name if there is none.
+fn names_of<'a>(alloc: Global, inputs: &Inputs<'a>) -> Result<Names, Untold<'a>>
+    ensures { inputs.now.names ≡ None → IfOk result (λ names. names.called.items ≡ []) }
+{
+    let Some(file) = &inputs.names else {
+        return Ok(Names::none(alloc));
+    };
+    let mut mistakes = Mistakes::none(alloc);
+    let names = read_names(alloc, file.bytes.as_slice(), &mut mistakes)?;
+    if mistakes.is_empty() {
+        return Ok(names);
+    }
+    Err(Untold::Names(mistakes.text_with(alloc, "", Table::Names, file.path)?))
+}
+
+/// The rows of the roster, as the line wants them.
+fn table_of<'a>(
+    alloc: Global,
+    line: TableLine<'a>,
+    inputs: &Inputs<'a>,
+    problem: &Problem,
+    places: &[u16],
+) -> Result<Vec<u8>, Untold<'a>>
+    requires { length places.now ≡ length problem.now.pairings }
+{
+    let names = names_of(alloc, inputs)?;
+    let sheet = Sheet {
+        look: Look {
+            semicolon: line.semicolon,
+            mark: line.bom,
+        },
+        names: if inputs.names.is_some() {
+            Some(&names)
+        } else {
+            None
+        },
+    };
+    if line.persons {
+        return Ok(persons_table(alloc, problem, places, sheet)?);
+    }
+    let zones = read_zones(alloc, inputs.book.as_slice())?;
+    Ok(roster_table(alloc, problem, places, &zones, sheet)?)
 }
 
 /// The text that tells whose month differs between the rosters.
@@ -241,11 +369,13 @@ fn changed<'a>(
 
 /// Writes the whole text.
 pub(crate) fn write<W: Write>(text: &[u8], writer: &mut Watched<W>) -> Status {
-    if writer.write_all(text).is_err() {
-        return Status::WriteFailed;
-    }
-    match writer.flush() {
+    let done = match writer.write_all(text) {
+        Ok(()) => writer.flush(),
+        Err(error) => Err(error),
+    };
+    match done {
         Ok(()) => Status::Answered,
+        Err(error) if error.kind() == io::ErrorKind::BrokenPipe => Status::Closed,
         Err(_) => Status::WriteFailed,
     }
 }

@@ -52,7 +52,7 @@ bounded_plan_app =
     with_rule
     (with_rule
     (with_rule (with_rule (new_app (codes "plan")) book_rule) (usual_rule (codes "effort") 0 9 (codes "5")))
-    (usual_rule (codes "workers") 1 MOST_WORKERS (codes "1"))) (number_rule (codes "sets") 1 MOST_LINES)
+    (number_rule (codes "workers") 1 MOST_WORKERS)) (number_rule (codes "sets") 1 MOST_LINES)
 
 abbrev pub plan_app : App
 plan_app =
@@ -60,25 +60,35 @@ plan_app =
     (with_rule (with_rule bounded_plan_app (named_rule (codes "start"))) (flag_rule (codes "progress")))
     (named_rule (codes "keep"))
 
+abbrev pub begun_why_app : App
+begun_why_app = with_rule (with_rule (new_app (codes "why")) book_rule) report_rule
+
 abbrev pub why_app : App
 why_app =
     with_rule
-    (with_rule
-    (with_rule (with_rule (new_app (codes "why")) book_rule) report_rule) (named_rule (codes "pairing")))
-    (named_rule (codes "person"))
+    (with_rule (with_rule begun_why_app (named_rule (codes "pairing"))) (named_rule (codes "person")))
+    (flag_rule (codes "all"))
 
 abbrev pub limits_app : App
 limits_app =
     with_rule
     (with_rule (with_rule (new_app (codes "limits")) book_rule) report_rule) (named_rule (codes "person"))
 
-abbrev pub table_app : App
-table_app =
+abbrev pub names_rule : Rule
+names_rule = named_rule (codes "names")
+
+abbrev pub begun_table_app : App
+begun_table_app =
     with_rule
     (with_rule (with_rule (new_app (codes "table")) book_rule) report_rule) (flag_rule (codes "persons"))
 
+abbrev pub table_app : App
+table_app =
+    with_rule
+    (with_rule (with_rule begun_table_app (flag_rule (codes "semicolon"))) (flag_rule (codes "bom"))) names_rule
+
 abbrev pub chart_app : App
-chart_app = with_rule (with_rule (new_app (codes "chart")) book_rule) report_rule
+chart_app = with_rule (with_rule (with_rule (new_app (codes "chart")) book_rule) report_rule) names_rule
 
 abbrev pub diff_app : App
 diff_app =
@@ -95,6 +105,9 @@ fault_app = with_rule (new_app (codes "fault")) book_rule
 
 abbrev pub warn_app : App
 warn_app = with_rule (new_app (codes "warn")) book_rule
+
+abbrev pub fair_app : App
+fair_app = with_rule (new_app (codes "fair")) book_rule
 
 abbrev pub begun_repair_app : App
 begun_repair_app =
@@ -146,6 +159,9 @@ abbrev pub checker_app : App
 checker_app =
     with_subcommand (with_subcommand (with_subcommand shower_app assigns_app.top) fault_app.top) warn_app.top
 
+abbrev pub writer_app : App
+writer_app =
+    with_subcommand (with_subcommand (with_subcommand checker_app repair_app.top) book_app.top) fair_app.top
+
 abbrev pub desk_app : App
-desk_app =
-    with_subcommand (with_subcommand (with_subcommand checker_app repair_app.top) book_app.top) carry_app.top
+desk_app = with_subcommand writer_app carry_app.top

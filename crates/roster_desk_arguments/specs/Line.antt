@@ -1,5 +1,5 @@
 -- What the words of the desk's command line ask for.
-use Rattle.std.specs.Prelude.{◌≡◌, ◌≢◌, ⊤, ℕ, List, [], Some, None, codes, map, option_map, true, false, unwrap_or}
+use Rattle.std.specs.Prelude.{◌≡◌, ◌≢◌, ⊤, Bool, ℕ, List, [], Some, None, codes, map, option_map, true, false, unwrap_or}
 use Rattle.std.specs.Str.Parse.{digits_value, without_leading_plus}
 use Rattle.clap.specs.Words.{IsAmong, Kinds, Row, all_of, first_of, kind_of, one_of, subcommand_of}
 use Rattle.clap.specs.ValueTests.{is_unsigned_in}
@@ -18,21 +18,22 @@ use Rattle.roster_desk_arguments.specs.declared.line.PlanLine.{PlanLine}
 use Rattle.roster_desk_arguments.specs.declared.line.Question.TheVariants as questions
 use Rattle.roster_desk_arguments.specs.declared.line.Question.{Question}
 use Rattle.roster_desk_arguments.specs.declared.line.RepairLine.{RepairLine}
+use Rattle.roster_desk_arguments.specs.declared.line.TableLine.{TableLine}
 use Rattle.roster_desk_arguments.specs.declared.line.TellLine.{TellLine}
 
 -- how the command of a line is spelled
 abbrev pub spelling_of_question : Question → List ℕ
-spelling_of_question (questions.Why pairing person) = codes "why"
+spelling_of_question (questions.Why pairing person all) = codes "why"
 spelling_of_question (questions.Limits person) = codes "limits"
-spelling_of_question questions.Table = codes "table"
-spelling_of_question questions.Persons = codes "table"
-spelling_of_question questions.Chart = codes "chart"
+spelling_of_question (questions.Table table) = codes "table"
+spelling_of_question (questions.Chart names) = codes "chart"
 spelling_of_question (questions.Differences other) = codes "diff"
 spelling_of_question (questions.Changed other) = codes "diff"
 
 abbrev pub spelling_of_page : Page → List ℕ
 spelling_of_page pages.Fault = codes "fault"
 spelling_of_page pages.Warn = codes "warn"
+spelling_of_page pages.Fair = codes "fair"
 
 abbrev pub spelling : Line → List ℕ
 spelling (lines.Plan plan) = codes "plan"
@@ -53,19 +54,25 @@ pub record IsNumberIn (rows : List Row) (name : List ℕ) (low high usual number
       → number ≡ number_spelled text
   pub left_out : one_of name rows ≡ None → number ≡ usual
 
+-- a flag is what is said of it
+pub record IsFlagIn (rows : List Row) (name : List ℕ) (flag : Bool) : Type 0 where
+  pub given : one_of name rows ≡ Some (codes "true") → flag ≡ true
+  pub left_out : one_of name rows ≡ Some (codes "false") → flag ≡ false
+
 -- each path of the plan is the value of its own argument, and so is each number; progress is told if it is
 -- asked for
 pub record IsPlanIn (rows : List Row) (plan : PlanLine) : Type 0 where
   pub book : first_of (codes "book") rows ≡ Some plan.book.now
   pub effort : IsNumberIn rows (codes "effort") 0 9 5 plan.effort
-  pub workers : IsNumberIn rows (codes "workers") 1 MOST_WORKERS 1 plan.workers
+  pub workers : (text : List ℕ) → one_of (codes "workers") rows ≡ Some text
+      → is_unsigned_in 1 MOST_WORKERS text ≡ true → plan.workers ≡ Some (number_spelled text)
+  pub no_workers : one_of (codes "workers") rows ≡ None → plan.workers ≡ None
   pub sets : (text : List ℕ) → one_of (codes "sets") rows ≡ Some text → is_unsigned_in 1 MOST_LINES text ≡ true
       → plan.sets ≡ Some (number_spelled text)
   pub no_sets : one_of (codes "sets") rows ≡ None → plan.sets ≡ None
   pub start : first_of (codes "start") rows ≡ option_map (λ path. path.now) plan.start
   pub keep : first_of (codes "keep") rows ≡ option_map (λ path. path.now) plan.keep
-  pub told : one_of (codes "progress") rows ≡ Some (codes "true") → plan.progress ≡ true
-  pub untold : one_of (codes "progress") rows ≡ Some (codes "false") → plan.progress ≡ false
+  pub progress : IsFlagIn rows (codes "progress") plan.progress
 
 -- each path of the repair is the value of its own argument, and so is each text and number
 pub record IsRepairIn (rows : List Row) (repair : RepairLine) : Type 0 where
@@ -93,16 +100,23 @@ pub record IsCarryIn (rows : List Row) (carry : CarryLine) : Type 0 where
   pub flown : first_of (codes "flown") rows ≡ option_map (λ path. path.now) carry.flown
   pub into : first_of (codes "into") rows ≡ option_map (λ path. path.now) carry.into
 
+-- each flag of the table is what is said of it, and the path is the value of its own argument
+pub record IsTableIn (rows : List Row) (table : TableLine) : Type 0 where
+  pub persons : IsFlagIn rows (codes "persons") table.persons
+  pub semicolon : IsFlagIn rows (codes "semicolon") table.semicolon
+  pub bom : IsFlagIn rows (codes "bom") table.bom
+  pub names : first_of (codes "names") rows ≡ option_map (λ path. path.now) table.names
+
 -- each name of the question is the value of its own argument
 abbrev pub HasNames : List Row → Question → Type 0
-HasNames rows (questions.Why pairing person) =
+HasNames rows (questions.Why pairing person all) =
     (first_of (codes "pairing") rows ≡ option_map (λ name. name.now) pairing)
     × (first_of (codes "person") rows ≡ option_map (λ name. name.now) person)
+    × IsFlagIn rows (codes "all") all
 HasNames rows (questions.Limits person) =
     first_of (codes "person") rows ≡ option_map (λ name. name.now) person
-HasNames rows questions.Table = one_of (codes "persons") rows ≢ Some (codes "true")
-HasNames rows questions.Persons = one_of (codes "persons") rows ≢ Some (codes "false")
-HasNames rows questions.Chart = ⊤
+HasNames rows (questions.Table table) = IsTableIn rows table
+HasNames rows (questions.Chart names) = first_of (codes "names") rows ≡ option_map (λ path. path.now) names
 HasNames rows (questions.Differences other) =
     (first_of (codes "other") rows ≡ Some other.now) × (one_of (codes "persons") rows ≢ Some (codes "true"))
 HasNames rows (questions.Changed other) =

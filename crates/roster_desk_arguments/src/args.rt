@@ -1,6 +1,6 @@
 //! Arguments, and commands that have them, on `clap`.
 
-ghost use Rattle.std.specs.Prelude.{◌≡◌, false, IfOk};
+ghost use Rattle.std.specs.Prelude.{◌≡◌, codes, false, IfOk};
 ghost use Rattle.clap.specs.Words.{app_of, new_app, rule_of, with_rule};
 ghost use Rattle.clap.specs.declared.builder.command.Command.TheViews as views;
 ghost use Rattle.roster_desk_arguments.specs.Commands.{book_rule, demanded_rule, flag_rule, lists_rule};
@@ -102,6 +102,15 @@ pub(crate) fn needed_report<'a>(alloc: Global, id: &'a str) -> Arg<'a>
 {
     let help = "The path of a report or plan, or - for standard input";
     needed(alloc, id, "REPORT", help)
+}
+
+/// The table that tells what persons are called, which a command may have.
+pub(crate) fn names<'a>(alloc: Global) -> Arg<'a>
+    ensures rule { rule_of result ≡ named_rule (codes "names") }
+    ensures local { result.global ≡ false }
+{
+    let help = "The path of a table PERSON,NAME that tells what persons are called, or -";
+    named(alloc, "names", "FILE", help)
 }
 
 /// A command without arguments so far, and with examples of it.

@@ -6,13 +6,14 @@ ghost use Rattle.clap.specs.ValueTests.{is_unsigned_in};
 ghost use Rattle.clap.specs.Words.{all_of, first_of, found_of, one_of, rows_of, subcommand_rows_of};
 ghost use Rattle.clap.specs.Words.{Row};
 ghost use Rattle.roster_desk_arguments.specs.Line.{number_spelled, spelling, spelling_of_page};
-ghost use Rattle.roster_desk_arguments.specs.Line.{spelling_of_question, AsksIn, HasNames, IsNumberIn};
+ghost use Rattle.roster_desk_arguments.specs.Line.{spelling_of_question, AsksIn, HasNames, IsFlagIn};
+ghost use Rattle.roster_desk_arguments.specs.Line.{IsNumberIn};
 
 use crate::line::{
-    BookLine, CarryLine, Line, Page, PageLine, PlanLine, Question, RepairLine, TellLine,
+    BookLine, CarryLine, Line, Page, PageLine, PlanLine, Question, RepairLine, TableLine, TellLine,
 };
 use clap::ArgMatches;
-use roster_model::limits::{MOST_UNITS, MOST_WORKERS};
+use roster_model::limits::MOST_UNITS;
 use std::alloc::{AllocError, Global};
 
 /// How much is tried if nothing is said of it.
@@ -47,12 +48,13 @@ fn asked_of<'a>(command: &str, found: &ArgMatches<'a>) -> Option<Line<'a>>
         "plan" => planned(found),
         "why" => why(found),
         "limits" => limits(found),
-        "table" => told(found, rows_of_table(found)),
-        "chart" => told(found, Question::Chart),
+        "table" => table(found),
+        "chart" => chart(found),
         "diff" => differences(found),
         "assigns" => assigns(found),
         "fault" => of_records(found, Page::Fault),
         "warn" => of_records(found, Page::Warn),
+        "fair" => of_records(found, Page::Fair),
         "repair" => repaired(found),
         "carry" => carried(found),
         _ => None,
@@ -88,9 +90,7 @@ fn number(found: &ArgMatches<'_>, name: &str) -> Option<usize>
 
 /// Whether the flag is given in the matches.
 fn flag(found: &ArgMatches<'_>, name: &str) -> bool
-    ensures given { one_of name.now (rows_of (found_of found.now)) ≡ Some (codes "true") → result ≡ true }
-    ensures left_out { one_of name.now (rows_of (found_of found.now)) ≡ Some (codes "false")
-        → result ≡ false }
+    ensures { IsFlagIn (rows_of (found_of found.now)) name.now result }
 {
     found.get_flag(name)
 }
@@ -105,13 +105,6 @@ fn effort(found: &ArgMatches<'_>) -> u32
     }
 }
 
-/// How many threads may share the work, by the matches.
-fn workers(found: &ArgMatches<'_>) -> usize
-    ensures { IsNumberIn (rows_of (found_of found.now)) (codes "workers") 1 MOST_WORKERS 1 result }
-{
-    number(found, "workers").unwrap_or(1)
-}
-
 /// The plan in the matches.
 fn planned<'a>(found: &ArgMatches<'a>) -> Option<Line<'a>>
     ensures named { IfSome result (λ line. spelling line ≡ codes "plan") }
@@ -119,7 +112,7 @@ fn planned<'a>(found: &ArgMatches<'a>) -> Option<Line<'a>>
 {
     let book = value(found, "book")?;
     let effort = effort(found);
-    let workers = workers(found);
+    let workers = number(found, "workers");
     let sets = number(found, "sets");
     let start = value(found, "start");
     let progress = flag(found, "progress");
@@ -142,7 +135,15 @@ fn why<'a>(found: &ArgMatches<'a>) -> Option<Line<'a>>
 {
     let pairing = value(found, "pairing");
     let person = value(found, "person");
-    told(found, Question::Why { pairing, person })
+    let all = flag(found, "all");
+    told(
+        found,
+        Question::Why {
+            pairing,
+            person,
+            all,
+        },
+    )
 }
 
 /// The question that `limits` in the matches asks.
@@ -176,16 +177,33 @@ fn question_of_other<'a>(found: &ArgMatches<'a>, other: &'a str) -> Question<'a>
     }
 }
 
-/// What the rows of the table in the matches are.
-fn rows_of_table<'a>(found: &ArgMatches<'a>) -> Question<'a>
-    ensures named { spelling_of_question result ≡ codes "table" }
-    ensures asks { HasNames (rows_of (found_of found.now)) result }
+/// The question that `table` in the matches asks.
+fn table<'a>(found: &ArgMatches<'a>) -> Option<Line<'a>>
+    ensures named { IfSome result (λ line. spelling line ≡ codes "table") }
+    ensures asks { IfSome result (AsksIn (rows_of (found_of found.now))) }
 {
-    if flag(found, "persons") {
-        Question::Persons
-    } else {
-        Question::Table
-    }
+    let persons = flag(found, "persons");
+    let semicolon = flag(found, "semicolon");
+    let bom = flag(found, "bom");
+    let names = value(found, "names");
+    told(
+        found,
+        Question::Table(TableLine {
+            persons,
+            semicolon,
+            bom,
+            names,
+        }),
+    )
+}
+
+/// The question that `chart` in the matches asks.
+fn chart<'a>(found: &ArgMatches<'a>) -> Option<Line<'a>>
+    ensures named { IfSome result (λ line. spelling line ≡ codes "chart") }
+    ensures asks { IfSome result (AsksIn (rows_of (found_of found.now))) }
+{
+    let names = value(found, "names");
+    told(found, Question::Chart { names })
 }
 
 /// The question, of the book and the report in the matches.

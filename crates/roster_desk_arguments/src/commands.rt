@@ -4,10 +4,11 @@ ghost use Rattle.std.specs.Prelude.{◌≡◌, false, IfOk};
 ghost use Rattle.clap.specs.Words.{app_of, with_subcommand};
 ghost use Rattle.clap.specs.declared.builder.command.Command.TheViews as views;
 ghost use Rattle.roster_desk_arguments.specs.Commands.{checker_app, desk_app, planner_app, shower_app};
+ghost use Rattle.roster_desk_arguments.specs.Commands.{writer_app};
 
 use crate::months::{carry, made_book, repair};
 use crate::planning::plan;
-use crate::telling::{assigns, chart, diff, fault, limits, table, warn, why};
+use crate::telling::{assigns, chart, diff, fair, fault, limits, table, warn, why};
 use clap::Command;
 use std::alloc::{AllocError, Global};
 
@@ -55,12 +56,20 @@ fn checker<'a>(alloc: Global) -> Result<Command<'a>, AllocError>
     with_command(line, warn(alloc)?)
 }
 
+/// That with the commands that write a book of this month.
+fn writer<'a>(alloc: Global) -> Result<Command<'a>, AllocError>
+    ensures app { IfOk result (λ c. app_of c ≡ writer_app) }
+    ensures local { IfOk result (λ c. (views.out-Command c).has_globals ≡ false) }
+{
+    let line = with_command(checker(alloc)?, repair(alloc)?)?;
+    let line = with_command(line, made_book(alloc)?)?;
+    with_command(line, fair(alloc)?)
+}
+
 /// The program's command line.
 pub(crate) fn desk<'a>(alloc: Global) -> Result<Command<'a>, AllocError>
     ensures app { IfOk result (λ c. app_of c ≡ desk_app) }
     ensures local { IfOk result (λ c. (views.out-Command c).has_globals ≡ false) }
 {
-    let line = with_command(checker(alloc)?, repair(alloc)?)?;
-    let line = with_command(line, made_book(alloc)?)?;
-    with_command(line, carry(alloc)?)
+    with_command(writer(alloc)?, carry(alloc)?)
 }

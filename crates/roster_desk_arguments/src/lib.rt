@@ -16,6 +16,6 @@ mod planning;
 mod telling;
 
 pub use line::{
-    BookLine, CarryLine, Line, LineFault, Page, PageLine, PlanLine, Question, RepairLine, TellLine,
-    read_line,
+    BookLine, CarryLine, Line, LineFault, Page, PageLine, PlanLine, Question, RepairLine,
+    TableLine, TellLine, read_line,
 };

@@ -36,8 +36,8 @@ pub struct PlanLine<'a> {
     pub book: &'a str,
     /// How much is to be tried, from 0 to 9.
     pub effort: u32,
-    /// How many threads may share the work.
-    pub workers: usize,
+    /// How many threads may share the work; none if the machine says it.
+    pub workers: Option<usize>,
     /// How many legal sets a person may have in one step, from 1 to 200000; none if effort says it.
     pub sets: Option<usize>,
     /// The path of the report that gives the roster to begin with, or `-`; none if the book gives it.
@@ -68,18 +68,21 @@ pub enum Question<'a> {
         pairing: Option<&'a str>,
         /// The name of the person, if one is named.
         person: Option<&'a str>,
+        /// Whether each person and each open pairing have a line.
+        all: bool,
     },
     /// How near to each limit persons are.
     Limits {
         /// The name of the person, if one is named.
         person: Option<&'a str>,
     },
-    /// A row for each pairing, duty and leave.
-    Table,
-    /// A row for each person.
-    Persons,
+    /// Its rows.
+    Table(TableLine<'a>),
     /// A picture of it.
-    Chart,
+    Chart {
+        /// The path of the table that tells what persons are called, or `-`, if there is one.
+        names: Option<&'a str>,
+    },
     /// What differs from it in another roster.
     Differences {
         /// The path of the report that gives the other roster, or `-`.
@@ -92,6 +95,19 @@ pub enum Question<'a> {
     },
 }
 
+/// The rows of a roster, and how they are written.
+#[derive(Clone, Copy)]
+pub struct TableLine<'a> {
+    /// Whether there is one for each person, in place of one for each pairing, duty and leave.
+    pub persons: bool,
+    /// Whether semicolons part their cells, in place of commas.
+    pub semicolon: bool,
+    /// Whether a byte order mark stands before them.
+    pub bom: bool,
+    /// The path of the table that tells what persons are called, or `-`, if there is one.
+    pub names: Option<&'a str>,
+}
+
 /// What is to be told of the records of a book.
 #[derive(Clone, Copy)]
 pub enum Page {
@@ -99,6 +115,8 @@ pub enum Page {
     Fault,
     /// What is likely a mistake in them, if they have no fault.
     Warn,
+    /// The book with fair targets, if they have no fault.
+    Fair,
 }
 
 /// What is told of the records of a book.

@@ -22,11 +22,12 @@ fn effort<'a>(alloc: Global) -> Arg<'a>
 
 /// How many threads may share the work.
 fn workers<'a>(alloc: Global) -> Arg<'a>
-    ensures rule { rule_of result ≡ usual_rule (codes "workers") 1 MOST_WORKERS (codes "1") }
+    ensures rule { rule_of result ≡ number_rule (codes "workers") 1 MOST_WORKERS }
     ensures local { result.global ≡ false }
 {
-    let help = "How many threads may share the work: the plan is the same for any number";
-    number(alloc, "workers", 1, MOST_WORKERS.into(), "N", help).default_value("1")
+    let help =
+        "How many threads may share the work; one for each processor if it isn't given. The plan is the same for any number";
+    number(alloc, "workers", 1, MOST_WORKERS.into(), "N", help)
 }
 
 /// How many legal sets a person may have in a step.

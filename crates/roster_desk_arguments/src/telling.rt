@@ -3,38 +3,43 @@
 ghost use Rattle.std.specs.Prelude.{◌≡◌, false, IfOk};
 ghost use Rattle.clap.specs.Words.{app_of};
 ghost use Rattle.clap.specs.declared.builder.command.Command.TheViews as views;
-ghost use Rattle.roster_desk_arguments.specs.Commands.{assigns_app, chart_app, diff_app, fault_app};
-ghost use Rattle.roster_desk_arguments.specs.Commands.{limits_app, table_app, warn_app, why_app};
+ghost use Rattle.roster_desk_arguments.specs.Commands.{assigns_app, begun_table_app, begun_why_app, chart_app};
+ghost use Rattle.roster_desk_arguments.specs.Commands.{diff_app, fair_app, fault_app, limits_app, table_app};
+ghost use Rattle.roster_desk_arguments.specs.Commands.{warn_app, why_app};
 
-use crate::args::{book, command, flag, named, needed_report, report, with};
+use crate::args::{book, command, flag, named, names, needed_report, report, with};
 use clap::Command;
 use std::alloc::{AllocError, Global};
 
-/// `why`, with its book and report, and what it may be asked of.
-pub(crate) fn why<'a>(alloc: Global) -> Result<Command<'a>, AllocError>
-    ensures app { IfOk result (λ c. app_of c ≡ why_app) }
+/// `why`, with its book and report.
+fn begun_why<'a>(alloc: Global) -> Result<Command<'a>, AllocError>
+    ensures app { IfOk result (λ c. app_of c ≡ begun_why_app) }
     ensures local { IfOk result (λ c. (views.out-Command c).has_globals ≡ false) }
 {
     let why = command(
         alloc,
         "why",
-        "Tells of each open pairing who could have it at what cost, and why others mustn't",
+        "Tells of each open pairing who could have it at what cost, or what stands in the way",
         "Examples:
   roster-desk why book.csv plan.txt
+  roster-desk why --pairing OUT-BACK book.csv plan.txt
   roster-desk why --pairing OUT-BACK --person ANNA book.csv plan.txt",
     );
     let why = with(why, book(alloc))?;
-    let why = with(why, report(alloc))?;
-    let why = with(
-        why,
-        named(
-            alloc,
-            "pairing",
-            "PAIRING",
-            "Only this pairing, open or not",
-        ),
-    )?;
-    with(why, named(alloc, "person", "PERSON", "Only this person"))
+    with(why, report(alloc))
+}
+
+/// `why`, with what it may be asked of, too.
+pub(crate) fn why<'a>(alloc: Global) -> Result<Command<'a>, AllocError>
+    ensures app { IfOk result (λ c. app_of c ≡ why_app) }
+    ensures local { IfOk result (λ c. (views.out-Command c).has_globals ≡ false) }
+{
+    let help =
+        "Only this pairing, open or not: a line for each person of its base, the nearest first";
+    let why = with(begun_why(alloc)?, named(alloc, "pairing", "PAIRING", help))?;
+    let why = with(why, named(alloc, "person", "PERSON", "Only this person"))?;
+    let help = "A line for each person and each open pairing, in book order";
+    with(why, flag(alloc, "all", help))
 }
 
 /// `limits`, with its book and report, and whom it may be asked of.
@@ -56,8 +61,8 @@ pub(crate) fn limits<'a>(alloc: Global) -> Result<Command<'a>, AllocError>
 }
 
 /// `table`, with its book and report, and what its rows are.
-pub(crate) fn table<'a>(alloc: Global) -> Result<Command<'a>, AllocError>
-    ensures app { IfOk result (λ c. app_of c ≡ table_app) }
+fn begun_table<'a>(alloc: Global) -> Result<Command<'a>, AllocError>
+    ensures app { IfOk result (λ c. app_of c ≡ begun_table_app) }
     ensures local { IfOk result (λ c. (views.out-Command c).has_globals ≡ false) }
 {
     let table = command(
@@ -66,7 +71,8 @@ pub(crate) fn table<'a>(alloc: Global) -> Result<Command<'a>, AllocError>
         "Writes CSV for a spreadsheet: who has which pairings, duties and leaves, and when",
         "Examples:
   roster-desk table book.csv plan.txt > table.csv
-  roster-desk table --persons book.csv plan.txt > persons.csv",
+  roster-desk table --persons book.csv plan.txt > persons.csv
+  roster-desk table --semicolon --bom --names names.csv book.csv plan.txt > named.csv",
     );
     let table = with(table, book(alloc))?;
     let table = with(table, report(alloc))?;
@@ -76,7 +82,20 @@ pub(crate) fn table<'a>(alloc: Global) -> Result<Command<'a>, AllocError>
     )
 }
 
-/// `chart`, with its book and report.
+/// `table`, with how its rows are written, too.
+pub(crate) fn table<'a>(alloc: Global) -> Result<Command<'a>, AllocError>
+    ensures app { IfOk result (λ c. app_of c ≡ table_app) }
+    ensures local { IfOk result (λ c. (views.out-Command c).has_globals ≡ false) }
+{
+    let help =
+        "Semicolons between cells, as a spreadsheet wants them where numbers have a decimal comma";
+    let table = with(begun_table(alloc)?, flag(alloc, "semicolon", help))?;
+    let help = "A byte order mark first, by which a spreadsheet knows UTF-8";
+    let table = with(table, flag(alloc, "bom", help))?;
+    with(table, names(alloc))
+}
+
+/// `chart`, with its book and report, and what persons are called in it.
 pub(crate) fn chart<'a>(alloc: Global) -> Result<Command<'a>, AllocError>
     ensures app { IfOk result (λ c. app_of c ≡ chart_app) }
     ensures local { IfOk result (λ c. (views.out-Command c).has_globals ≡ false) }
@@ -86,10 +105,12 @@ pub(crate) fn chart<'a>(alloc: Global) -> Result<Command<'a>, AllocError>
         "chart",
         "Draws the roster as a page for a browser",
         "Examples:
-  roster-desk chart book.csv plan.txt > chart.html",
+  roster-desk chart book.csv plan.txt > chart.html
+  roster-desk chart --names names.csv book.csv plan.txt > named.html",
     );
     let chart = with(chart, book(alloc))?;
-    with(chart, report(alloc))
+    let chart = with(chart, report(alloc))?;
+    with(chart, names(alloc))
 }
 
 /// `diff`, with its book and its two reports, and what its lines tell.
@@ -161,4 +182,19 @@ pub(crate) fn warn<'a>(alloc: Global) -> Result<Command<'a>, AllocError>
   roster-desk warn book.csv",
     );
     with(warn, book(alloc))
+}
+
+/// `fair`, with its book.
+pub(crate) fn fair<'a>(alloc: Global) -> Result<Command<'a>, AllocError>
+    ensures app { IfOk result (λ c. app_of c ≡ fair_app) }
+    ensures local { IfOk result (λ c. (views.out-Command c).has_globals ≡ false) }
+{
+    let fair = command(
+        alloc,
+        "fair",
+        "Writes the book with its targets scaled to what there is to fly at each base, to the minute",
+        "Examples:
+  roster-desk fair book.csv > fair.csv",
+    );
+    with(fair, book(alloc))
 }

@@ -10,4 +10,4 @@ mod running;
 
 pub use laws::first_word_says_best;
 pub use roster_desk_given::Status;
-pub use running::{run, write_known};
+pub use running::{Starter, run, write_known};

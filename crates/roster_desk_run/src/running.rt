@@ -1,7 +1,7 @@
 //! A run: a book is read, and its one answer written.
 
 ghost use Rattle.std.specs.Prelude.{◌≡◌, ◌≢◌, ◌↔◌, ◌<◌, ◌≤◌, All, IsErrOf, OnOk, length, true, false};
-ghost use Rattle.std.specs.Prelude.{option_map};
+ghost use Rattle.std.specs.Prelude.{ℕ, IfErr, IfOk, None, option_map, slice_get, Some};
 ghost use Rattle.roster_model.specs.Answer.{IsRefusal};
 ghost use Rattle.roster_model.specs.Plans.{IsPlanReport};
 ghost use Rattle.roster_model.specs.Record.{Check};
@@ -10,24 +10,34 @@ ghost use Rattle.roster_book.specs.Reading.{OfTold};
 ghost use Rattle.roster_plan.specs.Planned.{IsKnown};
 ghost use Rattle.roster_watched.specs.Watch.{inner_of, has_failed, is_flushed};
 ghost use Rattle.roster_report.specs.Writing.{Writes, WritesPart};
+ghost use Rattle.roster_desk_reports.specs.Faults.{IsTold};
+ghost use Rattle.roster_desk_reports.specs.Given.{HasAll, IsGiven};
+ghost use Rattle.roster_desk_reports.specs.Known.{fault_of_known, known_by_text};
 ghost use Rattle.roster_desk_run.specs.Run.{IsAnswerTo, IsFaultLine, IsKnownText, IsPlanFrom, IsPlanOfBook};
 ghost use Rattle.roster_desk_run.specs.Run.{IsStartFault, IsStartRefused, IsTextOf, RefusesStart};
 
 use roster_book::{Book, BookFault, Command, Watched, read_book};
 use roster_desk_given::Status;
-use roster_desk_reports::{ReportFault, read_known_roster};
+use roster_desk_reports::{ReportFault, read_known_roster, unknown_text};
 use roster_plan::{Means, Planned, Watcher, plan};
 use roster_problem::Problem;
 use roster_report::{TextFault, write_fault, write_plan, write_report};
+use roster_values::Places;
 use std::alloc::Global;
 use std::io::{Read, Write};
 use std::thread::Threads;
+
+/// Who is told of a start before the plan begins.
+pub trait Starter {
+    /// The lines tell which persons and pairings of a report the book doesn't have, as `unknown_text` does.
+    fn pass_over(&mut self, lines: &[u8]);
+}
 
 /// Reads a book to its end or to its first fault, plans it with these means at most, and writes the one
 /// answer. The plan begins with the roster that the report gives, if there is one, and else with the book's
 /// assignments. The watcher is told what is known on the way; whatever it does, the answer is one of these.
 /// The status tells if that could not be done.
-pub fn run<T: Threads + Sync, R: Read, W: Write, P: Watcher>(
+pub fn run<T: Threads + Sync, R: Read, W: Write, P: Watcher + Starter>(
     rt: &T,
     alloc: Global,
     means: &Means,
@@ -102,8 +112,39 @@ fn refuse<W: Write>(alloc: Global, row: usize, code: u8, writer: &mut Watched<W>
     }
 }
 
+/// The roster that the report gives, as `read_known_roster` does. What it passes over is told.
+fn start_of<P: Starter>(
+    alloc: Global,
+    problem: &Problem,
+    report: &[u8],
+    starter: &mut P,
+) -> Result<Places, ReportFault>
+    ensures covers { IfOk result (λ places. length places ≡ length problem.now.pairings) }
+    ensures numbers { IfOk result
+        (λ places. All (λ x. x ≤ length problem.now.persons) places) }
+    ensures has { IfOk result
+        (λ places. HasAll problem.now places (known_by_text problem.now report.now)) }
+    ensures given { IfOk result (λ places. (p k : ℕ) → k < length problem.now.persons
+        → slice_get places p ≡ Some k
+        → IsGiven problem.now (known_by_text problem.now report.now) p k) }
+    ensures sound { IfOk result (λ _. fault_of_known problem.now report.now ≡ None) }
+    ensures fault { IfErr result (IsTold (fault_of_known problem.now report.now)) }
+{
+    match read_known_roster(alloc, problem, report) {
+        Ok(places) => match unknown_text(alloc, problem, report) {
+            Ok(unknown) => {
+                starter.pass_over(unknown.as_slice());
+                Ok(places)
+            }
+            // What was read once is read again, so it is memory.
+            Err(_) => Err(ReportFault::Memory),
+        },
+        Err(fault) => Err(fault),
+    }
+}
+
 /// Plans a book in which no record has a fault, and writes what was found.
-fn answer<T: Threads + Sync, W: Write, P: Watcher>(
+fn answer<T: Threads + Sync, W: Write, P: Watcher + Starter>(
     rt: &T,
     alloc: Global,
     means: &Means,
@@ -135,7 +176,7 @@ fn answer<T: Threads + Sync, W: Write, P: Watcher>(
         let start = book.assigned.as_slice();
         return answer_from(rt, alloc, means, problem, start, writer, watcher);
     };
-    match read_known_roster(alloc, problem, report) {
+    match start_of(alloc, problem, report, watcher) {
         Ok(start) => answer_from(rt, alloc, means, problem, start.as_slice(), writer, watcher),
         Err(ReportFault::At { line, wrong }) => Status::StartRefused { line, wrong },
         Err(ReportFault::Memory) => Status::Memory,

@@ -59,7 +59,7 @@ value_in name = option_and_then (λ p. one_of name p.1) (subcommand_of desk_app 
 planned : (fault_of desk_app plan_words ≡ [])
     × (option_map (λ p. p.0) (subcommand_of desk_app plan_words) ≡ Some (codes "plan"))
     × (value_in (codes "effort") ≡ Some (codes "9"))
-    × (value_in (codes "workers") ≡ Some (codes "1"))
+    × (value_in (codes "change") ≡ None)
     × (value_in (codes "sets") ≡ None)
 unfolding clap_on_literals
 planned = (refl, refl, refl, refl, refl)
