@@ -198,6 +198,16 @@ def write_folder(folder, rows, pairings, ledger):
             file.write(content)
 
 
+def joined(leaves):
+    """Leaves, of which those that touch are one, as `book` makes them."""
+    out = []
+    for begin, end in sorted(leaves):
+        if out and out[-1][1] == begin:
+            begin = out.pop()[0]
+        out.append((begin, end))
+    return out
+
+
 def seen(book):
     """What a book says, whatever its duties are called."""
     persons = {
@@ -207,7 +217,7 @@ def seen(book):
             person.year,
             person.eleven,
             sorted((duty.report, duty.release, duty.station, duty.sectors) for duty in person.fixed_duties),
-            sorted(person.leaves),
+            joined(person.leaves),
         )
         for person in book.persons.values()
     }
@@ -465,3 +475,33 @@ def april_into_tables(tests, run, desk, folder):
         ended.returncode != 4 and f"status {ended.returncode}",
         not ended.stderr.endswith(f"error: the tables of {tables}/not can't be written\n".encode()) and f"told {ended.stderr}",
     )
+
+
+def april_without_room(tests, run, desk, folder):
+    """The same into a folder that has no room for all tables, and into one that can't be written: it stays as it was."""
+    book, report = (f"{folder}/examples/month-of-two-bases.{end}" for end in ("csv", "txt"))
+    tables = f"{tests.folder}/small"
+    os.makedirs(tables)
+    if os.geteuid() != 0 or subprocess.run(["mount", "-t", "tmpfs", "-o", "size=16k", "none", tables], capture_output=True, check=False).returncode:
+        print("tables without room are skipped: it needs root, and mount")
+        return
+    try:
+        # Each file takes 4 kB.
+        for name, content in BEFORE.items():
+            with open(f"{tables}/{name}.csv", "wb") as file:
+                file.write(content)
+        for what in ("rw", "ro"):
+            subprocess.run(["mount", "-o", f"remount,{what}", tables], check=True)
+            ended = run(desk, "carry", book, report, "--into", tables)
+            found = {}
+            for name in os.listdir(tables):
+                with open(f"{tables}/{name}", "rb") as file:
+                    found[name.removesuffix(".csv")] = file.read()
+            tests.told(
+                f"into a folder without room, {what}",
+                ended.returncode != 4 and f"status {ended.returncode}",
+                not ended.stderr.endswith(f"error: the tables of {tables} can't be written\n".encode()) and f"told {ended.stderr}",
+                found != BEFORE and f"other tables {sorted(found)}",
+            )
+    finally:
+        subprocess.run(["umount", tables], check=False)
