@@ -240,6 +240,11 @@ def two_bases(tests, run, roster, desk, folder):
             (status and ended.stdout) and "standard output",
             (status and b" 13\n" not in ended.stderr) and f"told {ended.stderr}",
         )
+    # LARS has K2 with 280 minutes, and 54000 are the most of a year.
+    locked = run(desk, "repair", "--from", "2024-03-25T00:00Z", "-", report, book=text.replace(b",53700,", b",53721,"))
+    tests.told("who is locked by what is fixed", locked.returncode != 0 and f"status {locked.returncode}", b"locked: LARS by FLIGHTYEAR\n" not in locked.stderr and f"told {locked.stderr}")
+    free = run(desk, "repair", "--from", "2024-03-25T00:00Z", "-", report, book=text.replace(b",53700,", b",53720,"))
+    tests.told("who isn't locked by what is fixed", b"locked" in free.stderr and f"told {free.stderr}")
     # A pairing of the report that the book doesn't have is told.
     gone = b"\n".join(line for line in text.splitlines() if b",K3" not in line) + b"\n"
     told = run(desk, "repair", "--from", "2024-03-10T00:00Z", "-", report, book=gone)
