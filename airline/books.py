@@ -7,6 +7,8 @@ import os
 
 from programs import Report, fail, sum_of
 
+# What a book may have.
+MOST_PERSONS, MOST_PAIRINGS = 128, 512
 # Files of a result that a manifest has the sums of.
 FILES = ("report.txt", "chart.html", "table.csv", "persons.csv", "limits.txt", "fault.txt")
 
@@ -43,7 +45,7 @@ class Result:
                 if manifest["outcome"] in ("solved", "planned"):
                     with open(f"{at}/report.txt", encoding="utf-8") as it:
                         self.report = Report(it.read())
-        except (OSError, ValueError, KeyError):
+        except (OSError, ValueError, KeyError, TypeError):
             self.manifest = None
 
     def is_of(self, book, programs, effort):

@@ -8,6 +8,8 @@ import re
 import sys
 
 from books import Result, books_of, penalties_of, place_of, sizes_of
+from programs import fail
+from tables import has_tables
 
 COLUMNS = ("BOOK", "OUTCOME", "CREW", "PAIRINGS", "OPEN", "PENALTIES", "COST", "BOUND", "GAP", "NEAREST", "SECONDS", "HOST", "WHY")
 SUMS = ("CREW", "PAIRINGS", "OPEN", "PENALTIES", "COST", "BOUND", "GAP", "SECONDS")
@@ -96,6 +98,8 @@ def main(words):
     at.add_argument("--csv", action="store_true", help="a table in place of a page")
     given = at.parse_args(words)
     folder = os.path.abspath(given.folder)
+    if has_tables(folder):
+        fail(f"{given.folder} has tables: its books lie in {given.folder}/books/YYYY-MM")
     rows = [row_of(folder, name) for name in books_of(folder)]
     if given.csv:
         to = csv.DictWriter(sys.stdout, COLUMNS, lineterminator="\n")

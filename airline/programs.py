@@ -85,7 +85,7 @@ def wrong_with(roster, desk, book, report):
     if status:
         return "its report can't be read"
     with open(book, "rb") as it:
-        records = [line for line in it.read().splitlines() if not line.startswith(b"assign,")]
+        records = [line for line in it.read().splitlines() if not line.startswith((b"assign,", b'"assign",'))]
     said, status = answer([roster, "check"], b"\n".join([*records, *said.splitlines()]) + b"\n")
     if status:
         return "a check refuses its report"

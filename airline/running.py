@@ -2,13 +2,15 @@
 
 import argparse
 import contextlib
+import fcntl
+import glob
 import json
 import os
 import shutil
-import signal
 import subprocess
 import sys
 import tarfile
+import tempfile
 import time
 
 import engines
@@ -44,12 +46,26 @@ class Run:
     def __init__(self, given):
         self.given, self.folder = given, os.path.abspath(given.folder)
         self.names = books_of(self.folder)
+        self.engine = engines.ENGINES[given.engine](given)
         self.programs = {name: program(name) for name in NAMES}
         self.sums = {name: sum_of(path) for name, path in self.programs.items()}
         self.versions = {name: version(name) for name in NAMES}
-        self.work = f"{self.folder}/out/.work"
-        self.begun = time.monotonic()
         self.done, self.told = {}, 0.0
+        os.makedirs(f"{self.folder}/out", exist_ok=True)
+        # Held as long as this runs.
+        self.lock = open(f"{self.folder}/out/joblog", "ab")  # noqa: SIM115
+        try:
+            fcntl.flock(self.lock, fcntl.LOCK_EX | fcntl.LOCK_NB)
+        except BlockingIOError:
+            fail(f"another run has {self.folder}", 4)
+        self.clean()
+        # A name that no other run has: what a killed one still has going on finds its own folder gone.
+        self.work = tempfile.mkdtemp(prefix=".roster-", dir=f"{self.folder}/out")
+
+    def clean(self):
+        """Takes away what isn't whole, of this run and of those that were killed."""
+        for path in glob.glob(f"{glob.escape(self.folder)}/out/.*"):
+            shutil.rmtree(path, ignore_errors=True)
 
     def missing(self):
         """The books of which there is no whole result yet."""
@@ -64,20 +80,22 @@ class Run:
 
     def lay_out(self, names):
         """Puts what a host needs into one folder: the programs, the job and the books."""
-        shutil.rmtree(self.work, ignore_errors=True)
         os.makedirs(f"{self.work}/books")
         for name, path in self.programs.items():
             shutil.copy(path, f"{self.work}/{name}")
         shutil.copy(f"{HERE}/job", f"{self.work}/job")
         for name in names:
             shutil.copy(f"{self.folder}/{name}.csv", f"{self.work}/books")
+        # The largest first, so that none is left to the end.
+        names = sorted(names, key=lambda it: -os.path.getsize(f"{self.work}/books/{it}.csv"))
+        write_whole(f"{self.work}/names", "".join(f"{name}\n" for name in names))
 
     def take(self):
         """Takes over each archive that is there."""
         for file in sorted(os.listdir(self.work)):
             if file.endswith(".tar") and not file.startswith(".") and file[:-4] in self.names:
                 name = file[:-4]
-                with contextlib.suppress(tarfile.TarError, ValueError, IndexError):
+                with contextlib.suppress(tarfile.TarError, ValueError, KeyError):
                     self.take_one(name, f"{self.work}/{file}")
                 os.remove(f"{self.work}/{file}")
 
@@ -87,13 +105,11 @@ class Run:
         shutil.rmtree(new, ignore_errors=True)
         os.makedirs(new)
         with tarfile.open(archive) as tar:
-            for each in tar.getmembers():
-                if each.isfile() and each.name in (*FILES, "outcome", "said"):
-                    with open(f"{new}/{each.name}", "wb") as it:
-                        shutil.copyfileobj(tar.extractfile(each), it)
-        with open(f"{new}/outcome", encoding="utf-8") as it:
-            outcome, status, seconds, host = it.read().splitlines()[:4]
-        os.remove(f"{new}/outcome")
+            members = {it.name: it for it in tar.getmembers() if it.isfile()}
+            outcome, status, seconds, host = tar.extractfile(members["outcome"]).read().decode().splitlines()[:4]
+            for each in {*FILES, "said"} & set(members):
+                with open(f"{new}/{each}", "wb") as it:
+                    shutil.copyfileobj(tar.extractfile(members[each]), it)
         # The book as the job had it: it may be another one by now.
         book = f"{self.work}/books/{name}.csv"
         why = ""
@@ -149,37 +165,35 @@ class Run:
             return 4
         return 1 if "refused" in outcomes else 0
 
-
     def go(self):
         """Has all that is missing done, and takes it. The status, or 130 if it was broken off."""
-        engine = engines.ENGINES[self.given.engine](self.given)
-        left = self.missing()
-        if left:
-            self.lay_out(left)
-            try:
-                engine.start(self.work, left)
-                while engine.goes_on():
+        try:
+            left = self.missing()
+            if left:
+                self.lay_out(left)
+                self.engine.start(self.work)
+                while self.engine.goes_on():
                     time.sleep(0.1)
                     self.take()
                     self.tell()
-            except BaseException as end:
-                engine.stop()
-                if not isinstance(end, KeyboardInterrupt):
-                    raise
                 self.take()
-                self.tell(is_last=True)
-                return 130
+        except BaseException as end:
+            self.engine.stop()
+            if not isinstance(end, KeyboardInterrupt):
+                raise
             self.take()
-            shutil.rmtree(self.work, ignore_errors=True)
+            self.tell(is_last=True)
+            return 130
+        finally:
+            self.engine.clean()
+            self.clean()
+            self.lock.close()
         self.tell(is_last=True)
-        for result in self.done.values():
-            if result.manifest["why"]:
-                print(f"{result.name}: {result.manifest['why']}", file=sys.stderr)
+        for name in self.names:
+            why = self.done[name].manifest["why"] if name in self.done else "no result came back"
+            if why:
+                print(f"{name}: {why}", file=sys.stderr)
         return self.status()
-
-
-def interrupted(number, _):
-    raise KeyboardInterrupt(number)
 
 
 def main(words):
@@ -188,8 +202,8 @@ def main(words):
         fail("--workers is from 1 to 64, and --jobs at least 1")
     if (given.month is not None) != has_tables(given.folder) or (given.weight is not None and given.month is None):
         fail("--month is for a folder with bases.csv, crew.csv, pairings.csv and duties.csv, and --weight goes with it")
+    has_all = True
     if given.month is not None:
-        given.folder = make_books(os.path.abspath(given.folder), given.month, given.weight)
-    for each in (signal.SIGTERM, signal.SIGHUP):
-        signal.signal(each, interrupted)
-    return Run(given).go()
+        given.folder, has_all = make_books(os.path.abspath(given.folder), given.month, given.weight)
+    status = Run(given).go()
+    return status if has_all else status or 1

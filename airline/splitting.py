@@ -3,6 +3,7 @@ of its own. Groups are drawn anew in each round, which begins with what there is
 
 import argparse
 import csv
+import io
 import os
 import random
 import shutil
@@ -10,19 +11,16 @@ import sys
 import tempfile
 
 import running
-from books import write_whole
+from books import MOST_PAIRINGS, MOST_PERSONS, write_whole
 from programs import Report, fail
-
-# What a book may have.
-MOST_PERSONS, MOST_PAIRINGS = 128, 512
+from tables import records_of
 
 
 class Book:
     """The records of a book that may be larger than a book may be."""
 
-    def __init__(self, path):
-        with open(path, encoding="utf-8-sig", newline="") as it:
-            self.rows = [row for row in csv.reader(it) if row]
+    def __init__(self, path, rows):
+        self.rows = rows
         if not self.rows or self.rows[0][0] != "period" or len(self.rows[0]) != 2:
             fail(f"{path} doesn't begin with a month", 1)
         self.month = self.rows[0][1]
@@ -45,7 +43,9 @@ class Book:
             if row[2] == "P":
                 self.begins.setdefault(row[3], row[5])
         elif row[0] == "assign" and row[2] != "-":
+            # Both are there.
             self.given[row[1]] = row[2]
+            self.base["pairing", row[1]], self.base["crew", row[2]]
 
     def part(self, persons, pairings, given):
         """The book of these persons and pairings, with what each of them has to begin with."""
@@ -87,7 +87,7 @@ class Split:
         for it in self.book.persons:
             by_base.setdefault(self.book.base["crew", it], []).append(it)
         first = {}
-        if self.draw.random() < 0.5 and self.given:
+        if self.draw.random() < 0.5 and self.given and self.book.begins:
             since = self.draw.choice(sorted(self.book.begins.values()))
             for pairing, person in self.given.items():
                 begins = self.book.begins.get(pairing, "")
@@ -131,13 +131,13 @@ class Split:
         os.makedirs(folder)
         groups = self.groups()
         for at, (persons, pairings) in enumerate(zip(groups, self.shares(groups))):
-            with open(f"{folder}/group-{at + 1:03}.csv", "w", encoding="utf-8", newline="") as it:
-                csv.writer(it, lineterminator="\n").writerows(self.book.part(persons, pairings, self.given))
+            write_book(f"{folder}/group-{at + 1:03}.csv", self.book.part(persons, pairings, self.given))
         run = running.Run(running.words_of([folder, *self.options.words]))
         status = run.go()
         if status == 1:
-            name, result = next((name, it) for name, it in run.done.items() if it.manifest["outcome"] == "refused")
-            fail(f"{folder}/{name}.csv is refused: roster-desk fault tells why", 1)
+            name = next(name for name, it in run.done.items() if it.manifest["outcome"] == "refused")
+            with open(f"{folder}/out/{name}/fault.txt", encoding="utf-8", errors="replace") as it:
+                fail(f"the book of a group is refused:\n{it.read().rstrip()}", 1)
         if status:
             sys.exit(status)
         for result in run.done.values():
@@ -195,7 +195,11 @@ def words_of(words):
         prog="roster-airline split",
         description="Plans a base that is too large for a book, group by group, and writes one report of it. It has no bound.",
     )
-    at.add_argument("book", metavar="BOOK", help="as a book, with more persons and pairings than one may have")
+    at.add_argument("book", metavar="BOOK", help="as a book, with more persons and pairings than one may have; or a folder with tables")
+    at.add_argument("--month", metavar="YYYY-MM", help="of the tables")
+    at.add_argument("--base", metavar="B", help="only this base of the tables")
+    at.add_argument("--rank", metavar="R", help="only this rank of the tables")
+    at.add_argument("--weight", type=int, metavar="UNITS", help="of the tables: what each minute costs by which a target is missed")
     at.add_argument("--rounds", type=int, default=8, metavar="N", help="how often groups are drawn and planned (8)")
     at.add_argument("--persons", type=int, default=50, metavar="N", help="at most so many a group, up to 128 (50)")
     at.add_argument("--effort", type=int, choices=range(10), default=1, metavar="N", help="of each group's plan (1)")
@@ -206,6 +210,10 @@ def words_of(words):
     given = at.parse_args(words)
     if given.rounds < 1 or not 1 <= given.persons <= MOST_PERSONS:
         fail("--rounds is at least 1, and --persons from 1 to 128")
+    if os.path.isdir(given.book) != (given.month is not None):
+        fail("--month is for a folder with tables")
+    if given.month is None and (given.base, given.rank, given.weight) != (None, None, None):
+        fail("--base, --rank and --weight go with --month")
     given.words = ["--quiet", "--effort", str(given.effort), "--engine", given.engine]
     for name in ("hosts", "jobs"):
         if getattr(given, name):
@@ -213,11 +221,33 @@ def words_of(words):
     return given
 
 
+def book_of(given):
+    """The book of a file, or of the tables of a folder."""
+    if given.month is not None:
+        rows = records_of(os.path.abspath(given.book), given.month, given.base, given.rank, given.weight)
+    else:
+        try:
+            with open(given.book, encoding="utf-8-sig", newline="") as it:
+                rows = [row for row in csv.reader(it) if row]
+        except (csv.Error, UnicodeDecodeError) as error:
+            fail(f"{given.book}: {error}", 1)
+    return Book(given.book, rows)
+
+
+def write_book(path, rows):
+    """Writes records as a book."""
+    text = io.StringIO(newline="")
+    csv.writer(text, lineterminator="\n").writerows(rows)
+    write_whole(path, text.getvalue())
+
+
 def main(words):
     given = words_of(words)
-    split = Split(Book(given.book), given)
+    split = Split(book_of(given), given)
     if given.into:
         os.makedirs(given.into, exist_ok=True)
+        if given.month is not None:
+            write_book(f"{given.into}/book.csv", split.book.rows)
         text = split.go(given.into)
     else:
         with tempfile.TemporaryDirectory(prefix="roster-split-") as folder:
