@@ -4,9 +4,12 @@ import csv
 import glob
 import json
 import os
+import sys
 
 from programs import Report, fail, sum_of
 
+# A refused book may be anything.
+csv.field_size_limit(sys.maxsize)
 # What a book may have.
 MOST_PERSONS, MOST_PAIRINGS = 128, 512
 # Files of a result that a manifest has the sums of.

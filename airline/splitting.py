@@ -229,7 +229,7 @@ def book_of(given):
         try:
             with open(given.book, encoding="utf-8-sig", newline="") as it:
                 rows = [row for row in csv.reader(it) if row]
-        except (csv.Error, UnicodeDecodeError) as error:
+        except UnicodeDecodeError as error:
             fail(f"{given.book}: {error}", 1)
     return Book(given.book, rows)
 

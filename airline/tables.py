@@ -34,10 +34,7 @@ class Sheet:
         text = text.lstrip("\r\n")
         head = re.split("[\\r\\n]", text, maxsplit=1)[0]
         self.separator = max(",;\t", key=head.count)
-        try:
-            self.rows = list(csv.reader(io.StringIO(text, newline=""), delimiter=self.separator))
-        except csv.Error as error:
-            fail(f"{folder}/{name}: {error}", 1)
+        self.rows = list(csv.reader(io.StringIO(text, newline=""), delimiter=self.separator))
         self.columns = {cell.strip().upper(): at for at, cell in enumerate(self.rows[0] if self.rows else [])}
         self.rank_at = self.columns.get("RANK", len(self.rows[0]) if self.rows else 0)
 
