@@ -690,8 +690,19 @@ def is_legal(run, roster, book, given):
     return crew and all(line.endswith(b" OK") for line in crew)
 
 
+def shown_rows(tests, root):
+    """The rows that docs/TABLES.md shows are those of the example."""
+    block = read(f"{root}/docs/TABLES.md").decode().split("```text\n")[1].split("```")[0]
+    shown = {cells for line in block.splitlines() for cells in re.split("  +", line.strip()) if cells}
+    rows = {f"{table}.csv": read(f"{root}/examples/tables/{table}.csv").decode().splitlines() for table in TABLES}
+    tests.told("the tables of docs/TABLES.md", set(rows) - shown and f"not {sorted(set(rows) - shown)}")
+    strange = shown - set(rows) - {row for of in rows.values() for row in of}
+    tests.told("the rows of docs/TABLES.md", strange and f"not {sorted(strange)}")
+
+
 def all_tables(tests, run, roster, desk, root):
     example = f"{root}/examples/tables"
+    shown_rows(tests, root)
     examples(tests, run, desk, example)
     mistakes(tests, run, desk)
     starts(tests, run, roster, desk, example)
