@@ -7,6 +7,7 @@ import glob
 import json
 import os
 import shutil
+import signal
 import subprocess
 import sys
 import tarfile
@@ -178,6 +179,9 @@ class Run:
                     self.tell()
                 self.take()
         except BaseException as end:
+            # Nothing breaks off what ends the jobs.
+            for each in (signal.SIGINT, signal.SIGTERM, signal.SIGHUP):
+                signal.signal(each, signal.SIG_IGN)
             self.engine.stop()
             if not isinstance(end, KeyboardInterrupt):
                 raise
