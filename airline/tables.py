@@ -101,6 +101,7 @@ def records_of(folder, month, base, rank, weight):
     whole = book_of(folder, month, base, rank, weight)
     if whole.returncode and not is_too_large(whole):
         end(whole.stderr, whole.returncode)
+    print("".join(f"{line}\n" for line in whole.stderr.splitlines() if OF_SIZE not in line), end="", file=sys.stderr)
     if not whole.returncode:
         return list(csv.reader(io.StringIO(whole.stdout, newline="")))
     crew, pairings = Sheet(folder, "crew.csv"), Sheet(folder, "pairings.csv")
