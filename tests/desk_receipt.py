@@ -35,8 +35,8 @@ def receipts(tests, run, desk, root):
     os.mkdir(folder)
     for name in ("book.csv", "start.txt"):
         shutil.copy(f"{root}/examples/left-open{'.csv' if name == 'book.csv' else '.txt'}", f"{folder}/{name}")
-    # One that `solve` refuses, so more effort makes another plan.
-    shutil.copy(f"{root}/examples/month-of-twenty.csv", f"{folder}/large.csv")
+    # One that `solve` refuses, and of which more effort makes another plan.
+    write(f"{folder}/large.csv", run(f"{root}/bench/month", "1,10,50", "1").stdout)
 
     def ran(*words, **more):
         return run(script, *words, cwd=folder, **more)
