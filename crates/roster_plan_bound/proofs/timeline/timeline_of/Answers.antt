@@ -1,0 +1,27 @@
+use Rattle.std.proofs.Common.{List, subst}
+use Rattle.std.specs.Prelude.{IfSome}
+use Rattle.roster_model.specs.Calendar.{month_start}
+use Rattle.roster_model.specs.Problem.{home_of}
+use Rattle.roster_lines.specs.Listing.{ArePartsLegal}
+use Rattle.roster_plan_bound.specs.declared.span.Span.{Span}
+use Rattle.roster_plan_bound.specs.Drafts.{AreSpans, IsDraft, IsWhole}
+use Rattle.roster_plan_bound.proofs.TimelineLemmas.{drafted}
+use Rattle.roster_plan_bound.proofs.timeline.timeline_of.Goals as goal
+
+pub returns : goal.returns
+returns c =
+    let problem = c.args.problem.now in
+    let pairs = c.args.pairs.now in
+    let timeline = c.in_ok-timeline.timeline in
+    let spans : List Span = c.in-Some.spans.items in
+    let sound = c.is_sound.ensures in
+    let parts : ArePartsLegal problem c.args.k = λ set part within legal.
+    c.part_of_legal_is_legal.ensures problem c.args.k set part sound.ordered sound.timed within legal in
+    let spanned : AreSpans problem spans =
+    subst (λ found. IfSome found (λ s. AreSpans problem s.items)) c.in-Some.is c.in_ok-spans.ensures in
+    let draft : IsDraft pairs spans (month_start (home_of problem c.args.k).days) timeline =
+    subst (λ n. IsDraft pairs spans n timeline) c.month_start_of.ensures
+    (subst (λ (s : List Span). IsDraft pairs s c.month_start_of.result timeline) c.deref.ensures.value c.in_ok-timeline.ensures) in
+    let whole : IsWhole timeline spans =
+    subst (IsWhole timeline) c.deref-2.ensures.value (c.is_whole.ensures c.if-not-is_whole.false) in
+    drafted problem c.args.k pairs spans timeline sound.ordered sound.timed parts c.requires.pairs spanned draft whole

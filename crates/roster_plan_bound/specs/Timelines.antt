@@ -1,0 +1,83 @@
+-- The pairings of a person in order of time.
+use Rattle.std.specs.Prelude.{◌≡◌, ℕ, ◌<◌, ◌≤◌, List, [], length, slice_get, slice_index, slice_index_or, true, Some, ℤ, All}
+use Rattle.roster_model.specs.Problem.{Problem}
+use Rattle.roster_model.specs.Rules.{is_among, IsLegal}
+use Rattle.roster_lines.specs.Listing.{AreAlone, AreFlights}
+use Rattle.roster_plan_bound.specs.declared.timeline.Timeline.{Timeline}
+use Rattle.roster_model.specs.declared.limits.TheConstants.{MOST_PAIRINGS}
+use Rattle.roster_cost.specs.Amounts.{IsWithin}
+use Rattle.roster_plan_bound.specs.declared.parts.TheConstants.{MOST_FLIGHT, MOST_STEP}
+use Rattle.roster_plan_bound.specs.Spans.{IsBegun}
+use Rattle.roster_plan_bound.specs.Ranked.{IsRanked}
+
+-- where the pairing at place p stands
+abbrev pub rank_of : Timeline → ℕ → ℕ
+rank_of timeline p = slice_index timeline.ranks.items p
+
+-- those that may follow it, and those of them before which no recurrent rest lies
+abbrev pub later_than : Timeline → ℕ → List ℕ
+later_than timeline p = slice_index_or timeline.later.items p []
+
+abbrev pub unrested_after : Timeline → ℕ → List ℕ
+unrested_after timeline p = slice_index_or timeline.unrested.items p []
+
+-- its class after a recurrent rest, the first one from which on it ends in time, and the instant of a class
+abbrev pub class_of : Timeline → ℕ → ℕ
+class_of timeline p = slice_index timeline.classes.items p
+
+abbrev pub low_of : Timeline → ℕ → ℕ
+low_of timeline p = slice_index timeline.lows.items p
+
+abbrev pub begin_of : Timeline → ℕ → ℕ
+begin_of timeline class = slice_index timeline.begins.items class
+
+-- Pairings that are legal together, by their ranks.
+pub record IsPath (problem : Problem) (k : ℕ) (timeline : Timeline) (path : List ℕ) : Type 0 where
+  pub legal : IsLegal problem k path
+  pub ranked : IsRanked (rank_of timeline) path
+  pub places : All (λ p. p < length problem.pairings) path
+
+-- a list for each pairing, and a class for each that is legal alone
+pub record CoversPairings (problem : Problem) (timeline : Timeline) : Type 0 where
+  pub ranks : length timeline.ranks.items ≡ length problem.pairings
+  pub later : length timeline.later.items ≡ length problem.pairings
+  pub unrested : length timeline.unrested.items ≡ length problem.pairings
+  pub classes : length timeline.classes.items ≡ length problem.pairings
+  pub lows : length timeline.lows.items ≡ length problem.pairings
+  pub far : length timeline.far.items ≡ length problem.pairings
+  pub begins : length timeline.begins.items ≡ length timeline.order.items
+
+-- In each legal set it is known of its pairings which follow which, and since when no recurrent rest may
+-- have been.
+pub record IsTimeline (problem : Problem) (k : ℕ) (timeline : Timeline) : Type 0 where
+  pub covers : CoversPairings problem timeline
+  pub alone : AreAlone problem k timeline.alone
+  pub short : length timeline.order.items ≤ MOST_PAIRINGS
+  pub known : All (λ p. is_among timeline.alone p ≡ true) timeline.order.items
+  pub order : (p : ℕ) → is_among timeline.alone p ≡ true
+      → slice_get timeline.order.items (rank_of timeline p) ≡ Some p
+  pub later : (set : List ℕ) (p q : ℕ) → IsLegal problem k set → p < length problem.pairings
+      → q < length problem.pairings → is_among set p ≡ true → is_among set q ≡ true
+      → rank_of timeline p < rank_of timeline q → is_among (later_than timeline p) q ≡ true
+  pub class : (p : ℕ) → is_among timeline.alone p ≡ true
+      → class_of timeline p < length timeline.order.items
+  pub own : (set : List ℕ) (p : ℕ) → IsLegal problem k set → p < length problem.pairings
+      → is_among set p ≡ true → IsBegun problem k set p (begin_of timeline (class_of timeline p))
+  pub same : (set : List ℕ) (p q begin : ℕ) → IsLegal problem k set → p < length problem.pairings
+      → q < length problem.pairings → is_among set p ≡ true → is_among set q ≡ true
+      → is_among (unrested_after timeline p) q ≡ true → IsBegun problem k set p begin
+      → IsBegun problem k set q begin
+  pub rising : (p q : ℕ) → p < length problem.pairings → is_among (unrested_after timeline p) q ≡ true
+      → class_of timeline p ≤ class_of timeline q
+  pub in_time : (set : List ℕ) (q class : ℕ) → IsLegal problem k set → q < length problem.pairings
+      → is_among set q ≡ true → class < length timeline.order.items
+      → IsBegun problem k set q (begin_of timeline class) → low_of timeline q ≤ class
+  pub flights : AreFlights problem k timeline.flights.items
+  pub few : All (λ flight. flight ≤ MOST_FLIGHT) timeline.flights.items
+
+-- a timeline of person k, and what each pairing brings
+pub record AreValued (problem : Problem) (k : ℕ) (timeline : Timeline) (values : List ℤ) : Type 0 where
+  pub is_timeline : IsTimeline problem k timeline
+  pub few : length problem.pairings ≤ MOST_PAIRINGS
+  pub covers : length values ≡ length problem.pairings
+  pub within : All (IsWithin MOST_STEP) values
