@@ -1,0 +1,88 @@
+-- What paths of a person bring at some prices, and tables that say what all of them bring at least.
+use Rattle.std.specs.Prelude.{◌≡◌, ℕ, ◌+◌, ◌*◌, ◌<◌, ◌≤◌, List, ◌∷◌, ◌++◌, [], length, ℤ, pos, ◌+ℤ◌, ◌-ℤ◌, ◌*ℤ◌, ◌≤ℤ◌, All}
+use Rattle.std.specs.List.{sum_by}
+use Rattle.roster_model.specs.Costs.{flight_of, total}
+use Rattle.roster_model.specs.Problem.{Problem, target_of, weight_of}
+use Rattle.roster_cost.specs.Amounts.{minutes_of_pairing, IsWithin}
+use Rattle.roster_plan_bound.specs.declared.parts.TheConstants.{MOST_LEAST, MOST_SHORT, MOST_WORTH, PARTS}
+use Rattle.roster_plan_bound.specs.declared.prospect.WorthTable.{WorthTable}
+use Rattle.roster_plan_bound.specs.declared.timeline.Timeline.{Timeline}
+use Rattle.roster_plan_bound.specs.Behinds.{AreBehind}
+use Rattle.roster_plan_bound.specs.Chains.{value_at}
+use Rattle.roster_plan_bound.specs.Networks.{missed_at, AreValues}
+use Rattle.roster_plan_bound.specs.Reduced.{ArePrices}
+use Rattle.roster_plan_bound.specs.Spans.{IsBegun}
+use Rattle.roster_plan_bound.specs.Timelines.{begin_of, class_of, AreValued, IsPath, IsTimeline}
+
+-- the minutes of flight of a path's pairings
+abbrev pub flight_along : Problem → ℕ → List ℕ → ℕ
+flight_along problem k path = sum_by (minutes_of_pairing problem k) path
+
+-- what so much flight beyond the fixed one costs, targets as they are, in parts of a cost unit
+abbrev pub term_of : Problem → ℕ → ℕ → ℤ
+term_of problem k flight =
+    missed_at problem k (flight_of problem k [] + flight) -ℤ missed_at problem k (flight_of problem k [])
+
+-- what a path brings: its pairings' units less their prices, and what its flight costs
+abbrev pub gain_of : Problem → ℕ → List ℤ → List ℕ → ℤ
+gain_of problem k units path = total (value_at units) path +ℤ term_of problem k (flight_along problem k path)
+
+-- no path brings less
+abbrev pub IsLeastPath : Problem → ℕ → Timeline → List ℤ → ℤ → Type 0
+IsLeastPath problem k timeline units least =
+    (path : List ℕ) → IsPath problem k timeline path → least ≤ℤ gain_of problem k units path
+
+-- by how many minutes the fixed flight is beyond the target
+abbrev pub short_of : Problem → ℕ → ℤ
+short_of problem k = pos (flight_of problem k []) -ℤ pos (target_of problem k)
+
+-- what each pairing brings if each minute of flight costs so much
+pub record AreWorth (problem : Problem) (k : ℕ) (units : List ℤ) (worth : ℤ) (values : List ℤ) : Type 0 where
+  pub covers : length values ≡ length problem.pairings
+  pub each : (p : ℕ) → p < length problem.pairings
+      → value_at values p ≡ value_at units p +ℤ (worth *ℤ pos (minutes_of_pairing problem k p))
+
+-- A table at what a minute of flight costs. To miss the target costs no less, since a minute costs no more
+-- than the weight on either side.
+pub record IsTable (problem : Problem) (k : ℕ) (timeline : Timeline) (units : List ℤ)
+    (table : WorthTable) : Type 0 where
+  pub values : List ℤ
+  pub worths : AreWorth problem k units table.worth values
+  pub valued : AreValued problem k timeline values
+  pub behind : AreBehind problem k timeline values table.behind
+  pub small : IsWithin MOST_WORTH table.worth
+  pub weighed : IsWithin (PARTS * weight_of problem) table.worth
+  pub fixed : table.fixed ≡ (table.worth *ℤ short_of problem k)
+      -ℤ missed_at problem k (flight_of problem k [])
+  pub near : IsWithin MOST_LEAST table.fixed
+
+-- a person's timeline, what each pairing brings at the prices, and tables
+pub record IsProspect (problem : Problem) (k : ℕ) (timeline : Timeline) (prices units : List ℤ)
+    (tables : List WorthTable) (weight short : ℤ) : Type 0 where
+  pub person : k < length problem.persons
+  pub is_timeline : IsTimeline problem k timeline
+  pub are_prices : ArePrices problem prices
+  pub are_units : AreValues problem prices k units
+  pub are_tables : All (IsTable problem k timeline units) tables
+  pub is_weight : weight ≡ pos (PARTS * weight_of problem)
+  pub is_short : short ≡ short_of problem k
+  pub small : IsWithin MOST_SHORT short
+
+-- What begins with some path that ends with pairing q brings no less, if the path has that value and flight,
+-- and since the instant of the class no recurrent rest lies before its end.
+abbrev pub IsAhead : Problem → ℕ → Timeline → List ℤ → ℤ → ℕ → ℕ → ℕ → ℤ → Type 0
+IsAhead problem k timeline units value flight q class least =
+    (before rest : List ℕ) → IsPath problem k timeline (before ++ q ∷ rest)
+    → IsBegun problem k (before ++ q ∷ rest) q (begin_of timeline class)
+    → class ≤ class_of timeline q
+    → value ≡ total (value_at units) (before ++ q ∷ [])
+    → flight ≡ flight_along problem k (before ++ q ∷ [])
+    → least ≤ℤ gain_of problem k units (before ++ q ∷ rest)
+
+-- a problem, one of its persons with their timeline, prices, and what each pairing brings at them
+pub record Outlook : Type 0 where
+  pub problem : Problem
+  pub person : ℕ
+  pub timeline : Timeline
+  pub prices : List ℤ
+  pub units : List ℤ

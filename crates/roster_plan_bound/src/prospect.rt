@@ -1,0 +1,385 @@
+//! What the paths of a person bring at some prices: tables say what all of them bring at least.
+
+ghost use Rattle.std.specs.Prelude.{◌≡◌, ◌<◌, ◌≤◌, ◌+◌, ◌*◌, ◌+ℤ◌, ◌-ℤ◌, ◌*ℤ◌, ◌≤ℤ◌, ◌⊎◌, ℕ, pos, neg_ℤ};
+ghost use Rattle.std.specs.Prelude.{All, IfOk, IfSome, length, slice_index, slice_index_or, unsigned_abs, []};
+ghost use Rattle.roster_cost.specs.Amounts.{IsWithin};
+ghost use Rattle.roster_model.specs.Problem.{weight_of};
+ghost use Rattle.roster_plan_bound.specs.Behinds.{row_at};
+ghost use Rattle.roster_plan_bound.specs.Chains.{value_at};
+ghost use Rattle.roster_plan_bound.specs.Networks.{AreValues};
+ghost use Rattle.roster_plan_bound.specs.Prospects.{short_of, term_of, IsAhead, IsLeastPath, IsTable};
+ghost use Rattle.roster_plan_bound.specs.Reduced.{ArePrices, IsLeastOf};
+ghost use Rattle.roster_plan_bound.specs.Timelines.{IsTimeline};
+
+use crate::behind::{Behind, Valued, behind_of};
+use crate::parts::{
+    MOST_BEHIND, MOST_CHAIN_VALUE, MOST_FLIGHT, MOST_LEAST, MOST_SHORT, MOST_STEP, MOST_SUM,
+    MOST_WORTH, PARTS,
+};
+use crate::pricing::values_of;
+use crate::timeline::Timeline;
+use roster_cost::fixed_flight;
+use roster_cumulative::flight_of_set;
+use roster_legal::part_of_legal_is_legal;
+use roster_model::limits::{MOST_PAIRINGS, MOST_WEIGHT};
+use roster_problem::Problem;
+use std::alloc::{AllocError, Global};
+use std::marker::Model;
+
+/// A table at what a minute of flight costs, and what the target costs beside it at least.
+#[derive(Drop)]
+pub(crate) struct WorthTable {
+    pub(crate) worth: i64,
+    pub(crate) fixed: i64,
+    pub(crate) behind: Behind,
+}
+
+/// What is known of a person at some prices. Contracts see the problem, the person, the timeline, the prices, and
+/// what each pairing brings at them.
+#[derive(Drop)]
+pub(crate) struct Prospect<'a> {
+    problem: &'a Problem,
+    person: usize,
+    timeline: &'a Timeline,
+    prices: &'a [i64],
+    units: Vec<i64>,
+    tables: Vec<WorthTable>,
+    weight: i64,
+    short: i64,
+}
+
+impl<'a> Model for Prospect<'a> {
+    ghost use Rattle.roster_plan_bound.specs.Prospects.{IsProspect, Outlook};
+
+    ghost Value = { Outlook };
+
+    ghost view = { λ o. record {
+      problem = o.problem.now;
+      person = o.person;
+      timeline = o.timeline.now;
+      prices = o.prices.now;
+      units = o.units.items;
+    } };
+
+    ghost invariant = { λ o. IsProspect o.problem.now o.person o.timeline.now o.prices.now o.units.items
+        o.tables.items o.weight o.short };
+}
+
+impl<'a> Prospect<'a> {
+    /// What is known of the person, without tables; none if the fixed flight is too far from the target.
+    pub(crate) fn new(
+        alloc: Global,
+        problem: &'a Problem,
+        person: usize,
+        timeline: &'a Timeline,
+        prices: &'a [i64],
+    ) -> Result<Option<Prospect<'a>>, AllocError>
+        requires person { person < length problem.now.persons }
+        requires timeline { IsTimeline problem.now person timeline.now }
+        requires prices { ArePrices problem.now prices.now }
+        ensures problem { IfOk result (λ found. IfSome found (λ prospect. prospect.problem ≡ problem.now)) }
+        ensures person { IfOk result (λ found. IfSome found (λ prospect. prospect.person ≡ person)) }
+        ensures timeline { IfOk result (λ found. IfSome found (λ prospect. prospect.timeline ≡ timeline.now)) }
+        ensures prices { IfOk result (λ found. IfSome found (λ prospect. prospect.prices ≡ prices.now)) }
+    {
+        let Some(short) = beyond_target(problem, person) else {
+            return Ok(None);
+        };
+        let units = values_of(alloc, problem, person, prices)?;
+        Ok(Some(Prospect {
+            problem,
+            person,
+            timeline,
+            prices,
+            units,
+            tables: Vec::new(alloc),
+            weight: minute_weight(problem),
+            short,
+        }))
+    }
+
+    /// The problem.
+    pub(crate) fn problem(&self) -> &'a Problem
+        ensures { result.now ≡ self.now.problem }
+    {
+        self.problem
+    }
+
+    /// The place of the person.
+    pub(crate) fn person(&self) -> usize
+        ensures value { result ≡ self.now.person }
+        ensures there { self.now.person < length self.now.problem.persons }
+    {
+        self.person
+    }
+
+    /// The person's timeline.
+    pub(crate) fn timeline(&self) -> &'a Timeline
+        ensures value { result.now ≡ self.now.timeline }
+        ensures is { IsTimeline self.now.problem self.now.person self.now.timeline }
+    {
+        self.timeline
+    }
+
+    /// What each pairing brings.
+    pub(crate) fn units(&self) -> &[i64]
+        ensures value { result.now ≡ self.now.units }
+        ensures are { AreValues self.now.problem self.now.prices self.now.person self.now.units }
+    {
+        self.units.as_slice()
+    }
+
+    /// Makes the table at what a minute of flight costs, or at the nearest worth that is no more than the
+    /// weight, on either side. If memory runs out, nothing has changed.
+    pub(crate) fn add(&mut self, alloc: Global, worth: i64) -> Result<(), AllocError>
+        ensures { self.new ≡ self.old }
+    {
+        let table = self.table_at(alloc, worth)?;
+        self.tables.push(table)?;
+        Ok(())
+    }
+
+    /// The table at what a minute of flight costs, or at the nearest worth that may be.
+    fn table_at(&self, alloc: Global, worth: i64) -> Result<WorthTable, AllocError>
+        ensures { IfOk result
+            (IsTable self.now.problem self.now.person self.now.timeline self.now.units) }
+    {
+        self.problem.is_sound();
+        let worth = near_worth(worth, self.weight);
+        let values = worth_values(alloc, &self.units, &self.timeline.flights, worth)?;
+        let valued = Valued {
+            problem: self.problem,
+            person: self.person,
+            timeline: self.timeline,
+            values: &values,
+        };
+        let behind = behind_of(alloc, &valued)?;
+        let fixed = fixed_at(worth, self.weight, self.short);
+        Ok(WorthTable {
+            worth,
+            fixed,
+            behind,
+        })
+    }
+
+    /// No line of the person has a lower reduced cost.
+    pub(crate) fn least(&self) -> i64
+        ensures { IsLeastOf self.now.problem self.now.prices self.now.person result }
+    {
+        self.problem.is_sound();
+        let mut least = -(MOST_LEAST as i64);
+        for i in 0..self.tables.len() {
+            least = raised(least, self.tables[i].begun());
+        }
+        self.is_least(least);
+        least
+    }
+
+    /// What a path brings at least that begins with pairings of that value and flight, of which `q` is the
+    /// last one. Since the instant of the class no recurrent rest lies before its end.
+    pub(crate) fn ahead(&self, value: i64, flight: u64, q: usize, class: usize) -> i64
+        requires pairing { q < length self.now.problem.pairings }
+        requires value { IsWithin (MOST_PAIRINGS * MOST_CHAIN_VALUE) value }
+        requires flight { flight ≤ MOST_PAIRINGS * MOST_FLIGHT }
+        ensures { IsAhead self.now.problem self.now.person self.now.timeline self.now.units value flight q
+            class result }
+    {
+        self.problem.is_sound();
+        let mut least = -(MOST_LEAST as i64);
+        for i in 0..self.tables.len() {
+            least = greater(least, self.tables[i].ahead(value, flight, q, class));
+        }
+        least
+    }
+
+    /// What so much flight beyond the fixed one costs.
+    pub(crate) fn term(&self, flight: u64) -> i64
+        requires { flight ≤ MOST_PAIRINGS * MOST_FLIGHT }
+        ensures { result ≡ term_of self.now.problem self.now.person flight }
+    {
+        self.problem.is_sound();
+        missed_more(self.weight, self.short, flight)
+    }
+
+    /// What no path brings less than, no line has a lower reduced cost than.
+    pub(crate) fn is_least(&self, least: i64)
+        requires path { IsLeastPath self.now.problem self.now.person self.now.timeline self.now.units least }
+        requires within { IsWithin MOST_LEAST least }
+        ensures { IsLeastOf self.now.problem self.now.prices self.now.person least }
+    {
+        part_of_legal_is_legal();
+        flight_of_set();
+        self.problem.is_sound();
+    }
+
+    /// The prices.
+    pub(crate) fn prices(&self) -> &'a [i64] {
+        self.prices
+    }
+
+    /// What a minute of flight is worth to the table that says most; nothing if there is none.
+    pub(crate) fn best_worth(&self) -> i64 {
+        let mut worth = 0;
+        let mut most = i64::MIN;
+        for table in &self.tables {
+            let begun = table.begun_at_most();
+            if begun > most {
+                worth = table.worth;
+                most = begun;
+            }
+        }
+        worth
+    }
+}
+
+impl WorthTable {
+    /// The same as `begun`, whatever the table has.
+    fn begun_at_most(&self) -> i64 {
+        match self.behind.tails.first() {
+            Some(tail) => tail.wrapping_add(self.fixed),
+            None => i64::MIN,
+        }
+    }
+
+    /// What any path brings at least.
+    fn begun(&self) -> i64
+        requires some { 0 < length self.now.behind.tails.items }
+        requires tails { All (IsWithin MOST_BEHIND) self.now.behind.tails.items }
+        requires fixed { IsWithin MOST_LEAST self.now.fixed }
+        ensures { result ≡ value_at self.now.behind.tails.items 0 +ℤ self.now.fixed }
+    {
+        self.behind.tails[0] + self.fixed
+    }
+
+    /// What a path brings at least that begins with pairings of that value and flight, of which `q` is the
+    /// last one.
+    fn ahead(&self, value: i64, flight: u64, q: usize, class: usize) -> i64
+        requires pairing { q < length self.now.behind.rows.items }
+        requires value { IsWithin (MOST_PAIRINGS * MOST_CHAIN_VALUE) value }
+        requires flight { flight ≤ MOST_PAIRINGS * MOST_FLIGHT }
+        requires worth { IsWithin MOST_WORTH self.now.worth }
+        requires fixed { IsWithin MOST_LEAST self.now.fixed }
+        requires rows { All (All (IsWithin MOST_BEHIND)) self.now.behind.rows.items }
+        ensures value { result ≡ value +ℤ (self.now.worth *ℤ pos flight) +ℤ self.now.fixed
+            +ℤ row_at (slice_index_or self.now.behind.rows.items q []) class }
+        ensures within { IsWithin MOST_SUM result }
+    {
+        value + self.worth * flight as i64 + self.fixed + self.behind.rows[q].at(class)
+    }
+}
+
+/// By how many minutes the fixed flight is beyond the target; none if that is too many, or too few.
+fn beyond_target(problem: &Problem, k: usize) -> Option<i64>
+    requires { k < length problem.now.persons }
+    ensures value { IfSome result (λ short. short ≡ short_of problem.now k) }
+    ensures within { IfSome result (IsWithin MOST_SHORT) }
+{
+    let short = fixed_flight(problem, k) as i64 - i64::from(problem.person(k).target);
+    if short.unsigned_abs() > MOST_SHORT {
+        return None;
+    }
+    Some(short)
+}
+
+/// What a minute costs by which the target is missed.
+fn minute_weight(problem: &Problem) -> i64
+    ensures { result ≡ pos (PARTS * weight_of problem.now) }
+{
+    (PARTS * u64::from(problem.weight())) as i64
+}
+
+/// The nearest worth that is no more than the weight, on either side.
+fn near_worth(worth: i64, weight: i64) -> i64
+    requires { (pos 0 ≤ℤ weight) × (weight ≤ℤ pos (PARTS * MOST_WEIGHT)) }
+    ensures small { IsWithin MOST_WORTH result }
+    ensures weighed { (neg_ℤ weight ≤ℤ result) × (result ≤ℤ weight) }
+{
+    let most = weight.min(MOST_WORTH as i64);
+    worth.clamp(-most, most)
+}
+
+/// What each pairing brings if each minute of flight costs so much.
+fn worth_values(
+    alloc: Global,
+    units: &[i64],
+    flights: &[u64],
+    worth: i64,
+) -> Result<Vec<i64>, AllocError>
+    requires covers { length flights.now ≡ length units.now }
+    requires units { All (IsWithin MOST_CHAIN_VALUE) units.now }
+    requires flights { All (λ flight. flight ≤ MOST_FLIGHT) flights.now }
+    requires worth { IsWithin MOST_WORTH worth }
+    ensures covers { IfOk result (λ values. length values.items ≡ length units.now) }
+    ensures each { IfOk result (λ values. (p : ℕ) → p < length units.now
+        → value_at values.items p ≡ value_at units.now p +ℤ (worth *ℤ pos (slice_index flights.now p))) }
+    ensures within { IfOk result (λ values. All (IsWithin MOST_STEP) values.items) }
+{
+    let mut values = Vec::new(alloc);
+    for p in 0..units.len() {
+        values.push(worth_value(units[p], flights[p], worth))?;
+    }
+    Ok(values)
+}
+
+/// What a pairing of so much flight brings if each minute costs so much.
+fn worth_value(units: i64, flight: u64, worth: i64) -> i64
+    requires units { IsWithin MOST_CHAIN_VALUE units }
+    requires flight { flight ≤ MOST_FLIGHT }
+    requires worth { IsWithin MOST_WORTH worth }
+    ensures value { result ≡ units +ℤ (worth *ℤ pos flight) }
+    ensures within { IsWithin MOST_STEP result }
+{
+    units + worth * flight as i64
+}
+
+/// What a table has beside its pairings: by the worth, so much flight beyond the target costs no less.
+fn fixed_at(worth: i64, weight: i64, short: i64) -> i64
+    requires worth { IsWithin MOST_WORTH worth }
+    requires weight { (pos 0 ≤ℤ weight) × (weight ≤ℤ pos (PARTS * MOST_WEIGHT)) }
+    requires short { IsWithin MOST_SHORT short }
+    ensures value { result ≡ (worth *ℤ short) -ℤ (weight *ℤ pos (unsigned_abs short)) }
+    ensures within { IsWithin MOST_LEAST result }
+{
+    worth * short - weight * short.abs()
+}
+
+/// What so much flight beyond the fixed one costs.
+fn missed_more(weight: i64, short: i64, flight: u64) -> i64
+    requires weight { (pos 0 ≤ℤ weight) × (weight ≤ℤ pos (PARTS * MOST_WEIGHT)) }
+    requires short { IsWithin MOST_SHORT short }
+    requires flight { flight ≤ MOST_PAIRINGS * MOST_FLIGHT }
+    ensures { result ≡ (weight *ℤ pos (unsigned_abs (short +ℤ pos flight)))
+        -ℤ (weight *ℤ pos (unsigned_abs short)) }
+{
+    missed_by(weight, short + flight as i64) - missed_by(weight, short)
+}
+
+/// What it costs to be so many minutes beyond the target, or below it.
+fn missed_by(weight: i64, short: i64) -> i64
+    requires weight { (pos 0 ≤ℤ weight) × (weight ≤ℤ pos (PARTS * MOST_WEIGHT)) }
+    requires short { IsWithin (MOST_SHORT + MOST_PAIRINGS * MOST_FLIGHT) short }
+    ensures value { result ≡ weight *ℤ pos (unsigned_abs short) }
+    ensures within { IsWithin MOST_SUM result }
+{
+    weight * short.abs()
+}
+
+/// The greater one, as far as the limit.
+fn raised(least: i64, amount: i64) -> i64
+    requires { IsWithin MOST_LEAST least }
+    ensures one { (result ≡ least) ⊎ (result ≤ℤ amount) }
+    ensures greater { least ≤ℤ result }
+    ensures within { IsWithin MOST_LEAST result }
+{
+    if amount > least {
+        return amount.min(MOST_LEAST as i64);
+    }
+    least
+}
+
+/// The greater one.
+fn greater(least: i64, amount: i64) -> i64
+    ensures { (result ≡ least) ⊎ (result ≡ amount) }
+{
+    if amount > least { amount } else { least }
+}
