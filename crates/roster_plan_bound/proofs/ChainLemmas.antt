@@ -131,7 +131,7 @@ chain_of problem k network is first (p ∷ rest) up inside together begins =
 -- ---- and bring no more than their reduced costs
 
 -- what the pairings of a set bring is their units, less their prices
-total_values : (problem : Problem) (prices : List ℤ) (k : ℕ) (values : List ℤ)
+pub total_values : (problem : Problem) (prices : List ℤ) (k : ℕ) (values : List ℤ)
     → AreValues problem prices k values → (set : List ℕ) → All (λ p. p < length problem.pairings) set
     → total (value_at values) set ≡ (pos PARTS *ℤ total (units_of problem k) set) -ℤ total (price_at prices) set
 total_values problem prices k values are [] inside =
@@ -192,7 +192,7 @@ single_among set p there q among =
       | inr other ↦ absurd (false≢true (sym (is_among-later p q [] (λ e. other (sym e))) ∙ among))
     ]
 
-pair_among : (set : List ℕ) (p q : ℕ) → is_among set p ≡ true → is_among set q ≡ true → (r : ℕ)
+pub pair_among : (set : List ℕ) (p q : ℕ) → is_among set p ≡ true → is_among set q ≡ true → (r : ℕ)
     → is_among (p ∷ q ∷ []) r ≡ true → is_among set r ≡ true
 pair_among set p q there_p there_q r among =
     elim (cases_eq r p) [

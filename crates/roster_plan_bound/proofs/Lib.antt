@@ -1,6 +1,13 @@
 mod ChainLemmas
-mod ListedLemmas
+mod LeastLemmas
 mod RowLemmas
 mod ShareLemmas
 mod TermLemmas
 pub mod GapLemmas
+pub mod UnrestedLemmas
+pub mod RankedLemmas
+pub mod SpanLemmas
+pub mod BehindLemmas
+mod TimelineLemmas
+pub mod SeekLemmas
+pub mod ProspectLemmas

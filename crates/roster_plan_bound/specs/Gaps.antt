@@ -23,12 +23,6 @@ pub record IsCheap (cheap : Cheap) (problem : Problem) (k : ℕ) (set : List ℕ
   pub person : cheap.person ≡ k
   pub most : reduced problem cheap.prices k set ≤ℤ cheap.most
 
--- it is that person of the problem, at the prices
-pub record IsOf (problem : Problem) (k : ℕ) (prices : List ℤ) (cheap : Cheap) : Type 0 where
-  pub same : cheap.problem ≡ problem
-  pub person : cheap.person ≡ k
-  pub priced : cheap.prices ≡ prices
-
 -- the network of the person, and for each pairing what it brings, and the row behind it
 pub record IsTabled (problem : Problem) (k : ℕ) (prices : List ℤ) (network : Network) (values : List ℤ)
     (rows : List (List ℤ)) : Type 0 where

@@ -3,3 +3,11 @@ pub mod Chains
 pub mod Networks
 pub mod Looks
 pub mod Gaps
+pub mod Unrested
+pub mod Ranked
+pub mod Spans
+pub mod Timelines
+pub mod Behinds
+pub mod Prospects
+pub mod Drafts
+pub mod Seeks

@@ -1,14 +1,16 @@
 -- The network of a person: which pairings may follow one another, and what flight costs at the end.
-use Rattle.std.specs.Prelude.{◌≡◌, ℕ, ◌+◌, ◌*◌, ◌-◌, ◌<◌, ◌≤◌, List, [], length, slice_get, slice_index, Some, ℤ, pos, ◌-ℤ◌, ◌*ℤ◌, ◌≤ℤ◌, All}
+use Rattle.std.specs.Prelude.{◌≡◌, ℕ, ◌+◌, ◌*◌, ◌-◌, ◌<◌, ◌≤◌, List, [], length, slice_get, slice_index, IfSome, Option, Some, ℤ, pos, ◌-ℤ◌, ◌*ℤ◌, ◌≤ℤ◌, All}
 use Rattle.roster_model.specs.Costs.{distance, flight_of}
 use Rattle.roster_model.specs.Problem.{Problem, target_of, units_of, weight_of}
 use Rattle.roster_cost.specs.Amounts.{IsWithin, minutes_of_pairing}
 use Rattle.roster_lines.specs.declared.pairs.Pairs.{Pairs}
 use Rattle.roster_lines.specs.Listing.{AreAllPairs, AreAlone, IsRow as AreFollowers}
 use Rattle.roster_plan_bound.specs.declared.network.Network.{Network}
+use Rattle.roster_plan_bound.specs.declared.timeline.Timeline.{Timeline}
 use Rattle.roster_plan_bound.specs.declared.parts.TheConstants.{MOST_TARGET_TERM, MOST_CHAIN_VALUE, PARTS}
 use Rattle.roster_plan_bound.specs.Chains.{followers_of, next_state, value_at, IsRow, IsTail}
 use Rattle.roster_plan_bound.specs.Reduced.{price_at}
+use Rattle.roster_plan_bound.specs.Timelines.{IsTimeline}
 
 -- what it costs that person k has so much flight, targets as they are, in parts of a cost unit
 abbrev pub missed_at : Problem → ℕ → ℕ → ℤ
@@ -76,7 +78,15 @@ pub record AreNetworks (problem : Problem) (networks : List Network) : Type 0 wh
   pub covers : length networks ≡ length problem.persons
   pub each : (k : ℕ) (network : Network) → slice_get networks k ≡ Some network → IsNetwork problem k network
 
--- the pairs and the network of each person
-pub record IsPricing (problem : Problem) (pairs : List Pairs) (networks : List Network) : Type 0 where
+-- the timeline of each person who has one
+pub record AreTimelines (problem : Problem) (timelines : List (Option Timeline)) : Type 0 where
+  pub covers : length timelines ≡ length problem.persons
+  pub each : (k : ℕ) (found : Option Timeline) → slice_get timelines k ≡ Some found
+      → IfSome found (IsTimeline problem k)
+
+-- the pairs, the network and the timeline of each person
+pub record IsPricing (problem : Problem) (pairs : List Pairs) (networks : List Network)
+    (timelines : List (Option Timeline)) : Type 0 where
   pub judged : AreAllPairs problem pairs
   pub are : AreNetworks problem networks
+  pub timed : AreTimelines problem timelines

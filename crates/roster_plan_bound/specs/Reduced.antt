@@ -30,13 +30,6 @@ pub record IsLeastOf (problem : Problem) (prices : List ℤ) (k : ℕ) (least : 
   pub below : (set : List ℕ) → IsLine problem k set → least ≤ℤ reduced problem prices k set
   pub within : IsWithin MOST_LEAST least
 
--- no more than the limit, and none of the sets has a lower reduced cost
-pub record IsLeastListed (problem : Problem) (prices : List ℤ) (k : ℕ) (sets : List (List ℕ))
-    (limit least : ℤ) : Type 0 where
-  pub low : least ≤ℤ limit
-  pub below : (i : ℕ) (set : List ℕ) → slice_get sets i ≡ Some set → least ≤ℤ reduced problem prices k set
-  pub within : IsWithin MOST_LEAST least
-
 -- the reduced costs of the lines of the first persons of a roster, so many of them
 abbrev pub reduced_costs : Problem → List ℤ → ℕ → List ℕ → ℤ
 reduced_costs problem prices count places =

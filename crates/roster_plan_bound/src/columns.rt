@@ -2,6 +2,7 @@
 
 use crate::lists::{amount_at, place_at};
 use crate::softness::{share_of, weight_of};
+use crate::tuning::FINE;
 use roster_values::Set;
 use std::alloc::{AllocError, Global};
 
@@ -14,6 +15,10 @@ pub(crate) struct Columns {
     places: Vec<u16>,
     /// How far above the least the next ones are to be listed, in parts of a cost unit.
     pub(crate) reach: i64,
+    /// What a minute of flight is worth to the table that last said most, in parts of a cost unit.
+    pub(crate) worth: i64,
+    /// How far the other tables are from it; nothing before the first ones.
+    pub(crate) step: i64,
     /// Whether they are lines. Of a chain it is only known that its neighbours are legal together.
     pub(crate) sets: bool,
 }
@@ -26,6 +31,8 @@ impl Columns {
             ends: Vec::new(alloc),
             places: Vec::new(alloc),
             reach,
+            worth: 0,
+            step: 0,
             sets: false,
         }
     }
@@ -49,9 +56,19 @@ impl Columns {
         self.end(cost)
     }
 
-    /// Adds the one whose pairings are in the set, and what it costs without prices.
-    pub(crate) fn push_set(&mut self, set: &Set, cost: i64) -> Result<(), AllocError> {
+    /// Adds the one whose pairings are in the set, and what it costs at the prices.
+    pub(crate) fn push_gain(
+        &mut self,
+        set: &Set,
+        gain: i64,
+        prices: &[i64],
+    ) -> Result<(), AllocError> {
+        let start = self.places.len();
         add_places(&mut self.places, set)?;
+        let mut cost = gain;
+        for j in start..self.places.len() {
+            cost = cost.wrapping_add(amount_at(prices, place_at(&self.places, j)));
+        }
         self.end(cost)
     }
 
@@ -70,8 +87,18 @@ impl Columns {
 
     /// What column `i` costs beyond the prices of its pairings.
     pub(crate) fn value(&self, i: usize, prices: &[i64]) -> i64 {
+        self.beyond(i, amount_at(&self.costs, i), prices)
+    }
+
+    // The same for prices in finer steps than parts.
+    fn fine_value(&self, i: usize, prices: &[i64]) -> i64 {
+        self.beyond(i, amount_at(&self.costs, i).wrapping_mul(FINE), prices)
+    }
+
+    // What is left of the cost of column i without the prices of its pairings.
+    fn beyond(&self, i: usize, cost: i64, prices: &[i64]) -> i64 {
         let (start, end) = self.range(i);
-        let mut value = amount_at(&self.costs, i);
+        let mut value = cost;
         for j in start..end {
             value = value.wrapping_sub(amount_at(prices, place_at(&self.places, j)));
         }
@@ -93,6 +120,63 @@ impl Columns {
             }
         }
         Ok(())
+    }
+
+    /// Adds the columns of another list that it hasn't.
+    pub(crate) fn join(&mut self, others: &Columns) -> Result<(), AllocError> {
+        for i in 0..others.len() {
+            let cost = amount_at(&others.costs, i);
+            if !self.has(others.places(i), cost) {
+                self.push(others.places(i), cost)?;
+            }
+        }
+        Ok(())
+    }
+
+    /// What the cheapest one costs beyond the prices; nothing if none costs less than that.
+    pub(crate) fn least_value(&self, prices: &[i64]) -> i64 {
+        let mut least: i64 = 0;
+        for i in 0..self.len() {
+            least = least.min(self.value(i, prices));
+        }
+        least
+    }
+
+    // Whether it has the column.
+    fn has(&self, places: &[u16], cost: i64) -> bool {
+        (0..self.len()).any(|i| amount_at(&self.costs, i) == cost && self.places(i) == places)
+    }
+
+    /// The first one, and those that cost least at the prices, no more than so many.
+    pub(crate) fn cheapest(
+        &self,
+        alloc: Global,
+        prices: &[i64],
+        most: usize,
+    ) -> Result<Columns, AllocError> {
+        let limit = self.value_behind(alloc, prices, most)?;
+        let mut kept = Columns::of_sets(alloc, self.reach);
+        kept.worth = self.worth;
+        kept.step = self.step;
+        for i in 0..self.len() {
+            if i == 0 || self.value(i, prices) < limit {
+                kept.push(self.places(i), amount_at(&self.costs, i))?;
+            }
+        }
+        Ok(kept)
+    }
+
+    // What the one costs behind so many that cost less.
+    fn value_behind(&self, alloc: Global, prices: &[i64], many: usize) -> Result<i64, AllocError> {
+        let mut values = Vec::new(alloc);
+        for i in 0..self.len() {
+            values.push(self.value(i, prices))?;
+        }
+        values.sort_unstable();
+        match values.get(many) {
+            Some(value) => Ok(*value),
+            None => Ok(i64::MAX),
+        }
     }
 
     // The pairings of column i.
@@ -129,7 +213,7 @@ impl Columns {
         values.clear();
         let mut least = i64::MAX;
         for i in 0..self.len() {
-            let value = self.value(i, prices);
+            let value = self.fine_value(i, prices);
             least = least.min(value);
             values.push(value)?;
         }

@@ -107,7 +107,7 @@ fn limit_of(least: i64, gap: u32) -> i64
 /// The lines of a person whose reduced cost is at most so much at the prices. Contracts see the problem, the
 /// person, the prices and how much that is.
 #[derive(Drop)]
-pub(crate) struct Cheap<'a> {
+struct Cheap<'a> {
     problem: &'a Problem,
     person: usize,
     network: &'a Network,
@@ -155,28 +155,7 @@ impl<'a> Cheap<'a> {
     {
         let values = values_of(alloc, problem, k, prices)?;
         let rows = rows_of(alloc, problem, k, network, &values)?;
-        Ok(Cheap::of_rows(problem, k, network, prices, values, rows, most))
-    }
-
-    /// The same, if what each pairing brings and the rows of all pairings are known.
-    pub(crate) fn of_rows(
-        problem: &'a Problem,
-        k: usize,
-        network: &'a Network,
-        prices: &'a [i64],
-        values: Vec<i64>,
-        rows: Vec<ChainRow>,
-        most: i64,
-    ) -> Cheap<'a>
-        requires { IsTabled problem.now k prices.now network.now values.items rows.items }
-        ensures { result ≡ record {
-          problem = problem.now;
-          person = k;
-          prices = prices.now;
-          most = most;
-        } }
-    {
-        Cheap {
+        Ok(Cheap {
             problem,
             person: k,
             network,
@@ -184,19 +163,7 @@ impl<'a> Cheap<'a> {
             values,
             rows,
             most,
-        }
-    }
-
-    /// From now on a reduced cost may be at most so much.
-    pub(crate) fn limit_to(&mut self, most: i64)
-        ensures { self.new ≡ record {
-          problem = self.old.problem;
-          person = self.old.person;
-          prices = self.old.prices;
-          most = most;
-        } }
-    {
-        self.most = most;
+        })
     }
 }
 

@@ -8,10 +8,16 @@
 //!
 //! - `parts`: amounts in parts of a cost unit
 //! - `network`: which pairings may follow one another
+//! - `span`: when a pairing begins and ends, as the recovery rule sees it
+//! - `timeline`: the pairings of a person in order of time
+//! - `draft`: the tables of a timeline
+//! - `behind`: what the pairings that may stand behind one bring at least
+//! - `prospect`: what the paths of a person bring at some prices
 //! - `terms`: what flight costs at the end of a chain
 //! - `rows`: the table
 //! - `columns`: chains that are known
 //! - `listing`: how they are listed
+//! - `seek`: a search for the path that brings the least
 //! - `sets`: legal sets, listed
 //! - `persons`: looks at each person of a base, shared among threads
 //! - `pricing`: what prices say of the rosters of a base
@@ -25,7 +31,9 @@
 //! - `tuning`: the numbers that decide how good a bound is
 #![tactic(auto)]
 
+mod behind;
 mod columns;
+mod draft;
 mod gap;
 mod listing;
 mod lists;
@@ -35,12 +43,16 @@ mod pace;
 mod parts;
 mod persons;
 mod pricing;
+mod prospect;
 mod rising;
 mod rows;
+mod seek;
 mod sets;
 mod softness;
+mod span;
 mod start;
 mod terms;
+mod timeline;
 mod tuning;
 
 pub use parts::PARTS;

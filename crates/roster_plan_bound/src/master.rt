@@ -7,7 +7,7 @@ use crate::lists::amount_at;
 use crate::pace::Pace;
 use crate::persons::Seen;
 use crate::softness::logarithm;
-use crate::tuning::{COLUMNS_FOR_A_THREAD, LEAST_SOFTNESS, ONE, PATIENCE};
+use crate::tuning::{COLUMNS_FOR_A_THREAD, FINE, LEAST_SOFTNESS, ONE, PATIENCE};
 use std::alloc::{AllocError, Global};
 use std::thread::{Threads, for_each_mut};
 
@@ -56,13 +56,46 @@ pub(crate) fn ascend<R: Threads + Sync>(
 ) -> Result<Vec<i64>, AllocError>
     requires { 0 < threads }
 {
-    let mut way = start(alloc, center, pace.softness)?;
+    let center = fine_prices(alloc, center)?;
+    let covered = fine_covered(alloc, covered)?;
+    let stride = pace.stride.wrapping_mul(FINE);
+    let mut way = start(alloc, &center, pace.softness.wrapping_mul(FINE))?;
     let mut portions = portions_of(alloc, threads, seen, center.len())?;
     for _ in 0..pace.steps {
         cover_all(rt, threads, seen, &way, &mut portions);
-        step(alloc, &mut way, &portions, center, covered, pace.stride)?;
+        step(alloc, &mut way, &portions, &center, &covered, stride)?;
     }
-    Ok(way.best)
+    in_parts(alloc, &way.best)
+}
+
+/// The prices in steps that are finer than parts, as they move: rounded to parts, a small push would be none.
+fn fine_prices(alloc: Global, prices: &[i64]) -> Result<Vec<i64>, AllocError> {
+    let mut fine = Vec::new(alloc);
+    for price in prices {
+        fine.push(price.wrapping_mul(FINE))?;
+    }
+    Ok(fine)
+}
+
+/// The same for penalties.
+fn fine_covered(alloc: Global, covered: &[Covered]) -> Result<Vec<Covered>, AllocError> {
+    let mut fine = Vec::new(alloc);
+    for one in covered {
+        fine.push(Covered {
+            place: one.place,
+            penalty: one.penalty.wrapping_mul(FINE),
+        })?;
+    }
+    Ok(fine)
+}
+
+/// Prices in parts again, each the nearest.
+fn in_parts(alloc: Global, fine: &[i64]) -> Result<Vec<i64>, AllocError> {
+    let mut prices = Vec::new(alloc);
+    for price in fine {
+        prices.push(price.wrapping_add(FINE / 2).div_euclid(FINE))?;
+    }
+    Ok(prices)
 }
 
 /// Takes the prices if what they cost is the most so far, and moves them by the covers of all portions.
@@ -215,7 +248,7 @@ fn judge(alloc: Global, way: &mut Way, sum: i64) -> Result<(), AllocError> {
     way.misses = way.misses.wrapping_add(1);
     if way.misses >= PATIENCE {
         way.misses = 0;
-        way.softness = (way.softness.wrapping_mul(7) / 10).max(LEAST_SOFTNESS);
+        way.softness = (way.softness.wrapping_mul(7) / 10).max(LEAST_SOFTNESS.wrapping_mul(FINE));
     }
     Ok(())
 }

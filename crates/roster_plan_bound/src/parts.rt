@@ -23,3 +23,18 @@ pub(crate) const MOST_COUNTED: u64 = 1 << 15;
 
 /// The sum of what all persons and pairings bring to a bound, at most, and below 0.
 pub(crate) const MOST_SUM: u64 = 1 << 62;
+
+/// The minutes of flight of a pairing that tables are made for, at most.
+pub(crate) const MOST_FLIGHT: u64 = 1 << 16;
+
+/// What a pairing brings to a table at most, and below 0, if flight counts.
+pub(crate) const MOST_STEP: u64 = 1 << 51;
+
+/// What all pairings together bring to a table, at most, and below 0.
+pub(crate) const MOST_BEHIND: u64 = 1 << 60;
+
+/// What a minute of flight is worth to a table, at most, and below 0.
+pub(crate) const MOST_WORTH: u64 = 1 << 34;
+
+/// By how many minutes fixed flight is beyond a target that tables are made for, at most, and below it.
+pub(crate) const MOST_SHORT: u64 = 1 << 17;

@@ -1,6 +1,6 @@
 //! Lower bounds by dual prices.
 
-ghost use Rattle.std.specs.Prelude.{◌≡◌, ◌⊎◌, ◌<◌, ◌*◌, ◌≤ℤ◌, ◌+ℤ◌, ◌-ℤ◌, ◌*ℤ◌, ℤ, pos, IfOk, Some, length};
+ghost use Rattle.std.specs.Prelude.{◌≡◌, ◌⊎◌, ◌<◌, ◌*◌, ◌≤ℤ◌, ◌+ℤ◌, ◌-ℤ◌, ◌*ℤ◌, ℤ, pos, IfOk, IfSome, Some, length};
 ghost use Rattle.std.specs.Prelude.{slice_get};
 ghost use Rattle.roster_lines.specs.Listing.{AreAllPairs, ArePairs};
 ghost use Rattle.roster_model.specs.Problem.{units_of};
@@ -11,15 +11,16 @@ ghost use Rattle.roster_bases.specs.Homes.{EachHomeRoster};
 ghost use Rattle.roster_plan_bound.specs.Networks.{AreRows, AreValues, IsNetwork};
 ghost use Rattle.roster_plan_bound.specs.Looks.{AreLeasts, IsLook};
 ghost use Rattle.roster_plan_bound.specs.Reduced.{shares_behind, ArePrices, IsLeastOf, IsTermOf};
+ghost use Rattle.roster_plan_bound.specs.Timelines.{IsTimeline};
 
 use crate::columns::Columns;
-use crate::gap::Cheap;
 use crate::listing::renew_at;
 use crate::network::{Network, network_of};
 use crate::parts::{MOST_CHAIN_VALUE, MOST_LEAST, MOST_PLAN_PRICE, MOST_SUM, PARTS};
 use crate::persons::{Seen, look_at_all};
 use crate::rows::{ChainRow, end_of_all, row_behind, rows_of};
 use crate::sets::least_set;
+use crate::timeline::{Timeline, timeline_of};
 use roster_bases::{is_pairing_of, is_person_of};
 use roster_cost::{cost_without_pairings, priced_shares_add_up, shares_add_up};
 use roster_cumulative::flight_of_set;
@@ -49,13 +50,14 @@ pub(crate) struct Leasts {
     each: Vec<i64>,
 }
 
-/// The pairs and the network of each person, made once for the bounds of all bases. Contracts see the
+/// The pairs, the network and the timeline of each person, made once for the bounds of all bases. Contracts see the
 /// problem.
 #[derive(Drop)]
 pub struct Pricing<'a> {
     problem: &'a Problem,
     pairs: &'a [Pairs],
     networks: Vec<Network>,
+    timelines: Vec<Option<Timeline>>,
 }
 
 impl<'a> Model for Pricing<'a> {
@@ -68,7 +70,8 @@ impl<'a> Model for Pricing<'a> {
 
     ghost view = { λ p. p.problem.now };
 
-    ghost invariant = { λ p. IsPricing p.problem.now p.pairs.now p.networks.items };
+    ghost invariant = { λ p. IsPricing p.problem.now p.pairs.now p.networks.items
+        p.timelines.items };
 }
 
 impl<'a> Pricing<'a> {
@@ -82,13 +85,16 @@ impl<'a> Pricing<'a> {
         ensures { IfOk result (λ pricing. pricing ≡ problem.now) }
     {
         let mut networks = Vec::new(alloc);
+        let mut timelines = Vec::new(alloc);
         for k in 0..problem.persons().len() {
             networks.push(network_of(alloc, problem, k, &pairs[k])?)?;
+            timelines.push(timeline_of(alloc, problem, k, &pairs[k])?)?;
         }
         Ok(Pricing {
             problem,
             pairs,
             networks,
+            timelines,
         })
     }
 
@@ -156,8 +162,8 @@ impl<'a> Pricing<'a> {
             alloc,
             self.problem,
             k,
-            self.pairs(k),
             &self.networks[k],
+            &self.timelines[k],
             prices,
             columns,
         )
@@ -223,19 +229,19 @@ impl<'a> Pricing<'a> {
     }
 }
 
-/// No line of person `k`, whose pairs and network these are, has a lower reduced cost at the prices.
+/// No line of person `k`, whose network and timeline these are, has a lower reduced cost at the prices.
 fn least_of(
     alloc: Global,
     problem: &Problem,
     k: usize,
-    pairs: &Pairs,
     network: &Network,
+    timeline: &Option<Timeline>,
     prices: &[i64],
     columns: &mut Columns,
 ) -> Result<i64, AllocError>
     requires person { k < length problem.now.persons }
-    requires pairs { ArePairs problem.now k pairs.now }
     requires network { IsNetwork problem.now k network.now }
+    requires timeline { IfSome timeline.now (IsTimeline problem.now k) }
     requires prices { ArePrices problem.now prices.now }
     ensures { IfOk result (IsLeastOf problem.now prices.now k) }
 {
@@ -243,8 +249,7 @@ fn least_of(
     let rows = rows_of(alloc, problem, k, network, &values)?;
     let chain = least_chain(alloc, problem, k, network, prices, &values, &rows)?;
     if columns.sets {
-        let mut cheap = Cheap::of_rows(problem, k, network, prices, values, rows, chain);
-        let least = least_set(alloc, problem, k, pairs, prices, &mut cheap, chain, columns)?;
+        let least = least_set(alloc, problem, k, timeline, prices, chain, columns)?;
         return Ok(least);
     }
     renew_at(alloc, network, prices, &values, &rows, chain, columns)?;

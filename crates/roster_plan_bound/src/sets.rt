@@ -1,42 +1,26 @@
 //! Legal sets that cost little, listed.
 //!
 //! Of a chain it is only known that its neighbours are legal together, and the cheapest one may cost far less
-//! than any line does. So the lines are listed whose reduced cost is at most a limit: no line has less than
-//! the least of them, and if none is listed, than the limit.
+//! than any line does. So tables that know of recurrent rests say what lines cost at least, and a search that
+//! they lead lists the lines near the least one: if it comes to its end, no line costs less than that.
 
-ghost use Rattle.std.specs.Prelude.{◌≡◌, ◌<◌, ◌*◌, ◌-ℤ◌, ◌*ℤ◌, ◌≤ℤ◌, ◌⊎◌, [], pos, All, IfOk, IfSome};
-ghost use Rattle.std.specs.Prelude.{MatchOption, Some, length, slice_get};
-ghost use Rattle.roster_model.specs.Costs.{line_cost, total};
-ghost use Rattle.roster_cost.specs.Amounts.{IsWithin};
-ghost use Rattle.roster_lines_table.specs.Entries.{set_at, sets_of};
-ghost use Rattle.roster_lines_table.specs.Person.{AreListedOf};
-ghost use Rattle.roster_lines.specs.Listing.{ArePairs};
-ghost use Rattle.roster_plan_bound.specs.Gaps.{IsOf};
-ghost use Rattle.roster_plan_bound.specs.Reduced.{price_at, reduced, ArePrices, IsLeastListed, IsLeastOf};
+ghost use Rattle.std.specs.Prelude.{◌≡◌, ◌<◌, ◌≤ℤ◌, ◌⊎◌, IfOk, IfSome, MatchOption, length};
+ghost use Rattle.roster_plan_bound.specs.Reduced.{ArePrices, IsLeastOf};
+ghost use Rattle.roster_plan_bound.specs.Timelines.{IsTimeline};
 
 use crate::columns::Columns;
-use crate::gap::Cheap;
-use crate::parts::{MOST_LEAST, MOST_PLAN_PRICE, MOST_TARGET_TERM, PARTS};
+use crate::parts::{MOST_LEAST, PARTS};
 use crate::persons::Seen;
+use crate::prospect::Prospect;
+use crate::seek::{Listing, seek_all};
+use crate::timeline::Timeline;
 use crate::tuning::{
-    FEWEST_COLUMNS, FIRST_REACH_OF_SETS, LEAST_REACH, MOST_COLUMNS, MOST_LISTED, MOST_LISTS,
-    MOST_REACH,
+    FEWEST_COLUMNS, FIRST_REACH_OF_SETS, LEAST_REACH, MOST_CLAIMS, MOST_FOUND, MOST_KEPT,
+    MOST_KNOWN, MOST_LISTS, MOST_REACH, MOST_VISITS, WORTH_STEPS,
 };
-use roster_cost::lines_are_near;
-use roster_lines::{LinesFault, Pairs, lines_of_pairs};
-use roster_lines_table::Lines;
-use roster_model::limits::MOST_PAIRINGS;
+use roster_legal::Judge;
 use roster_problem::Problem;
-use roster_values::Set;
 use std::alloc::{AllocError, Global};
-
-/// A line's set, and what it costs with and without prices, in parts of a cost unit.
-#[derive(Drop)]
-struct PricedLine {
-    set: Set,
-    cost: i64,
-    value: i64,
-}
 
 /// Forgets the chains that are known: from now on columns are lines.
 pub(crate) fn turn_to_sets(alloc: Global, seen: &mut [Seen])
@@ -47,81 +31,160 @@ pub(crate) fn turn_to_sets(alloc: Global, seen: &mut [Seen])
     }
 }
 
-/// No line of person `k`, whose pairs these are, has a lower reduced cost at the prices; none has a lower one
-/// than `chain`. The columns become lines that cost little, and known ones that cost more.
+/// No line of person `k`, whose timeline it is, has a lower reduced cost at the prices; none has a lower one
+/// than `chain`. The columns get lines that cost little. Without a timeline nothing else is known.
 pub(crate) fn least_set(
     alloc: Global,
     problem: &Problem,
     k: usize,
-    pairs: &Pairs,
+    timeline: &Option<Timeline>,
     prices: &[i64],
-    cheap: &mut Cheap<'_>,
     chain: i64,
     columns: &mut Columns,
 ) -> Result<i64, AllocError>
     requires person { k < length problem.now.persons }
-    requires pairs { ArePairs problem.now k pairs.now }
+    requires timeline { IfSome timeline.now (IsTimeline problem.now k) }
     requires prices { ArePrices problem.now prices.now }
-    requires cheap { IsOf problem.now k prices.now cheap.old }
     requires chain { IsLeastOf problem.now prices.now k chain }
     ensures { IfOk result (IsLeastOf problem.now prices.now k) }
 {
-    let first = columns.reach.clamp(LEAST_REACH, MOST_REACH);
-    let mut listed = Columns::of_sets(alloc, LEAST_REACH);
-    let least = least_in_lists(
-        alloc,
-        problem,
-        k,
-        pairs,
-        prices,
-        cheap,
-        chain,
-        first,
-        &mut listed,
-    )?;
-    let limit = limit_at(chain, listed.reach);
-    listed.keep_above(columns, prices, limit, 4 * MOST_COLUMNS)?;
-    *columns = listed;
+    let Some(timeline) = timeline else {
+        return Ok(chain);
+    };
+    let Some(mut prospect) = Prospect::new(alloc, problem, k, timeline, prices)? else {
+        return Ok(chain);
+    };
+    add_tables(alloc, problem, &mut prospect, columns)?;
+    let tabled = better(chain, Some(prospect.least()));
+    let least = least_in_lists(alloc, &prospect, tabled, columns)?;
     Ok(least)
 }
 
-/// What the lists say that no line is below. The first one reaches so far above `chain`, and the next ones
-/// further or less far; the columns become those of the last whole one.
-fn least_in_lists(
+/// Makes tables at what a minute of flight was worth to the best one before, and at a step less and more. The
+/// steps are half as long from then on if that is the best one again, and else twice as long.
+fn add_tables(
     alloc: Global,
     problem: &Problem,
-    k: usize,
-    pairs: &Pairs,
-    prices: &[i64],
-    cheap: &mut Cheap<'_>,
-    chain: i64,
-    first: i64,
+    prospect: &mut Prospect<'_>,
+    columns: &mut Columns,
+) -> Result<(), AllocError>
+    ensures { prospect.new ≡ prospect.old }
+{
+    let weight = (PARTS as i64).wrapping_mul(i64::from(problem.weight()));
+    let longest = weight / WORTH_STEPS;
+    let step = if columns.step > 0 {
+        columns.step
+    } else {
+        longest
+    };
+    let worth = columns.worth;
+    prospect.add(alloc, worth)?;
+    prospect.add(alloc, worth.wrapping_sub(step))?;
+    prospect.add(alloc, worth.wrapping_add(step))?;
+    columns.worth = prospect.best_worth();
+    columns.step = if columns.worth == worth {
+        step / 2
+    } else {
+        step.wrapping_mul(2).min(longest)
+    }
+    .max(1);
+    Ok(())
+}
+
+/// What lists say that no line of the person is below, if it is more than `known`. The first one reaches as far
+/// as the columns' reach, and the next ones further or less far; the columns get the lines of the last one.
+fn least_in_lists(
+    alloc: Global,
+    prospect: &Prospect<'_>,
+    known: i64,
     columns: &mut Columns,
 ) -> Result<i64, AllocError>
-    requires person { k < length problem.now.persons }
-    requires pairs { ArePairs problem.now k pairs.now }
-    requires prices { ArePrices problem.now prices.now }
-    requires cheap { IsOf problem.now k prices.now cheap.old }
-    requires chain { IsLeastOf problem.now prices.now k chain }
-    ensures { IfOk result (IsLeastOf problem.now prices.now k) }
+    requires { IsLeastOf prospect.now.problem prospect.now.prices prospect.now.person known }
+    ensures { IfOk result (IsLeastOf prospect.now.problem prospect.now.prices prospect.now.person) }
 {
+    let first = columns.reach.clamp(LEAST_REACH, MOST_REACH);
+    let mut judge = Judge::new(alloc, prospect.problem());
+    let mut least = known;
     let mut reach = first;
-    let mut least = chain;
+    let mut claim = columns.least_value(prospect.prices());
+    let mut listing = listing_of(alloc, reach);
     for _ in 0..MOST_LISTS {
-        let found = list(
-            alloc, problem, k, pairs, prices, cheap, chain, reach, columns,
-        )?;
+        listing = listing_of(alloc, reach);
+        let found = list(prospect, &mut judge, claim, &mut listing)?;
         least = better(least, found);
+        claim = claim.min(listing.found.least_value(prospect.prices()));
         let many = match found {
-            Some(_) => columns.len(),
+            Some(_) => listing.found.len(),
             None => usize::MAX,
         };
         let Some(next) = next_reach(first, reach, many) else {
-            return Ok(least);
+            break;
         };
         reach = next;
     }
+    renew(alloc, listing.found, prospect.prices(), columns)?;
+    let least = least_claimed(alloc, prospect, least, claim)?;
     Ok(least)
+}
+
+/// What is claimed between `known` and what some line costs, if a search shows it: half of the way, or half of
+/// that.
+fn least_claimed(
+    alloc: Global,
+    prospect: &Prospect<'_>,
+    known: i64,
+    line: i64,
+) -> Result<i64, AllocError>
+    requires { IsLeastOf prospect.now.problem prospect.now.prices prospect.now.person known }
+    ensures { IfOk result (IsLeastOf prospect.now.problem prospect.now.prices prospect.now.person) }
+{
+    let mut judge = Judge::new(alloc, prospect.problem());
+    let mut open = line.wrapping_sub(known);
+    for _ in 0..MOST_CLAIMS {
+        open /= 2;
+        if open <= 0 {
+            break;
+        }
+        let mut listing = listing_of(alloc, 0);
+        let found = list(prospect, &mut judge, known.wrapping_add(open), &mut listing)?;
+        if found.is_some() {
+            return Ok(better(known, found));
+        }
+    }
+    Ok(known)
+}
+
+/// Nothing is listed so far.
+fn listing_of(alloc: Global, reach: i64) -> Listing {
+    Listing {
+        left: MOST_VISITS,
+        reach,
+        found: Columns::of_sets(alloc, reach),
+    }
+}
+
+/// Lists the lines that are near the least one, or the claim, if that is less. What no line has a lower reduced
+/// cost than: the lesser of these two. Nothing if there is too much to look at.
+fn list(
+    prospect: &Prospect<'_>,
+    judge: &mut Judge<'_>,
+    claim: i64,
+    listing: &mut Listing,
+) -> Result<Option<i64>, AllocError>
+    requires judge { judge.old ≡ prospect.now.problem }
+    ensures judge { judge.new ≡ prospect.now.problem }
+    ensures least { IfOk result (λ found. IfSome found
+        (IsLeastOf prospect.now.problem prospect.now.prices prospect.now.person)) }
+{
+    let mut least = claim;
+    if !seek_all(prospect, judge, &mut least, listing)? {
+        return Ok(None);
+    }
+    if least.unsigned_abs() > MOST_LEAST {
+        return Ok(None);
+    }
+    prospect.is_least(least);
+    Ok(Some(least))
 }
 
 /// The greater one of the two, if there is a second one.
@@ -135,23 +198,15 @@ fn better(least: i64, found: Option<i64>) -> i64
     }
 }
 
-/// How far above the least chain lines are listed.
-fn limit_at(chain: i64, reach: i64) -> i64
-    ensures { IsWithin MOST_LEAST result }
-{
-    chain
-        .wrapping_add(reach)
-        .clamp(-(MOST_LEAST as i64), MOST_LEAST as i64)
-}
-
-/// How far the next list is to reach after one of so many columns; none if there is to be no other one. Lists
-/// reach half as far while they are too long, or twice as far while they are short, and never turn round.
+/// How far the next list is to reach after one of so many lines; none if there is to be no other one. Lists
+/// reach half as far while they are too long, and at last no further than the least, or twice as far while
+/// they are short, and never turn round.
 fn next_reach(first: i64, reach: i64, many: usize) -> Option<i64> {
-    if many > 2 * MOST_COLUMNS {
-        if reach > first || reach <= LEAST_REACH {
+    if many >= MOST_FOUND {
+        if reach > first || reach <= 0 {
             return None;
         }
-        return Some(reach / 2);
+        return Some(if reach > LEAST_REACH { reach / 2 } else { 0 });
     }
     if many >= FEWEST_COLUMNS / 2 || reach < first || reach >= MOST_REACH {
         return None;
@@ -159,116 +214,21 @@ fn next_reach(first: i64, reach: i64, many: usize) -> Option<i64> {
     Some(reach.wrapping_mul(2))
 }
 
-/// Lists the lines that may cost so much more than `chain`, which become the columns. What no line has less
-/// than; nothing if the lines are too many.
-fn list(
+/// The columns become the lines that were found, and those known before: the cheapest ones, if they are many.
+fn renew(
     alloc: Global,
-    problem: &Problem,
-    k: usize,
-    pairs: &Pairs,
+    found: Columns,
     prices: &[i64],
-    cheap: &mut Cheap<'_>,
-    chain: i64,
-    reach: i64,
     columns: &mut Columns,
-) -> Result<Option<i64>, AllocError>
-    requires person { k < length problem.now.persons }
-    requires pairs { ArePairs problem.now k pairs.now }
-    requires prices { ArePrices problem.now prices.now }
-    requires cheap { IsOf problem.now k prices.now cheap.old }
-    ensures least { IfOk result (λ found. IfSome found (IsLeastOf problem.now prices.now k)) }
-    ensures cheap { IsOf problem.now k prices.now cheap.new }
-{
-    let limit = limit_at(chain, reach);
-    cheap.limit_to(limit);
-    match lines_of_pairs(alloc, problem, k, pairs, &*cheap, MOST_LISTED) {
-        Ok(lines) => {
-            let mut listed = Columns::of_sets(alloc, reach);
-            let least = least_listed(problem, k, &lines, prices, limit, &mut listed)?;
-            *columns = listed;
-            Ok(Some(least))
-        }
-        Err(LinesFault::TooMany) => Ok(None),
-        Err(LinesFault::Memory) => Err(AllocError),
-    }
-}
-
-/// The least reduced cost of the lines, or the limit if none is below it. The columns get the lines up to it.
-fn least_listed(
-    problem: &Problem,
-    k: usize,
-    lines: &Lines,
-    prices: &[i64],
-    limit: i64,
-    columns: &mut Columns,
-) -> Result<i64, AllocError>
-    requires lines { AreListedOf problem.now k lines.now }
-    requires prices { ArePrices problem.now prices.now }
-    requires limit { IsWithin MOST_LEAST limit }
-    ensures { IfOk result (IsLeastListed problem.now prices.now k (sets_of lines.now) limit) }
-{
-    let mut least = limit;
-    for i in 0..lines.width() {
-        let line = line_at(problem, k, lines, prices, i);
-        if line.value <= limit {
-            columns.push_set(&line.set, line.cost)?;
-        }
-        least = lesser(least, line.value);
-    }
-    Ok(least)
-}
-
-/// The lesser one.
-fn lesser(number: i64, other: i64) -> i64
-    requires number { IsWithin MOST_LEAST number }
-    requires other { IsWithin MOST_LEAST other }
-    ensures first { result ≤ℤ number }
-    ensures second { result ≤ℤ other }
-    ensures within { IsWithin MOST_LEAST result }
-{
-    if other < number { other } else { number }
-}
-
-/// Line `i` of person `k` at the prices.
-fn line_at(problem: &Problem, k: usize, lines: &Lines, prices: &[i64], i: usize) -> PricedLine
-    requires lines { AreListedOf problem.now k lines.now }
-    requires prices { ArePrices problem.now prices.now }
-    requires line { i < length lines.now }
-    ensures set { slice_get (sets_of lines.now) i ≡ Some result.set }
-    ensures value { result.value ≡ reduced problem.now prices.now k result.set }
-    ensures within { IsWithin MOST_LEAST result.value }
-{
-    let set = lines.set(i);
-    let cost = cost_above(problem, k, lines, i);
-    let value = cost - price_of(prices, &set);
-    PricedLine { set, cost, value }
-}
-
-/// What line `i` of person `k` costs more than the empty one, in parts of a cost unit.
-fn cost_above(problem: &Problem, k: usize, lines: &Lines, i: usize) -> i64
-    requires lines { AreListedOf problem.now k lines.now }
-    requires line { i < length lines.now }
-    ensures value { result ≡ pos PARTS
-        *ℤ (line_cost problem.now k (set_at lines.now i) -ℤ line_cost problem.now k []) }
-    ensures within { IsWithin MOST_TARGET_TERM result }
-{
-    lines_are_near();
-    problem.is_sound();
-    PARTS as i64 * (lines.cost(i) - lines.cost(0))
-}
-
-/// The prices of the set's pairings, in all.
-fn price_of(prices: &[i64], set: &Set) -> i64
-    requires prices { All (IsWithin MOST_PLAN_PRICE) prices.now }
-    requires places { All (λ p. p < length prices.now) set.now }
-    ensures value { result ≡ total (price_at prices.now) set.now }
-    ensures within { IsWithin (MOST_PAIRINGS * MOST_PLAN_PRICE) result }
-{
-    let mut sum = 0;
-    let mut from = 0;
-    while let Some(p) = set.first_from(from) {
-        sum += prices[p];
-        from = p + 1;
-    }
-    sum
+) -> Result<(), AllocError> {
+    let mut known = found;
+    known.worth = columns.worth;
+    known.step = columns.step;
+    known.join(columns)?;
+    *columns = if known.len() > MOST_KNOWN {
+        known.cheapest(alloc, prices, MOST_KEPT)?
+    } else {
+        known
+    };
+    Ok(())
 }

@@ -19,6 +19,9 @@ pub(crate) const MOST_REACH: i64 = 2000 * 64;
 /// How many chains are tried for one list.
 pub(crate) const MOST_TRIES: u32 = 1 << 18;
 
+/// How many steps of a moving price a part of a cost unit has.
+pub(crate) const FINE: i64 = 1 << 8;
+
 /// How many columns are worth a thread of its own, each time that prices move by them: threads start so often
 /// between two looks.
 pub(crate) const COLUMNS_FOR_A_THREAD: usize = 2000;
@@ -49,12 +52,27 @@ pub(crate) const MOST_STRIDE: i64 = 600 * 64;
 /// After so many looks in a row that say no more in whole cost units the bound is as good as it gets.
 pub(crate) const MOST_IDLE: u32 = 12;
 
-/// How many lines come up in one list of a person, at most.
-pub(crate) const MOST_LISTED: usize = 20_000;
+/// From how many lines one list of a person goes on, at most.
+pub(crate) const MOST_VISITS: u32 = 4000;
+
+/// How many lines one list has, at most. So many are too many.
+pub(crate) const MOST_FOUND: usize = 2 * MOST_COLUMNS;
+
+/// How many lines of a person are known, at most, and how many of them stay if there are more.
+pub(crate) const MOST_KNOWN: usize = 500;
+
+pub(crate) const MOST_KEPT: usize = 300;
 
 /// How many lists of a person there are at one look, at most: so often a reach is halved from `MOST_REACH` to
-/// `LEAST_REACH`.
-pub(crate) const MOST_LISTS: u32 = 12;
+/// `LEAST_REACH`, and then falls to 0.
+pub(crate) const MOST_LISTS: u32 = 13;
+
+/// How far the worth of a minute of flight moves from one look to the next, at most: so many of such steps are
+/// the weight of the target.
+pub(crate) const WORTH_STEPS: i64 = 8;
+
+/// If no list is whole: how often half of what is open is claimed, at most.
+pub(crate) const MOST_CLAIMS: u32 = 3;
 
 /// How far above the least chain lines are listed at first, in parts of a cost unit.
 pub(crate) const FIRST_REACH_OF_SETS: i64 = 20 * 64;

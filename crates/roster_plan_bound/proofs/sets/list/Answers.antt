@@ -1,20 +1,15 @@
-use Rattle.std.proofs.Common.{◌∙◌, ap, ℤ, w64, to_z, of_z}
-use Rattle.roster_lines_table.specs.Entries.{sets_of}
-use Rattle.roster_plan_bound.proofs.ListedLemmas.{least_of_listed, least_word}
+use Rattle.std.proofs.Common.{◌≡◌, sym, subst, ℤ, w64, FitsSigned, to_z, of_z}
+use Rattle.std.proofs.lemmas.Int.{to_z-of_z}
+use Rattle.roster_plan_bound.specs.Prospects.{IsLeastPath}
 use Rattle.roster_plan_bound.proofs.sets.list.Goals as goal
 
-pub returns-in_ok-least-in-Ok-clause-least : goal.returns-in_ok-least-in-Ok-clause-least
-returns-in_ok-least-in-Ok-clause-least c =
-    let problem = c.args.problem.now in
-    let prices = c.args.prices.now in
-    let k = c.args.k in
-    let least : ℤ = c.in_ok-least-in-Ok.least in
-    let limit : ℤ = c.limit_at-limit.result in
-    let set = c.limit_to.ensures in
-    let is =
-    least_of_listed problem prices k (sets_of c.in-Ok.lines) c.limit_to.new.self
-    (to_z w64 (of_z w64 limit)) least
-    (ap (λ v. v.problem) set ∙ c.requires.cheap.same) (ap (λ v. v.person) set ∙ c.requires.cheap.person)
-    (ap (λ v. v.prices) set ∙ c.requires.cheap.priced) (ap (λ v. v.most) set)
-    c.in-Ok.ensures.lines c.in_ok-least-in-Ok.ensures in
-    least_word problem prices k least is
+pub is_least-requires-clause-path : goal.is_least-requires-clause-path
+is_least-requires-clause-path c =
+    let o = c.args.prospect.now in
+    let least : ℤ = c.seek_all.new.least in
+    let claim : to_z w64 (of_z w64 c.args.claim) ≡ c.args.claim = to_z-of_z w64 c.args.claim c.ranges.claim in
+    let claimed = subst (FitsSigned w64) (sym claim) c.ranges.claim in
+    let fits : FitsSigned w64 least = c.seek_all.ensures.word claimed in
+    let told : to_z w64 (of_z w64 least) ≡ least = to_z-of_z w64 least fits in
+    subst (IsLeastPath o.problem o.person o.timeline o.units) (sym told)
+    (c.in_ok-seek_all.ensures.least c.if-not-branch.false)
