@@ -1,8 +1,9 @@
 //! What comes to each weight of a whole.
 
-ghost use Rattle.std.specs.Prelude.{◌≡◌, ◌<◌, ◌+◌, ◌*◌, ◌/◌, IfOk, IfSome, sum};
+ghost use Rattle.std.specs.Prelude.{◌≡◌, ◌<◌, ◌+◌, ◌*◌, ◌/◌, ◌++◌, ◌∷◌, [], IfOk, IfSome, OnOk, sum};
 ghost use Rattle.roster_desk_fair.specs.Fair.{share_of, shares_of};
 
+use crate::unfair::Unfair;
 use std::alloc::{AllocError, Global};
 
 /// The sum of the weights, if it is a machine's number.
@@ -34,27 +35,42 @@ fn share(flight: u64, whole: u64, before: u64, own: u64) -> Option<u64>
     Some(upto.saturating_sub(earlier))
 }
 
-/// The shares of the weights in the flight; none if nothing counts, or a number is no machine's.
-pub(crate) fn shares(
-    alloc: Global,
-    flight: u64,
-    weights: &[u64],
-) -> Result<Option<Vec<u64>>, AllocError> {
+/// The share of a weight, and what it and those before it come to; none if a number is no machine's.
+fn next_share(flight: u64, whole: u64, before: u64, own: u64) -> Option<(u64, u64)>
+    requires { 0 < whole }
+    ensures { IfSome result (λ next. (next.0 ≡ share_of flight whole before own) × (next.1 ≡ before + own)) }
+{
+    let minutes = share(flight, whole, before, own)?;
+    let upto = before.checked_add(own)?;
+    Some((minutes, upto))
+}
+
+/// Puts the number behind the others.
+pub(crate) fn push(numbers: &mut Vec<u64>, number: u64) -> Result<(), AllocError>
+    ensures { OnOk result (numbers.new.items ≡ numbers.old.items ++ number ∷ []) }
+{
+    numbers.push(number)?;
+    Ok(())
+}
+
+/// The shares of the weights in the flight, unless nothing counts or a number is no machine's.
+pub(crate) fn shares(alloc: Global, flight: u64, weights: &[u64]) -> Result<Vec<u64>, Unfair>
+    ensures { IfOk result (λ shares. shares.items ≡ shares_of flight weights.now) }
+{
     let Some(whole) = sum_of(weights) else {
-        return Ok(None);
+        return Err(Unfair::Other);
     };
     if whole == 0 {
-        return Ok(None);
+        return Err(Unfair::Other);
     }
     let mut shares = Vec::new(alloc);
     let mut before = 0u64;
     for i in 0..weights.len() {
-        let minutes = share(flight, whole, before, weights[i]);
-        let (Some(minutes), Some(next)) = (minutes, before.checked_add(weights[i])) else {
-            return Ok(None);
+        let Some((minutes, upto)) = next_share(flight, whole, before, weights[i]) else {
+            return Err(Unfair::Other);
         };
-        shares.push(minutes)?;
-        before = next;
+        push(&mut shares, minutes)?;
+        before = upto;
     }
-    Ok(Some(shares))
+    Ok(shares)
 }

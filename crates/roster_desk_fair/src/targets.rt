@@ -1,12 +1,11 @@
 //! What there is to fly at a base, and each person's share of it.
 
-ghost use Rattle.std.specs.Prelude.{◌≡◌, ◌<◌, ◌+◌, ◌==◌, [], if◌then◌else◌, IfOk, IfSome, length, map};
+ghost use Rattle.std.specs.Prelude.{◌≡◌, ◌<◌, IfOk, IfSome, length, map, slice_get, unwrap_or};
 ghost use Rattle.std.specs.List.{range_with_len};
-ghost use Rattle.roster_model.specs.Costs.{flight_of};
-ghost use Rattle.roster_cost.specs.Amounts.{minutes_of_pairing};
 ghost use Rattle.roster_desk_fair.specs.Fair as spec;
 
-use crate::shares::shares;
+use crate::shares::{push, shares};
+use crate::unfair::Unfair;
 use roster_cost::{fixed_flight, pairing_flight};
 use roster_problem::{Person, Problem};
 use std::alloc::{AllocError, Global};
@@ -35,8 +34,7 @@ fn base_of_pairing(problem: &Problem, p: usize) -> usize
 fn fixed_of(problem: &Problem, k: usize, j: usize) -> u64
     requires person { k < length problem.now.persons }
     requires other { j < length problem.now.persons }
-    ensures { result
-        ≡ (if spec.base_of problem.now j == spec.base_of problem.now k then flight_of problem.now j [] else 0) }
+    ensures { result ≡ spec.fixed_beside problem.now k j }
 {
     if base_of(problem, j) == base_of(problem, k) {
         fixed_flight(problem, j)
@@ -48,6 +46,7 @@ fn fixed_of(problem: &Problem, k: usize, j: usize) -> u64
 /// The flight of the fixed duties of all at the base of person `k`, if it is a machine's number.
 fn fixed_at(problem: &Problem, k: usize) -> Option<u64>
     requires { k < length problem.now.persons }
+    ensures { IfSome result (λ minutes. minutes ≡ spec.fixed_at problem.now k) }
 {
     let mut minutes = 0u64;
     for j in 0..problem.persons().len() {
@@ -60,8 +59,7 @@ fn fixed_at(problem: &Problem, k: usize) -> Option<u64>
 fn pairing_of(problem: &Problem, k: usize, p: usize) -> u64
     requires person { k < length problem.now.persons }
     requires pairing { p < length problem.now.pairings }
-    ensures { result ≡ (if spec.base_of_pairing problem.now p == spec.base_of problem.now k
-        then minutes_of_pairing problem.now k p else 0) }
+    ensures { result ≡ spec.pairing_beside problem.now k p }
 {
     if base_of_pairing(problem, p) == base_of(problem, k) {
         pairing_flight(problem, k, p)
@@ -73,6 +71,7 @@ fn pairing_of(problem: &Problem, k: usize, p: usize) -> u64
 /// The flight of all pairings at the base of person `k`, if it is a machine's number.
 fn pairings_at(problem: &Problem, k: usize) -> Option<u64>
     requires { k < length problem.now.persons }
+    ensures { IfSome result (λ minutes. minutes ≡ spec.pairings_at problem.now k) }
 {
     let mut minutes = 0u64;
     for p in 0..problem.pairings().len() {
@@ -116,34 +115,45 @@ fn weights_at(alloc: Global, problem: &Problem, base: usize) -> Result<Vec<u64>,
     Ok(weights)
 }
 
-/// The share of person `k` in what there is to fly at the home base; none if a number is no machine's.
-fn fair_of(alloc: Global, problem: &Problem, k: usize) -> Result<Option<u64>, AllocError>
+/// What there is to fly at the base of person `k`, if it is a machine's number.
+fn to_fly(problem: &Problem, k: usize) -> Option<u64>
     requires { k < length problem.now.persons }
+    ensures { IfSome result (λ minutes. minutes ≡ spec.to_fly problem.now k) }
 {
-    let (Some(fixed), Some(pairings)) = (fixed_at(problem, k), pairings_at(problem, k)) else {
-        return Ok(None);
-    };
-    let Some(flight) = fixed.checked_add(pairings) else {
-        return Ok(None);
-    };
-    let weights = weights_at(alloc, problem, base_of(problem, k))?;
-    match shares(alloc, flight, weights.as_slice())? {
-        Some(shares) => Ok(Some(shares.get(k).copied().unwrap_or(0))),
-        None => Ok(None),
-    }
+    let fixed = fixed_at(problem, k)?;
+    let pairings = pairings_at(problem, k)?;
+    fixed.checked_add(pairings)
 }
 
-/// The fair target of each person, in book order; none if a number is no machine's.
-pub(crate) fn fair_targets(
-    alloc: Global,
-    problem: &Problem,
-) -> Result<Option<Vec<u64>>, AllocError> {
+/// The number at the place; 0 if there is none.
+fn number_at(numbers: &[u64], k: usize) -> u64
+    ensures { result ≡ unwrap_or (slice_get numbers.now k) 0 }
+{
+    numbers.get(k).copied().unwrap_or(0)
+}
+
+/// The share of person `k` in what there is to fly at the home base, unless a number is no machine's.
+fn fair_of(alloc: Global, problem: &Problem, k: usize) -> Result<u64, Unfair>
+    requires { k < length problem.now.persons }
+    ensures { IfOk result (λ minutes. minutes ≡ spec.fair_target problem.now k) }
+{
+    let Some(flight) = to_fly(problem, k) else {
+        return Err(Unfair::Other);
+    };
+    let weights = weights_at(alloc, problem, base_of(problem, k))?;
+    let shares = shares(alloc, flight, weights.as_slice())?;
+    Ok(number_at(shares.as_slice(), k))
+}
+
+/// The fair target of each person, in book order, unless a number is no machine's.
+pub(crate) fn fair_targets(alloc: Global, problem: &Problem) -> Result<Vec<u64>, Unfair>
+    ensures { IfOk result (λ fair. fair.items
+        ≡ map (spec.fair_target problem.now) (range_with_len 0 (length problem.now.persons))) }
+{
     let mut fair = Vec::new(alloc);
     for k in 0..problem.persons().len() {
-        let Some(minutes) = fair_of(alloc, problem, k)? else {
-            return Ok(None);
-        };
-        fair.push(minutes)?;
+        let minutes = fair_of(alloc, problem, k)?;
+        push(&mut fair, minutes)?;
     }
-    Ok(Some(fair))
+    Ok(fair)
 }

@@ -6,8 +6,10 @@ ghost use Rattle.roster_model.specs.Answer.{records_of};
 ghost use Rattle.roster_model.specs.Faults.{first_fault};
 ghost use Rattle.roster_model.specs.Problem.{problem_of, target_of};
 ghost use Rattle.roster_model.specs.Record.{Check};
+ghost use Rattle.roster_desk_fair.specs.Fair.{IsFair, fair_target};
 
 use crate::targets::fair_targets;
+use crate::unfair::Unfair;
 use csv::{ByteRecord, ReaderBuilder};
 use roster_book::{Book, BookFault, Command, read_book};
 use roster_desk_sheets::Records;
@@ -17,23 +19,6 @@ use std::alloc::{AllocError, Global};
 
 /// Where the target stands in the record of a person.
 const TARGET: usize = 3;
-
-/// Why there is no book.
-#[derive(Drop)]
-pub enum Unfair {
-    /// The text of the book, which would have a fault.
-    Faulty(Vec<u8>),
-    /// Its targets wouldn't be the fair ones, or a number is no machine's.
-    Other,
-    /// Memory ran out.
-    Memory,
-}
-
-impl From<AllocError> for Unfair {
-    fn from(_error: AllocError) -> Unfair {
-        Unfair::Memory
-    }
-}
 
 /// Puts the record behind the others, with the text in place of the target.
 fn push_person(
@@ -118,18 +103,32 @@ fn has_targets(book: &Problem, fair: &[u64]) -> bool
     true
 }
 
+/// The text of the book, if its targets are the fair ones.
+fn judged(text: Vec<u8>, read: &Problem, book: &Problem, fair: &[u64]) -> Result<Vec<u8>, Unfair>
+    requires targets { fair.now ≡ map (fair_target book.now) (range_with_len 0 (length book.now.persons)) }
+    requires faultless { first_fault Check (records_of text.items) ≡ None }
+    requires problem { read.now ≡ problem_of (records_of text.items) }
+    ensures faultless { IfOk result (λ text. first_fault Check (records_of text.items) ≡ None) }
+    ensures fair { IfOk result (λ text. IsFair book.now (problem_of (records_of text.items))) }
+{
+    if has_targets(read, fair) {
+        Ok(text)
+    } else {
+        Err(Unfair::Other)
+    }
+}
+
 /// The book, whose bytes are the text, with fair targets. None is given if a share is more than a book may
 /// have.
 pub fn fair_book(alloc: Global, text: &[u8], book: &Problem) -> Result<Vec<u8>, Unfair>
-    ensures { IfOk result (λ text. first_fault Check (records_of text.items) ≡ None) }
+    ensures faultless { IfOk result (λ text. first_fault Check (records_of text.items) ≡ None) }
+    ensures fair { IfOk result (λ text. IsFair book.now (problem_of (records_of text.items))) }
 {
-    let Some(fair) = fair_targets(alloc, book)? else {
-        return Err(Unfair::Other);
-    };
+    let fair = fair_targets(alloc, book)?;
     let text = text_with(alloc, text, fair.as_slice())?;
     match book_of(alloc, &text) {
-        Ok(read) if has_targets(&read.problem, &fair) => Ok(text),
-        Ok(_) | Err(BookFault::Device) => Err(Unfair::Other),
+        Ok(read) => judged(text, &read.problem, book, fair.as_slice()),
+        Err(BookFault::Device) => Err(Unfair::Other),
         Err(BookFault::At { .. }) => Err(Unfair::Faulty(text)),
         Err(BookFault::Memory) => Err(Unfair::Memory),
     }
