@@ -7,8 +7,12 @@ use crate::stations::Stations;
 use jiff::Timestamp;
 use jiff::civil::Date;
 use roster_desk_sheets::{Column, Entry, Place};
-use roster_desk_times::read_date;
+use roster_desk_times::{TimeFault, read_date, read_instant};
 use std::alloc::AllocError;
+
+/// What is wanted in place of a text that is no end of a leave.
+const NO_WHEN: &str =
+    "a date as 2024-06-11, an instant as 2024-06-11T08:00Z, or a local time as 2024-06-11 10:00";
 
 /// What a person does besides pairings.
 #[derive(Drop)]
@@ -151,10 +155,13 @@ fn when_in(
     if let Some(date) = read_date(entry.get(column)) {
         return Ok(Some(When::On(date)));
     }
-    match cells.instant(entry, column, stations.zone(base))? {
-        Some(at) => Ok(Some(When::At(at))),
-        None => Ok(None),
-    }
+    let wanted = match read_instant(entry.get(column), stations.zone(base)) {
+        Ok(at) => return Ok(Some(When::At(at))),
+        Err(TimeFault::Form) => NO_WHEN,
+        Err(fault) => fault.wanted(),
+    };
+    cells.tell(entry, column, wanted)?;
+    Ok(None)
 }
 
 /// Puts the leave of a row behind the others, if its person and its ends are known.

@@ -61,6 +61,11 @@ fn push_person(
     let target = cells.minutes(entry, Column::Target)?;
     let from = cells.date(entry, Column::From)?;
     let to = cells.date(entry, Column::To)?;
+    if let (Some(first), Some(last)) = (from, to) {
+        if last < first {
+            cells.tell(entry, Column::To, "a date that isn't before FROM")?;
+        }
+    }
     persons.push(Person {
         name,
         base,

@@ -135,7 +135,7 @@ fn is_named(duty: &Duty, pairings: &[Pairing], entry: Entry<'_>, off: Timestamp)
         return duty.name.as_slice() == name;
     }
     let off = off.as_second();
-    let is_in = duty.report.as_second() <= off && off <= duty.release.as_second();
+    let is_in = duty.report.as_second() <= off && off < duty.release.as_second();
     let pairing = pairings.get(duty.pairing);
     is_in && pairing.is_some_and(|pairing| pairing.name.as_slice() == entry.get(Column::Pairing))
 }

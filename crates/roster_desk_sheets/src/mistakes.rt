@@ -68,6 +68,15 @@ impl Mistakes {
         self.kept.is_empty()
     }
 
+    /// Whether one of those that are kept is of the cell.
+    pub fn has(&self, place: Place) -> bool {
+        self.kept.iter().any(|mistake| {
+            mistake.place.table == place.table
+                && mistake.place.line == place.line
+                && mistake.place.column == place.column
+        })
+    }
+
     /// Keeps one more, or counts it if enough are kept.
     pub fn push(
         &mut self,
