@@ -54,6 +54,7 @@ fn solve<'a>(alloc: Global) -> Result<clap::Command<'a>, AllocError>
         .help("How many workers may search: the answer is the same for any number");
     clap::Command::new(alloc, "solve")
         .about("Writes the best roster of the book on standard input")
+        .override_usage("roster solve [OPTIONS] < BOOK")
         .arg(workers)
 }
 
@@ -70,19 +71,24 @@ fn solver<'a>(alloc: Global) -> Result<clap::Command<'a>, AllocError>
         .subcommand(solve)
 }
 
-/// The command line with one command more, which has no arguments.
+/// The command line with one command more, which has no arguments: its name, what it does, and how it is
+/// used.
 fn with_command<'a>(
     alloc: Global,
     line: clap::Command<'a>,
     name: &'a str,
     about: &'a str,
+    usage: &'a str,
 ) -> Result<clap::Command<'a>, AllocError>
     requires { (views.out-Command line).has_globals ≡ false }
     ensures app { IfOk result
         (λ c. app_of c ≡ with_subcommand (app_of line.entry) (new_app name.now).top) }
     ensures local { IfOk result (λ c. (views.out-Command c).has_globals ≡ false) }
 {
-    line.subcommand(clap::Command::new(alloc, name).about(about))
+    let command = clap::Command::new(alloc, name)
+        .about(about)
+        .override_usage(usage);
+    line.subcommand(command)
 }
 
 /// The program's command line.
@@ -95,12 +101,14 @@ fn roster<'a>(alloc: Global) -> Result<clap::Command<'a>, AllocError>
         solver(alloc)?,
         "check",
         "Judges the roster that the book on standard input gives",
+        "roster check < BOOK",
     )?;
     with_command(
         alloc,
         checker,
         "replay",
         "Writes the best roster of the book on standard input, which may give steps of a search",
+        "roster replay < BOOK",
     )
 }
 
