@@ -1,5 +1,6 @@
-"""What gives jobs to processors: GNU parallel, on this machine or over ssh, or Slurm. Each takes the books in the order of
-the file `names`, and runs `job NAME EFFORT WORKERS` for each in a folder that has the programs and the book."""
+"""What gives jobs to processors: GNU parallel, on this machine or over ssh, or Slurm. Each takes the lines `NAME WORKERS`
+of the file `names` in their order, and runs `job NAME WORKERS EFFORT` for each in a folder that has the programs and the
+book."""
 
 import os
 import shutil
@@ -11,6 +12,8 @@ from programs import fail
 
 # How often Slurm is asked.
 SECONDS = 2
+# As many threads as the programs take.
+MOST_WORKERS = 64
 
 
 class Parallel:
@@ -25,6 +28,12 @@ class Parallel:
         if given.hosts and not os.path.isfile(given.hosts):
             fail(f"there is no file {given.hosts}")
 
+    def workers(self, left):
+        """The threads of a book with which so many are left to begin. The last ones share the processors that become free."""
+        at_once = self.given.jobs or os.cpu_count()
+        is_last = left <= at_once and not self.given.hosts
+        return self.given.workers or (min(at_once, MOST_WORKERS) if is_last else 1)
+
     def start(self, work):
         # The folder has the same name here, where the jobs begin above it, and in the home of a host.
         above, folder = os.path.split(work)
@@ -36,8 +45,8 @@ class Parallel:
             words += ["--sshloginfile", os.path.abspath(self.given.hosts)]
             for each in ("roster", "roster-desk", "job"):
                 words += ["--basefile", f"{folder}/{each}"]
-            words += ["--transferfile", f"{folder}/books/{{}}.csv", "--return", f"{folder}/{{}}.tar"]
-        words += [f"cd {folder} && exec ./job {{}} {self.given.effort} {self.given.workers}", "::::", f"{folder}/names"]
+            words += ["--transferfile", f"{folder}/books/{{1}}.csv", "--return", f"{folder}/{{1}}.tar"]
+        words += ["--colsep", " ", f"cd {folder} && exec ./job {{1}} {{2}} {self.given.effort}", "::::", f"{folder}/names"]
         # A group of its own, so that all that it started here can be ended.
         none = subprocess.DEVNULL
         self.process = subprocess.Popen(words, cwd=above, env=self.env, stdin=none, stdout=none, start_new_session=True)
@@ -74,12 +83,16 @@ class Slurm:
         if given.hosts:
             fail("--hosts is for GNU parallel: Slurm knows its nodes")
 
+    def workers(self, _):
+        """The threads of a book."""
+        return self.given.workers or 1
+
     def start(self, work):
         with open(f"{work}/names", encoding="utf-8") as it:
             number = len(it.readlines())
         at_once = f"%{self.given.jobs}" if self.given.jobs else ""
-        job = f'./job "$(sed -n "${{SLURM_ARRAY_TASK_ID}}p" names)" {self.given.effort} {self.given.workers}'
-        words = ["sbatch", "--parsable", f"--array=1-{number}{at_once}", f"--cpus-per-task={self.given.workers}", "--mem=1200M"]
+        job = f'./job $(sed -n "${{SLURM_ARRAY_TASK_ID}}p" names) {self.given.effort}'
+        words = ["sbatch", "--parsable", f"--array=1-{number}{at_once}", f"--cpus-per-task={self.workers(0)}", "--mem=1200M"]
         words += ["--job-name=roster", f"--chdir={work}", "--output=/dev/null", "--wrap", job]
         said = subprocess.run(words, capture_output=True, text=True, check=False)
         if said.returncode:

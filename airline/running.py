@@ -15,7 +15,7 @@ import tempfile
 import time
 
 import engines
-from books import FILES, Result, books_of, place_of, write_whole
+from books import FILES, Result, books_of, place_of, sizes_of, write_whole
 from programs import NAMES, fail, program, sum_of, version, wrong_with
 from tables import has_tables, make_books
 
@@ -36,7 +36,7 @@ def words_of(words):
     at.add_argument("--engine", choices=("parallel", "slurm"), default="parallel", help="GNU parallel or Slurm (parallel)")
     at.add_argument("--hosts", metavar="FILE", help="a line for each host that GNU parallel reaches by ssh; ':' is this machine")
     at.add_argument("--jobs", type=int, metavar="N", help="so many books at a time on each host (one for each processor)")
-    at.add_argument("--workers", type=int, default=1, metavar="N", help="threads of each book (1)")
+    at.add_argument("--workers", type=int, metavar="N", help="threads of each book (1, but of the last ones on this machine all)")
     at.add_argument("--quiet", action="store_true", help="tells no progress")
     return at.parse_args(words)
 
@@ -51,7 +51,7 @@ class Run:
         self.programs = {name: program(name) for name in NAMES}
         self.sums = {name: sum_of(path) for name, path in self.programs.items()}
         self.versions = {name: version(name) for name in NAMES}
-        self.done, self.told = {}, 0.0
+        self.done, self.took, self.told = {}, {}, 0.0
         os.makedirs(f"{self.folder}/out", exist_ok=True)
         # Held as long as this runs.
         self.lock = open(f"{self.folder}/out/joblog", "ab")  # noqa: SIM115
@@ -77,7 +77,20 @@ class Run:
                 self.done[name] = result
             else:
                 found.append(name)
+                if result.report:
+                    self.took[name] = result.manifest["seconds"]
         return found
+
+    def longest_first(self, names):
+        """The books in the order in which they begin: those that an earlier run didn't do, the largest first, and then the
+        others, by what they took. So none that takes long is left to the end."""
+
+        def place(name):
+            path = f"{self.work}/books/{name}.csv"
+            persons, pairings = sizes_of(path)
+            return name in self.took, -self.took.get(name, persons * pairings), -os.path.getsize(path)
+
+        return sorted(names, key=place)
 
     def lay_out(self, names):
         """Puts what a host needs into one folder: the programs, the job and the books."""
@@ -87,9 +100,8 @@ class Run:
         shutil.copy(f"{HERE}/job", f"{self.work}/job")
         for name in names:
             shutil.copy(f"{self.folder}/{name}.csv", f"{self.work}/books")
-        # The largest first, so that none is left to the end.
-        names = sorted(names, key=lambda it: -os.path.getsize(f"{self.work}/books/{it}.csv"))
-        write_whole(f"{self.work}/names", "".join(f"{name}\n" for name in names))
+        lines = [f"{name} {self.engine.workers(len(names) - at)}\n" for at, name in enumerate(self.longest_first(names))]
+        write_whole(f"{self.work}/names", "".join(lines))
 
     def take(self):
         """Takes over each archive that is there."""
@@ -202,7 +214,7 @@ class Run:
 
 def main(words):
     given = words_of(words)
-    if given.workers < 1 or given.workers > 64 or (given.jobs or 1) < 1:
+    if given.workers not in (None, *range(1, engines.MOST_WORKERS + 1)) or (given.jobs or 1) < 1:
         fail("--workers is from 1 to 64, and --jobs at least 1")
     if (given.month is not None) != has_tables(given.folder) or (given.weight is not None and given.month is None):
         fail("--month is for a folder with bases.csv, crew.csv, pairings.csv and duties.csv, and --weight goes with it")
