@@ -64,6 +64,11 @@ pub(crate) fn person_in(
     Ok(person)
 }
 
+/// Whether a row that was carried is of a person of `crew.csv`: others may have left since.
+pub(crate) fn is_of_crew(persons: &[Person], entry: Entry<'_>) -> bool {
+    find_person(persons, entry.get(Column::Person)).is_some()
+}
+
 /// The activity of a row, if its person and its times are known.
 fn activity_in(
     cells: &mut Cells,
@@ -120,6 +125,9 @@ pub(crate) fn read_activities(
     }
     for i in 0..sheets.carried_activities.len() {
         if let Some(entry) = sheets.carried_activities.entry(i) {
+            if !is_of_crew(persons, entry) {
+                continue;
+            }
             if let Some(activity) = activity_in(cells, stations, persons, entry)? {
                 if !is_given(activities.as_slice(), &activity) {
                     activities.push(activity)?;
@@ -199,9 +207,14 @@ pub(crate) fn read_leave(
     persons: &[Person],
 ) -> Result<Vec<Leave>, AllocError> {
     let mut leaves = Vec::new(cells.alloc);
-    for sheet in [&sheets.leave, &sheets.carried_leave] {
-        for i in 0..sheet.len() {
-            if let Some(entry) = sheet.entry(i) {
+    for i in 0..sheets.leave.len() {
+        if let Some(entry) = sheets.leave.entry(i) {
+            push_leave(cells, &mut leaves, stations, persons, entry)?;
+        }
+    }
+    for i in 0..sheets.carried_leave.len() {
+        if let Some(entry) = sheets.carried_leave.entry(i) {
+            if is_of_crew(persons, entry) {
                 push_leave(cells, &mut leaves, stations, persons, entry)?;
             }
         }

@@ -1,6 +1,6 @@
 //! The sectors of what persons do besides pairings.
 
-use crate::activities::{Activity, activity_at, person_in};
+use crate::activities::{Activity, activity_at, is_of_crew, person_in};
 use crate::cells::Cells;
 use crate::crew::Person;
 use crate::duties::{Sector, is_of_activity, sector_in};
@@ -60,6 +60,9 @@ pub(crate) fn read_flights(
     }
     for i in 0..sheets.carried_sectors.len() {
         if let Some(entry) = sheets.carried_sectors.entry(i) {
+            if !is_of_crew(persons, entry) {
+                continue;
+            }
             if let Some(flight) = flight_in(cells, stations, persons, activities, entry)? {
                 if !is_given(flights.as_slice(), &flight) {
                     flights.push(flight)?;

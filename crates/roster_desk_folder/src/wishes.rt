@@ -1,6 +1,6 @@
 //! What persons wish, and what they have flown.
 
-use crate::activities::person_in;
+use crate::activities::{is_of_crew, person_in};
 use crate::cells::Cells;
 use crate::crew::Person;
 use crate::files::Sheets;
@@ -192,7 +192,9 @@ pub(crate) fn read_flown(
     let ledger = flown.len();
     for i in 0..sheets.carried_flown.len() {
         if let Some(entry) = sheets.carried_flown.entry(i) {
-            push_carried(cells, &mut flown, ledger, persons, entry)?;
+            if is_of_crew(persons, entry) {
+                push_carried(cells, &mut flown, ledger, persons, entry)?;
+            }
         }
     }
     Ok(flown)
