@@ -21,6 +21,7 @@
 //! - `likely`: duties that are likely wrong, and persons of whom nothing is given
 //! - `alike`: stations and pairings that are likely one
 //! - `rests`: rests that are likely too short
+//! - `homes`: pairings that likely don't end at their base
 //! - `sums`: costs that say nothing, and targets that can't be met
 //! - `warning_text`: the warnings of a book
 #![tactic(auto)]
@@ -30,6 +31,7 @@ mod codes;
 mod crowded;
 mod finding;
 mod forms;
+mod homes;
 mod judging;
 mod kinds;
 mod likely;

@@ -1,6 +1,7 @@
 //! The warnings of a book in words.
 
 use crate::alike::{stations, twins};
+use crate::homes::homes;
 use crate::likely::{free_months, long_duties, nights};
 use crate::numbers::{hours, positioning, targets, years};
 use crate::rests::{fixed_rests, layovers, short_rests};
@@ -31,11 +32,12 @@ enum Sign {
     History,
     FixedRest,
     Layover,
+    Home,
 }
 
 impl Sign {
     /// All signs, in the order in which they are told.
-    const ALL: [Sign; 18] = [
+    const ALL: [Sign; 19] = [
         Sign::Zone,
         Sign::Night,
         Sign::Year,
@@ -54,6 +56,7 @@ impl Sign {
         Sign::History,
         Sign::FixedRest,
         Sign::Layover,
+        Sign::Home,
     ];
 
     /// The word that a warning has of it.
@@ -77,6 +80,7 @@ impl Sign {
             Sign::History => "HISTORY",
             Sign::FixedRest => "FIXED",
             Sign::Layover => "AWAY",
+            Sign::Home => "HOME",
         }
     }
 
@@ -101,6 +105,7 @@ impl Sign {
             Sign::History => histories(alloc, rows),
             Sign::FixedRest => fixed_rests(alloc, rows),
             Sign::Layover => layovers(alloc, rows),
+            Sign::Home => homes(alloc, rows),
         }
     }
 }
