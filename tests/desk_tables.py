@@ -125,7 +125,7 @@ def pairing_records(tables, taken):
                 own = (row.get("DUTY") or f"D{i + 1}") + copy
                 records.append(["duty", own, "P", name + copy, row["STATION"], shown(report), shown(release)])
                 sectors = [(tables.at(it["FROM"], it["OFF"]), tables.at(it["TO"], it["ON"]), it.get("KIND") or "O") for it in tables.rows["sectors"] if it["PAIRING"] == name]
-                records += [["sector", own, kind, shown(off), shown(on)] for off, on, kind in sorted(sectors) if report <= off <= release]
+                records += [["sector", own, kind, shown(off), shown(on)] for off, on, kind in sorted(sectors) if report <= off < release]
     return records, spans
 
 
@@ -309,6 +309,7 @@ NAME = "a name of 1 to 16 ASCII letters, digits, _ and -"
 CLOCKS = "the name of a zone as Europe/Zurich, or a rule as CET-1CEST,M3.5.0,M10.5.0/3"
 HOURS = "hours and minutes as 75:30, or minutes, 60000 at most"
 INSTANT = "an instant as 2024-06-11T08:00Z, or a local time as 2024-06-11 10:00"
+WHEN = "a date as 2024-06-11, an instant as 2024-06-11T08:00Z, or a local time as 2024-06-11 10:00"
 SKIPPED = "another time, or an offset as in 2024-06-11T10:00+02:00: the clocks skip this one"
 TWICE = "an offset, as in 2024-06-11T10:00+02:00: the clocks show this time twice"
 NO_CLOCKS = "a time with Z or an offset, as 2024-06-11T10:00+02:00: neither bases.csv nor stations.csv has clocks for it"
@@ -352,7 +353,8 @@ CELLS = [
     ("activities", "CODE", "SIM 1", f"{NAME}, as SIM-1"),
     ("activities", "FROM", "", INSTANT),
     ("leave", "PERSON", "", "a person of crew.csv"),
-    ("leave", "FROM", "24.6.", INSTANT),
+    ("leave", "FROM", "24.6.", WHEN),
+    ("leave", "TO", "2024-06-31", WHEN),
     ("wishes", "PERSON", "ana", "a person of crew.csv"),
     ("wishes", "PAIRING", "P9", "a pairing of pairings.csv"),
     ("wishes", "PAIRING", "", "either a pairing or a DATE"),
@@ -368,6 +370,7 @@ ROWS = [
     ("bases", "ZRH,Europe/Zurich", "BASE", "ZRH", "each name once"),
     ("stations", "LHR,Europe/London", "STATION", "LHR", "each name once"),
     ("crew", "ANA,ZRH,CP,,,", "PERSON", "ANA", "each name once"),
+    ("crew", "BOB,ZRH,CP,,2024-06-20,2024-06-19", "TO", "2024-06-19", "a date that isn't before FROM"),
     ("crew", "BOB,ZRH,FO,,,", "RANK", "FO", "persons of one rank, as --rank takes them: a book is of one rank"),
     ("pairings", "P1,ZRH,CP,,", "PAIRING", "P1", "each name once for each rank"),
     ("pairings", "P2,ZRH,CP,,", "PAIRING", "P2", "a pairing with a duty in duties.csv"),
@@ -432,6 +435,7 @@ def mistakes(tests, run, desk):
     elsewhere = [
         ("duties", "STATION", "CDG", "REPORT", "2024-06-11 08:00", NO_CLOCKS),
         ("sectors", "OFF", "2024-06-12 09:00", "PAIRING", "P1", "a pairing of pairings.csv, in one of whose duties the sector begins"),
+        ("sectors", "OFF", "2024-06-11 16:00", "PAIRING", "P1", "a pairing of pairings.csv, in one of whose duties the sector begins"),
         ("duties", "RELEASE", "2024-06-11 07:00", "RELEASE", "2024-06-11 07:00", "an instant after REPORT"),
     ]
     for table, column, cell, told, has, wanted in elsewhere:
@@ -450,6 +454,10 @@ def mistakes(tests, run, desk):
         begin = f"error: {folder}/{table}.csv, line 2, ".encode()
         tests.told(f"{cell!r} in {column} of {table}", untold(book), not book.stderr.startswith(begin) and f"told {book.stderr}")
     not_asked(tests, run, desk, folder)
+    ranks(tests, run, desk, folder)
+    far_dates(tests, run, desk, folder)
+    once(tests, run, desk, folder)
+    leavers(tests, run, desk, folder)
     too_many(tests, run, desk, folder)
     no_files(tests, run, desk, folder)
 
@@ -466,6 +474,61 @@ def not_asked(tests, run, desk, folder):
         book = made(run, desk, folder, month)
         wanted = b"error: --month wants a month of the years 1971 to 9997, as 2024-06\n"
         tests.told(f"the month {month!r}", book.returncode != 2 and f"status {book.returncode}", book.stdout and "standard output", book.stderr != wanted and f"told {book.stderr}")
+
+
+def ranks(tests, run, desk, folder):
+    """A book is of one rank: its persons and its pairings."""
+    two = {"pairings": TINY["pairings"] + "P2,ZRH,FO,500,1\n", "duties": TINY["duties"] + "P2,ZRH,2024-06-13 08:00,ZRH,2024-06-13 16:00\n"}
+    told = sentence(folder, "pairings", 3, "RANK", "FO", "pairings of the persons' rank, as --rank takes them: a book is of one rank")
+    tests.told("a pairing of another rank", untold(made(run, desk, tiny(folder, **two), "2024-06"), told))
+    tests.told("of two ranks one", wrong_book(run, desk, tiny(folder, **two), "2024-06", (), "CP"))
+    bare = {"pairings": "PAIRING,BASE\nP1,ZRH\n"}
+    told = sentence(folder, "pairings", 2, "RANK", "", "the ranks of pairings, by which --rank takes them")
+    tests.told("pairings without ranks", untold(made(run, desk, tiny(folder, **bare), "2024-06", (), "CP"), told))
+    tests.told("persons of one rank, pairings without", wrong_book(run, desk, tiny(folder, **bare), "2024-06", (), None))
+    tests.told("pairings of one rank, persons without", wrong_book(run, desk, tiny(folder, crew="PERSON,BASE\nANA,ZRH\n"), "2024-06", (), None))
+
+
+def far_dates(tests, run, desk, folder):
+    """Dates that no book reaches, as 9999-12-31 of a leave without an end. The window is from 27 April to 14 July."""
+    begin, end = "2024-04-26T22:00Z", "2024-07-14T22:00Z"
+    for table, row, wanted in (
+        ("leave", "ANA,2024-06-29,9999-12-31", [("2024-06-28T22:00Z", end)]),
+        ("leave", "ANA,2024-06-29,9998-12-31", [("2024-06-28T22:00Z", end)]),
+        ("leave", "ANA,0001-01-01,2024-06-02", [(begin, "2024-06-02T22:00Z")]),
+        ("leave", "ANA,1970-01-01,2024-06-02", [(begin, "2024-06-02T22:00Z")]),
+        ("leave", "ANA,0001-01-01,9999-12-31", [(begin, end)]),
+        ("leave", "ANA,9999-01-01,9999-12-31", []),
+        ("leave", "ANA,1960-01-01,1969-12-31", []),
+        ("crew", "ANA,ZRH,CP,,1969-12-31,9999-12-31", []),
+        ("crew", "ANA,ZRH,CP,,9999-01-01,", [(begin, end)]),
+        ("crew", "ANA,ZRH,CP,,,1969-12-31", [(begin, end)]),
+    ):
+        changed = {"leave": None, table: TINY[table].splitlines()[0] + f"\n{row}\n", "activities": None}
+        book = made(run, desk, tiny(folder, **changed), "2024-06")
+        found = [tuple(line.split(",")[2:]) for line in book.stdout.decode().splitlines() if line.startswith("leave,")]
+        tests.told(f"leave of {row}", book.returncode != 0 and f"status {book.returncode}: {book.stderr}", found != wanted and f"told {found}")
+
+
+def once(tests, run, desk, folder):
+    """A cell is told once, and of wishes what they come to together."""
+    lines = made(run, desk, tiny(folder, crew=with_cell("crew", "PERSON", "Zo\u00eb")), "2024-06").stderr.decode().splitlines()
+    tests.told("a name that is told", sum("crew.csv, line 2, PERSON: " in line for line in lines) != 1 and f"told {lines}")
+    wishes = TINY["wishes"] + 2 * "ANA,P1,,999999999\n"
+    told = sentence(folder, "wishes", 2, "UNITS", "2000000008", "a number from -1000000000 to 1000000000")
+    tests.told("wishes that are too much together", untold(made(run, desk, tiny(folder, wishes=wishes), "2024-06"), told))
+
+
+def leavers(tests, run, desk, folder):
+    """What was carried of persons who have left is passed over."""
+    carried = {
+        "activities": "PERSON,CODE,STATION,FROM,TO\nBOB,2024-05,ZRH,2024-05-30T08:00Z,2024-05-30T12:00Z\n",
+        "sectors": "PERSON,OFF,ON,KIND\nBOB,2024-05-30T09:00Z,2024-05-30T10:00Z,O\n",
+        "leave": "PERSON,FROM,TO\nBOB,2024-06-01T00:00Z,2024-06-03T00:00Z\n",
+        "flown": "PERSON,MONTH,FLIGHT\nBOB,2024-05,600\n",
+    }
+    tiny(folder, **{f"carried-{table}": text for table, text in carried.items()})
+    tests.told("carried rows of who has left", wrong_book(run, desk, folder, "2024-06", (), "CP"))
 
 
 def too_many(tests, run, desk, folder):

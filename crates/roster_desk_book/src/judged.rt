@@ -88,7 +88,17 @@ fn wanted_of(alloc: Global, origins: &[Origin], fault: &Fault) -> Result<String,
     format!(in alloc; "{wanted}; {file}, line {line}, {relation}")
 }
 
-/// Tells a fault of a record, of the row that it comes from.
+/// What stands in the cell; the field of the record if that is made from it.
+fn has_of<'a>(cell: &'a [u8], place: Place, fault: &'a Fault) -> &'a [u8] {
+    // Units of several wishes are added.
+    if cell.is_empty() || place.column == Column::Units {
+        fault.has.as_slice()
+    } else {
+        cell
+    }
+}
+
+/// Tells a fault of a record, of the row that it comes from, unless something is told of the cell already.
 fn tell_fault(
     alloc: Global,
     sheets: &Sheets,
@@ -109,12 +119,10 @@ fn tell_fault(
         line,
         column,
     };
-    let cell = sheets.cell_at(place);
-    let has = if cell.is_empty() {
-        fault.has.as_slice()
-    } else {
-        cell
-    };
+    if mistakes.has(place) {
+        return Ok(());
+    }
+    let has = has_of(sheets.cell_at(place), place, fault);
     mistakes.push(alloc, place, has, wanted.as_str())
 }
 

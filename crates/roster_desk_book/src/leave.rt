@@ -2,7 +2,7 @@
 
 use crate::asked::Asked;
 use crate::draft::Draft;
-use crate::spans::{Span, begin_of, day_of, second_text, window_of};
+use crate::spans::{Span, passed, reached, second_text, window_of};
 use crate::taken::Taken;
 use jiff::tz::TimeZone;
 use roster_desk_fault::Kind;
@@ -20,31 +20,31 @@ struct Away {
 }
 
 /// The second at which a leave begins.
-fn from_of(zone: &TimeZone<'static>, when: When) -> Option<i64> {
+fn from_of(zone: &TimeZone<'static>, when: When) -> i64 {
     match when {
-        When::On(date) => begin_of(zone, date),
-        When::At(at) => Some(at.as_second()),
+        When::On(date) => reached(zone, date),
+        When::At(at) => at.as_second(),
     }
 }
 
 /// The second at which a leave ends: with its last date.
-fn to_of(zone: &TimeZone<'static>, when: When) -> Option<i64> {
+fn to_of(zone: &TimeZone<'static>, when: When) -> i64 {
     match when {
-        When::On(date) => Some(day_of(zone, date)?.to),
-        When::At(at) => Some(at.as_second()),
+        When::On(date) => passed(zone, date),
+        When::At(at) => at.as_second(),
     }
 }
 
 /// When a leave is.
-fn span_of(zone: &TimeZone<'static>, leave: &Leave) -> Option<Span> {
-    Some(Span {
-        from: from_of(zone, leave.from)?,
-        to: to_of(zone, leave.to)?,
-    })
+fn span_of(zone: &TimeZone<'static>, leave: &Leave) -> Span {
+    Span {
+        from: from_of(zone, leave.from),
+        to: to_of(zone, leave.to),
+    }
 }
 
 /// Puts the span behind the others, as far as the window has it. One that ends no later than it begins is
-/// put there as it is.
+/// put there as it is, so that it is told.
 fn push_span(
     aways: &mut Vec<Away>,
     window: Span,
@@ -57,7 +57,8 @@ fn push_span(
     } else {
         span.within(window)
     };
-    if span.is_empty() || !cut.is_empty() {
+    let is_told = span.is_empty() && !span.is_out();
+    if is_told || !cut.is_empty() {
         aways.push(Away {
             person,
             span: cut,
@@ -75,18 +76,18 @@ fn push_absence(
     k: usize,
     person: &Person,
 ) -> Result<(), AllocError> {
-    if let Some(from) = person.from.and_then(|date| begin_of(zone, date)) {
+    if let Some(date) = person.from {
         let span = Span {
             from: window.from,
-            to: from,
+            to: reached(zone, date),
         };
         if !span.is_empty() {
             push_span(aways, window, k, span, person.place)?;
         }
     }
-    if let Some(day) = person.to.and_then(|date| day_of(zone, date)) {
+    if let Some(date) = person.to {
         let span = Span {
-            from: day.to,
+            from: passed(zone, date),
             to: window.to,
         };
         if !span.is_empty() {
@@ -113,9 +114,7 @@ fn push_aways(
     push_absence(aways, zone, window, k, person)?;
     for leave in &tables.leaves {
         if leave.person == k {
-            if let Some(span) = span_of(zone, leave) {
-                push_span(aways, window, k, span, leave.place)?;
-            }
+            push_span(aways, window, k, span_of(zone, leave), leave.place)?;
         }
     }
     Ok(())

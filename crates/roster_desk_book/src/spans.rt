@@ -4,7 +4,7 @@ use jiff::Timestamp;
 use jiff::civil::Date;
 use jiff::tz::TimeZone;
 use roster_desk_times::{instant_text, midnight};
-use roster_model::limits::{DAYS_AFTER, DAYS_BEFORE};
+use roster_model::limits::{DAYS_AFTER, DAYS_BEFORE, FIRST_YEAR};
 use std::alloc::{AllocError, Global};
 
 /// From one second to another, which count from 1970-01-01T00:00Z.
@@ -28,6 +28,11 @@ impl Span {
         self.from >= self.to
     }
 
+    /// Whether it lies where no book reaches.
+    pub(crate) fn is_out(self) -> bool {
+        self.from == self.to && (self.from == i64::MIN || self.from == i64::MAX)
+    }
+
     /// Whether it has each second of the other.
     pub(crate) fn holds(self, other: Span) -> bool {
         self.from <= other.from && other.to <= self.to
@@ -37,6 +42,24 @@ impl Span {
 /// The second at which the date begins on the clocks.
 pub(crate) fn begin_of(zone: &TimeZone<'static>, date: Date) -> Option<i64> {
     Some(midnight(zone, date)?.as_second())
+}
+
+/// The second at which the date begins on the clocks. No book reaches the dates before 1970 and behind 9998, as
+/// 9999-12-31, by which some mean that there is no end: they are before all seconds or behind them.
+pub(crate) fn reached(zone: &TimeZone<'static>, date: Date) -> i64 {
+    match begin_of(zone, date) {
+        Some(second) => second,
+        None if date.year() <= FIRST_YEAR as i16 => i64::MIN,
+        None => i64::MAX,
+    }
+}
+
+/// The second at which the date ends on the clocks, in the same way.
+pub(crate) fn passed(zone: &TimeZone<'static>, date: Date) -> i64 {
+    match date.tomorrow() {
+        Ok(next) => reached(zone, next),
+        Err(_) => i64::MAX,
+    }
 }
 
 /// The date and the one behind it, on the clocks.

@@ -127,7 +127,79 @@ fn of_other_rank<'a>(tables: &'a Tables, taken: &Taken) -> Option<&'a Person> {
     None
 }
 
-/// Tells what is asked for and isn't there, and persons of more than one rank.
+/// The rank of the first person whom the book has; empty if there is none.
+fn rank_of_persons<'a>(tables: &'a Tables, taken: &Taken) -> &'a [u8] {
+    for (k, person) in tables.persons.iter().enumerate() {
+        if taken.has_person(k) {
+            return person.rank.as_slice();
+        }
+    }
+    &[]
+}
+
+/// The first pairing whose rank isn't that of the persons, or of the pairings before it. An empty one agrees with
+/// each.
+fn pairing_of_other_rank<'a>(tables: &'a Tables, taken: &Taken) -> Option<&'a Pairing> {
+    let mut rank = rank_of_persons(tables, taken);
+    for (p, pairing) in tables.pairings.iter().enumerate() {
+        if !taken.has_pairing(p) || pairing.rank.is_empty() {
+            continue;
+        }
+        if rank.is_empty() {
+            rank = pairing.rank.as_slice();
+        }
+        if pairing.rank.as_slice() != rank {
+            return Some(pairing);
+        }
+    }
+    None
+}
+
+/// Tells the rank at the place, of which the book isn't.
+fn tell_rank(
+    alloc: Global,
+    place: Place,
+    rank: &[u8],
+    wanted: &str,
+    mistakes: &mut Mistakes,
+) -> Result<(), AllocError> {
+    let place = Place {
+        column: Column::Rank,
+        ..place
+    };
+    mistakes.push(alloc, place, rank, wanted)
+}
+
+/// Tells persons and pairings of more than one rank, and pairings without one if a rank is asked for.
+fn tell_ranks(
+    alloc: Global,
+    asked: &Asked<'_>,
+    tables: &Tables,
+    taken: &Taken,
+    mistakes: &mut Mistakes,
+) -> Result<(), AllocError> {
+    if let Some(person) = of_other_rank(tables, taken) {
+        let wanted = "persons of one rank, as --rank takes them: a book is of one rank";
+        return tell_rank(alloc, person.place, &person.rank, wanted, mistakes);
+    }
+    if let Some(pairing) = pairing_of_other_rank(tables, taken) {
+        let wanted = "pairings of the persons' rank, as --rank takes them: a book is of one rank";
+        return tell_rank(alloc, pairing.place, &pairing.rank, wanted, mistakes);
+    }
+    let has_none = tables
+        .pairings
+        .iter()
+        .all(|pairing| pairing.rank.is_empty());
+    match tables.pairings.first() {
+        Some(pairing) if has_none && asked.rank().is_some_and(|rank| !rank.is_empty()) => {
+            let wanted = "the ranks of pairings, by which --rank takes them";
+            tell_rank(alloc, pairing.place, b"", wanted, mistakes)
+        }
+        _ => Ok(()),
+    }
+}
+
+/// Tells what is asked for and isn't there, and ranks that don't agree.
 pub(crate) fn tell_asked(
     alloc: Global,
     asked: &Asked<'_>,
@@ -136,14 +208,7 @@ pub(crate) fn tell_asked(
     mistakes: &mut Mistakes,
 ) -> Result<(), AllocError> {
     tell_bases(alloc, asked, tables, mistakes)?;
-    if let Some(person) = of_other_rank(tables, taken) {
-        let wanted = "persons of one rank, as --rank takes them: a book is of one rank";
-        let place = Place {
-            column: Column::Rank,
-            ..person.place
-        };
-        mistakes.push(alloc, place, person.rank.as_slice(), wanted)?;
-    }
+    tell_ranks(alloc, asked, tables, taken, mistakes)?;
     let has_person = (0..tables.persons.len()).any(|k| taken.has_person(k));
     if let (Some(rank), false) = (asked.rank(), has_person) {
         let place = nowhere(Table::Crew, Column::Rank);
