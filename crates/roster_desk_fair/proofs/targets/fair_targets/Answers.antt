@@ -1,4 +1,4 @@
-use Rattle.std.proofs.Common.{◌∙◌, ◌++◌, ◌∷◌, [], ap, arith, sym}
+use Rattle.std.proofs.Common.{arith, sym}
 use Rattle.std.proofs.lemmas.List.FromFn.{map-range_with_len_more}
 use Rattle.roster_desk_fair.specs.Fair.{fair_target}
 use Rattle.roster_desk_fair.proofs.targets.fair_targets.Goals as goal
