@@ -120,7 +120,8 @@ fn tell_mistakes(
     notes.extend_from_slice(told.as_slice())
 }
 
-/// The tables of the folder, or none if something is wrong with those that were carried before, which is told.
+/// The tables of the folder, or none if something is wrong with those that were carried before, which is
+/// told.
 fn tables<'a>(
     alloc: Global,
     line: &CarryLine<'a>,

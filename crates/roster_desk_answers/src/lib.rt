@@ -1,5 +1,5 @@
-//! What the desk answers of a roster of a book, of a report, of the records of a book, or of tables, written to a
-//! writer.
+//! What the desk answers of a roster of a book, of a report, of the records of a book, or of tables, written
+//! to a writer.
 //!
 //! - `telling`: what is told of a roster, and the records of a report
 //! - `pages`: what is told of the records of a book

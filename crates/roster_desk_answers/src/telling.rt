@@ -15,7 +15,7 @@ use roster_desk_reports::{
 };
 use roster_desk_sheets::{Look, Mistakes, Names, Table, read_names};
 use roster_desk_tables::{Sheet, changed_text, differences_text, persons_table, roster_table};
-use roster_desk_words::{limits_text, open_text, pairing_text, why_text};
+use roster_desk_words::{Teller, limits_text};
 use roster_problem::Problem;
 use roster_report::{TextFault, write_fault};
 use roster_values::Places;
@@ -150,7 +150,10 @@ fn push_notes<'a>(
 ) -> Result<(), AllocError> {
     match question {
         Question::Differences { .. } | Question::Changed { .. } => {}
-        _ => return Ok(()),
+        Question::Why { .. }
+        | Question::Limits { .. }
+        | Question::Table(_)
+        | Question::Chart { .. } => return Ok(()),
     }
     if let Some(report) = &inputs.report {
         push_unknown(alloc, notes, book, report.bytes.as_slice())?;
@@ -193,8 +196,8 @@ pub(crate) fn refuse<W: Write>(
     }
 }
 
-/// The roster that the report at the path gives of the book. A difference may be one of reports of the book as
-/// it was, so it passes over persons and pairings that the book doesn't have.
+/// The roster that the report at the path gives of the book. A difference may be one of reports of the book
+/// as it was, so it passes over persons and pairings that the book doesn't have.
 fn given<'a>(
     alloc: Global,
     question: Question<'a>,
@@ -208,7 +211,10 @@ fn given<'a>(
         Question::Differences { .. } | Question::Changed { .. } => {
             read_known_roster(alloc, problem, text)
         }
-        _ => read_roster(alloc, problem, text),
+        Question::Why { .. }
+        | Question::Limits { .. }
+        | Question::Table(_)
+        | Question::Chart { .. } => read_roster(alloc, problem, text),
     };
     match read {
         Ok(places) => Ok(places),
@@ -299,12 +305,13 @@ fn why(
 ) -> Result<Vec<u8>, AllocError>
     requires { length places.now ≡ length problem.now.pairings }
 {
+    let teller = Teller::new(alloc, problem, zones, places);
     if all || asked.person.is_some() {
-        return why_text(alloc, problem, places, zones, asked);
+        return teller.why_text(asked);
     }
     match asked.pairing {
-        Some(p) if p < places.len() => pairing_text(alloc, problem, places, zones, p),
-        _ => open_text(alloc, problem, places, zones),
+        Some(p) if p < places.len() => teller.pairing_text(p),
+        _ => teller.open_text(),
     }
 }
 

@@ -4,6 +4,7 @@ ghost use Rattle.std.specs.Prelude.{◌≡◌, ◌<◌, IfOk, IfSome, IsTrue, Ok
 ghost use Rattle.roster_model.specs.Zone.{days_of_zone};
 ghost use Rattle.roster_desk_carry_judged.specs.Carried.{HasZone};
 
+use roster_desk_same::are_same_days;
 use roster_instants::{BaseDays, Period, ZoneFault};
 use roster_problem::Problem;
 use roster_values::Name;
@@ -16,25 +17,6 @@ pub struct BaseZone {
     pub base: Name,
     /// The rule, as a book writes it.
     pub rule: String,
-}
-
-/// Whether two bases have the same days.
-fn are_same_days(a: &BaseDays, b: &BaseDays) -> bool
-    ensures { IsTrue result → a.now ≡ b.now }
-{
-    if a.days() != b.days() || a.month_days() != b.month_days() {
-        return false;
-    }
-    let days = a.days();
-    if a.mid(days) != b.mid(days) {
-        return false;
-    }
-    for i in 0..days {
-        if a.mid(i) != b.mid(i) || a.eight(i) != b.eight(i) || a.ten(i) != b.ten(i) {
-            return false;
-        }
-    }
-    true
 }
 
 /// The days that clocks with the rule have round the month, if they have some.

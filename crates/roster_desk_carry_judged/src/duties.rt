@@ -8,9 +8,10 @@ ghost use Rattle.roster_model.specs.Window as window;
 ghost use Rattle.roster_desk_carry_judged.specs.Carried as spec;
 ghost use Rattle.roster_desk_carry_judged.specs.Carried.{bare};
 
+use roster_desk_same::are_same_sectors;
 use roster_instants::{BaseDays, Minute};
 use roster_legal::merge;
-use roster_problem::{Duty, DutyList, Problem, Sector};
+use roster_problem::{Duty, DutyList, Problem};
 use roster_values::Set;
 use std::alloc::{AllocError, Global};
 
@@ -43,26 +44,6 @@ fn lies_in(days: &BaseDays, duty: &Duty) -> bool
     ensures { result ≡ spec.lies_in days.now duty.now }
 {
     midnight(days, 0) <= duty.report && duty.release <= midnight(days, days.days())
-}
-
-/// Whether two sectors are the same.
-fn is_same_sector(a: Sector, b: Sector) -> bool
-    ensures { IsTrue result → a ≡ b }
-{
-    a.operates == b.operates && a.off == b.off && a.on == b.on
-}
-
-/// Whether two duties have the same sectors.
-fn are_same_sectors(before: &[Sector], after: &[Sector]) -> bool
-    ensures { IsTrue result → after.now ≡ before.now }
-{
-    match before.split_first() {
-        None => after.is_empty(),
-        Some((a, others)) => match after.split_first() {
-            None => false,
-            Some((b, rest)) => is_same_sector(*b, *a) && are_same_sectors(others, rest),
-        },
-    }
 }
 
 /// Whether both duties happen alike.

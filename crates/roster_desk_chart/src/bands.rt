@@ -26,8 +26,8 @@ fn is_one(one: Holder, other: Holder) -> bool
     }
 }
 
-/// The minute, or the report of the duty at place `j` of the list if that is earlier, and the duty is of something
-/// else and stands behind place `i`.
+/// The minute, or the report of the duty at place `j` of the list if that is earlier, and the duty is of
+/// something else and stands behind place `i`.
 fn end_at(list: &DutyList, own: Holder, i: usize, j: usize, end: u64) -> u64
     requires { j < length list.now }
     ensures least { result ≤ end }
@@ -42,8 +42,8 @@ fn end_at(list: &DutyList, own: Holder, i: usize, j: usize, end: u64) -> u64
     }
 }
 
-/// Up to where the name may reach of what the duty at place `i` of the list is of: no later than the report of any
-/// later duty of something else, or the end of the days that are drawn.
+/// Up to where the name may reach of what the duty at place `i` of the list is of: no later than the report
+/// of any later duty of something else, or the end of the days that are drawn.
 pub(crate) fn name_end(axis: &Axis, list: &DutyList, own: Holder, i: usize) -> u64
     ensures { (j : ℕ) → j < length list.now → (duty : model.Duty) → slice_get list.now j ≡ Some duty
         → i < j → spec.is_one (holder_of own) duty.holder ≡ false → result ≤ duty.report }
@@ -164,8 +164,8 @@ fn push_span(
     out.extend_from_slice(b"\"></u>")
 }
 
-/// Appends the band of the pairing at place `p`, with the stations of its layovers, and its name, which may reach
-/// up to the minute. A pairing of one duty has no band but that.
+/// Appends the band of the pairing at place `p`, with the stations of its layovers, and its name, which may
+/// reach up to the minute. A pairing of one duty has no band but that.
 pub(crate) fn push_band(
     alloc: Global,
     out: &mut Vec<u8>,

@@ -5,25 +5,13 @@ ghost use Rattle.std.specs.Prelude.{◌<◌, length};
 use crate::axis::{Axis, midnight, minute};
 use crate::bands::{before_leave, hue_of, is_first, name_end, push_band, push_label};
 use crate::html::{Place, percent, push_open, push_text};
-use roster_desk_words::{pairing_name, push_all, time};
+use roster_desk_words::{flight_of, pairing_name, push_all, time};
 use roster_instants::Minute;
 use roster_legal_reasons::Reason;
 use roster_model::limits::DAYS_BEFORE;
 use roster_problem::{Duty, DutyList, Holder, Leave, Problem};
-use roster_restrules::is_recurrent;
+use roster_restrules::{busy_days, is_recurrent};
 use std::alloc::{AllocError, Global};
-
-/// The minutes of flight in a duty: its operated sectors.
-fn flight_of(duty: &Duty) -> u64 {
-    let mut minutes = 0u64;
-    for sector in duty.sectors.as_slice() {
-        if sector.operates {
-            let flown = minute(sector.on).saturating_sub(minute(sector.off));
-            minutes = minutes.saturating_add(flown);
-        }
-    }
-    minutes
-}
 
 /// Whether the reason, if there is one, speaks of the duty at the place of the list.
 fn is_told(reason: Option<Reason>, i: usize) -> bool {
@@ -123,8 +111,8 @@ pub(crate) fn push_duty(
     out.extend_from_slice(b"\"></i>")
 }
 
-/// Appends what stands under and over the bar of the duty at place `i` of the list of person `k`: the band of its
-/// pairing, if it is the first duty of it, and the name.
+/// Appends what stands under and over the bar of the duty at place `i` of the list of person `k`: the band of
+/// its pairing, if it is the first duty of it, and the name.
 fn push_name(
     alloc: Global,
     out: &mut Vec<u8>,
@@ -255,17 +243,9 @@ pub(crate) fn push_rests(
     push_rest(alloc, out, axis, free, axis.days.mid(axis.days.days()))
 }
 
-/// Whether no duty of the list shares a minute with the day of the window.
-fn is_off(axis: &Axis, list: &DutyList, day: usize) -> bool {
-    let from = midnight(axis.days, day);
-    let to = midnight(axis.days, day.saturating_add(1));
-    for i in 0..list.len() {
-        let duty = list.duty(i);
-        if minute(duty.report) < to && from < minute(duty.release) {
-            return false;
-        }
-    }
-    true
+/// Whether the word of busy days has the day of the month, from 0.
+fn is_busy(busy: u32, i: usize) -> bool {
+    i < 32 && busy >> i & 1 == 1
 }
 
 /// Appends the ground of days off, from one day of the window up to another.
@@ -297,12 +277,13 @@ pub(crate) fn push_days_off(
     axis: &Axis,
     list: &DutyList,
 ) -> Result<(), AllocError> {
-    let end = DAYS_BEFORE.saturating_add(axis.days.month_days());
+    let busy = busy_days(axis.days, list);
     let mut begun = None;
-    for day in DAYS_BEFORE..end {
+    for i in 0..axis.days.month_days() {
+        let day = DAYS_BEFORE.saturating_add(i);
         match begun {
-            None if is_off(axis, list, day) => begun = Some(day),
-            Some(from) if !is_off(axis, list, day) => {
+            None if !is_busy(busy, i) => begun = Some(day),
+            Some(from) if is_busy(busy, i) => {
                 push_off(alloc, out, axis, from, day)?;
                 begun = None;
             }
@@ -310,7 +291,10 @@ pub(crate) fn push_days_off(
         }
     }
     match begun {
-        Some(from) => push_off(alloc, out, axis, from, end),
+        Some(from) => {
+            let end = DAYS_BEFORE.saturating_add(axis.days.month_days());
+            push_off(alloc, out, axis, from, end)
+        }
         None => Ok(()),
     }
 }

@@ -6,8 +6,8 @@ use crate::axis::{Axis, midnight};
 use crate::bands::push_band;
 use crate::bars::push_duty;
 use crate::html::push_text;
-use roster_desk_given::{Zones, nearest};
-use roster_desk_words::{push_all, push_near, push_summary};
+use roster_desk_given::nearest;
+use roster_desk_words::{Teller, push_all};
 use roster_problem::{Problem, open_number};
 use std::alloc::{AllocError, Global};
 
@@ -80,30 +80,31 @@ fn push_item(out: &mut Vec<u8>, line: &[u8]) -> Result<(), AllocError> {
 }
 
 /// Appends why nobody has an open pairing: what is told first of it, and then the persons of its base, the
-/// nearest first.
+/// nearest first. The teller tells of these places.
 pub(crate) fn push_reasons(
     alloc: Global,
     out: &mut Vec<u8>,
     problem: &Problem,
-    zones: &Zones,
     places: &[u16],
+    teller: &Teller<'_>,
     p: usize,
 ) -> Result<(), AllocError>
     requires covers { length places.now ≡ length problem.now.pairings }
     requires pairing { p < length problem.now.pairings }
+    requires told { teller.now ≡ record { problem = problem.now; places = places.now } }
 {
     let open = open_count(problem, places).max(1);
     let most = (MOST_OPEN_LINES / open).max(FEWEST_LINES);
     let name = problem.pairing(p).id.as_bytes();
     let mut summary = Vec::new(alloc);
-    push_summary(alloc, &mut summary, problem, zones, places, p)?;
+    teller.push_summary(&mut summary, p)?;
     push_all(out, &[b"<details><summary>", name, b": "])?;
     push_text(out, summary.as_slice())?;
     out.extend_from_slice(b"</summary><ul>")?;
     let all = nearest(alloc, problem, places, p)?;
     for near in all.iter().take(most) {
         let mut line = Vec::new(alloc);
-        push_near(alloc, &mut line, problem, zones, places, p, near)?;
+        teller.push_near(&mut line, p, near)?;
         push_item(out, line.as_slice())?;
     }
     let rest = all.len().saturating_sub(most);

@@ -8,7 +8,7 @@ use crate::open::{is_open, open_count, push_reasons, push_row};
 use crate::persons::{Words, push_person};
 use crate::style::{SCRIPT, STYLE};
 use roster_cost::roster_cost;
-use roster_desk_words::push_all;
+use roster_desk_words::{Teller, push_all};
 use roster_model::limits::MOST_BASES;
 use roster_problem::Problem;
 use std::alloc::{AllocError, Global};
@@ -150,9 +150,10 @@ fn push_why(
 ) -> Result<(), AllocError>
     requires { length places.now ≡ length problem.now.pairings }
 {
+    let teller = Teller::new(alloc, problem, words.zones, places);
     for p in 0..problem.pairings().len() {
         if problem.pairing(p).base == base && is_open(problem, places, p) {
-            push_reasons(alloc, out, problem, words.zones, places, p)?;
+            push_reasons(alloc, out, problem, places, &teller, p)?;
         }
     }
     Ok(())
@@ -211,8 +212,8 @@ fn push_homeless(out: &mut Vec<u8>, problem: &Problem, places: &[u16]) -> Result
 }
 
 /// The page of a book's roster: for each base the days across, a row for each person, and below them the open
-/// pairings and why they are open. The places are the roster, which needn't be legal, and the zones of the words
-/// those of the book's bases.
+/// pairings and why they are open. The places are the roster, which needn't be legal, and the zones of the
+/// words those of the book's bases.
 pub fn chart_text(
     alloc: Global,
     problem: &Problem,

@@ -1,6 +1,9 @@
 //! What each code says of a record, in the words of the table of codes.
 
-/// What the code, from 1 to 15, says of the record.
+use roster_model::limits::MOST_LINES;
+use std::alloc::{AllocError, Global};
+
+/// What the code, from 1 to 14, says of the record.
 pub(crate) fn sentence(code: u8) -> &'static str {
     match code {
         1 => "is the first and of another kind than `period`",
@@ -35,8 +38,13 @@ pub(crate) fn sentence(code: u8) -> &'static str {
             "gives a fixed duty or leave that shares a minute with an earlier fixed duty or leave of the \
              person"
         }
-        14 => "gives a pairing that has no duty",
-        _ =>
-            "gives a person who has more than 200000 legal sets of pairings, the empty one counted",
+        _ => "gives a pairing that has no duty",
     }
+}
+
+/// What code 15 says of the record.
+pub(crate) fn crowded_sentence(alloc: Global) -> Result<String, AllocError> {
+    format!(in alloc;
+        "gives a person who has more than {MOST_LINES} legal sets of pairings, the empty one counted"
+    )
 }

@@ -1,7 +1,7 @@
 //! What is wrong with a record: the field, what is wanted, and the other record that it is about.
 
 use crate::forms::{is_formed, is_within, wanted_form, wanted_limits};
-use crate::kinds::{Field, Kind};
+use crate::kinds::{Form, Kind};
 use crate::names::{find_not_given, find_twice};
 use crate::seen::{Other, Seen};
 use crate::times::{find_busy, find_out_of_sequence, find_out_of_window, find_wrong_start};
@@ -83,25 +83,32 @@ fn find_unknown_kind(alloc: Global, seen: Seen<'_>) -> Result<Finding, AllocErro
     )
 }
 
-/// The first field of the record that isn't of its form, if it has all of them.
-fn first_unformed(seen: Seen<'_>, kind: Kind) -> Option<(usize, Field)> {
-    for i in 1..kind.columns() {
-        if let Some(field) = kind.field(i) {
-            if !is_formed(field.form, seen.row.field(i)) {
-                return Some((i, field));
-            }
-        }
-    }
-    None
+/// What is asked of a field by itself.
+#[derive(Clone, Copy)]
+enum Test {
+    /// Whether it is of its form.
+    Form,
+    /// Whether it is within its limits.
+    Limits,
 }
 
-/// The first field of the record that is outside its limits.
-fn first_outside(seen: Seen<'_>, kind: Kind) -> Option<(usize, Field)> {
+impl Test {
+    /// Whether the text of a field of the form passes.
+    fn passes(self, form: Form, text: &[u8]) -> bool {
+        match self {
+            Test::Form => is_formed(form, text),
+            Test::Limits => is_within(form, text),
+        }
+    }
+}
+
+/// The first field of the record that fails the test, with its form; a field that isn't there is an empty
+/// one.
+fn first_failing(seen: Seen<'_>, kind: Kind, test: Test) -> Option<(usize, Form)> {
     for i in 1..kind.columns() {
-        if let Some(field) = kind.field(i) {
-            if !is_within(field.form, seen.row.field(i)) {
-                return Some((i, field));
-            }
+        let form = kind.form(i)?;
+        if !test.passes(form, seen.row.field(i)) {
+            return Some((i, form));
         }
     }
     None
@@ -119,7 +126,7 @@ fn has_line_end(seen: Seen<'_>) -> bool {
 
 /// The field at which a record of too few or too many fields goes wrong.
 fn field_of_count(seen: Seen<'_>, kind: Kind) -> usize {
-    let unformed = first_unformed(seen, kind).map_or(kind.columns(), |found| found.0);
+    let unformed = first_failing(seen, kind, Test::Form).map_or(kind.columns(), |found| found.0);
     if kind == Kind::Base {
         unformed.min(2)
     } else if seen.row.len() < kind.columns() {
@@ -147,17 +154,20 @@ fn find_count(alloc: Global, seen: Seen<'_>, kind: Kind) -> Result<Finding, Allo
 
 /// What is wrong with a field that isn't of its form.
 fn find_form(alloc: Global, seen: Seen<'_>, kind: Kind) -> Result<Finding, AllocError> {
-    match first_unformed(seen, kind) {
-        Some((i, field)) => { Finding::plain(alloc, i, wanted_form(field.form, seen.row.field(i))) }
+    match first_failing(seen, kind, Test::Form) {
+        Some((i, form)) => {
+            let wanted = wanted_form(alloc, form, seen.row.field(i))?;
+            Finding::plain(alloc, i, wanted.as_str())
+        }
         None => Finding::plain(alloc, 0, kind.layout()),
     }
 }
 
 /// What is wrong with a number that is outside its limits.
 fn find_limit(alloc: Global, seen: Seen<'_>, kind: Kind) -> Result<Finding, AllocError> {
-    match first_outside(seen, kind) {
-        Some((i, field)) => {
-            let wanted = wanted_limits(alloc, field.form)?;
+    match first_failing(seen, kind, Test::Limits) {
+        Some((i, form)) => {
+            let wanted = wanted_limits(alloc, form)?;
             Finding::plain(alloc, i, wanted.as_str())
         }
         None => Finding::plain(alloc, 0, kind.layout()),

@@ -2,10 +2,16 @@
 
 use crate::kinds::Form;
 use roster_instants::{Period, read_minute};
-use roster_model::limits::{MOST_DIGITS, MOST_NAME_BYTES, MOST_ZONE_BYTES};
+use roster_model::limits::{
+    FIRST_MONTH_YEAR, FIRST_YEAR, LAST_MONTH_YEAR, LAST_YEAR, MOST_DIGITS, MOST_NAME_BYTES,
+    MOST_ZONE_BYTES,
+};
 use roster_values::is_identifier;
 use std::alloc::{AllocError, Global};
 use std::str;
+
+/// The bytes of an instant.
+const INSTANT_BYTES: usize = 17;
 
 /// What follows a minus, or the whole text.
 fn unsigned_part(text: &[u8]) -> &[u8] {
@@ -55,20 +61,21 @@ pub(crate) fn is_within(form: Form, text: &[u8]) -> bool {
 }
 
 /// What is wanted of a name, with what is wrong with the text.
-fn wanted_name(text: &[u8]) -> &'static str {
-    if text.is_empty() {
+fn wanted_name(alloc: Global, text: &[u8]) -> Result<String, AllocError> {
+    let wanted = if text.is_empty() {
         "a name; the field is empty"
     } else if text.contains(&b' ') {
         "a name without a space"
     } else if !text.is_ascii() {
         "a name of ASCII letters, without accents"
     } else if text.len() > MOST_NAME_BYTES {
-        "a name of 16 characters at most"
+        return format!(in alloc; "a name of {MOST_NAME_BYTES} characters at most");
     } else if text.starts_with(b"-") || text.starts_with(b"_") {
         "a name that begins with a letter or a digit"
     } else {
         "a name of ASCII letters, digits, _ and -"
-    }
+    };
+    String::from_str(alloc, wanted)
 }
 
 /// Whether the text begins as an instant does, and goes on otherwise.
@@ -77,31 +84,37 @@ fn has_seconds(text: &[u8]) -> bool {
 }
 
 /// What is wanted of an instant, with what is wrong with the text.
-fn wanted_instant(text: &[u8]) -> &'static str {
-    if text.is_empty() {
-        "an instant in UTC, as 2024-06-11T08:00Z; the field is empty"
+fn wanted_instant(alloc: Global, text: &[u8]) -> Result<String, AllocError> {
+    let hint = if text.is_empty() {
+        "; the field is empty"
     } else if has_seconds(text) {
-        "an instant in UTC to the minute, as 2024-06-11T08:00Z, without seconds"
-    } else if text.len() > 17 {
-        "an instant in UTC, as 2024-06-11T08:00Z, with Z in place of an offset and nothing behind it"
+        return String::from_str(
+            alloc,
+            "an instant in UTC to the minute, as 2024-06-11T08:00Z, without seconds",
+        );
+    } else if text.len() > INSTANT_BYTES {
+        ", with Z in place of an offset and nothing behind it"
     } else if text.get(10) == Some(&b't') || text.ends_with(b"z") {
-        "an instant in UTC, as 2024-06-11T08:00Z, with a large T and Z"
+        ", with a large T and Z"
     } else if text.get(10) == Some(&b' ') {
-        "an instant in UTC, as 2024-06-11T08:00Z, with a T in place of the space"
+        ", with a T in place of the space"
     } else if text.get(11..13) == Some(b"24".as_slice()) {
-        "an instant in UTC, as 2024-06-11T08:00Z: midnight is 00:00 of the next day"
+        ": midnight is 00:00 of the next day"
     } else if text.len() == 16 && text.ends_with(b"Z") {
-        "an instant in UTC, as 2024-06-11T08:00Z: hours, minutes, months and days have two digits"
-    } else if text.len() == 17 {
-        "an instant in UTC, as 2024-06-11T08:00Z, of a real date of the years 1970 to 9998"
+        ": hours, minutes, months and days have two digits"
+    } else if text.len() == INSTANT_BYTES {
+        return format!(in alloc;
+            "an instant in UTC, as 2024-06-11T08:00Z, of a real date of the years {FIRST_YEAR} to {LAST_YEAR}"
+        );
     } else {
-        "an instant in UTC, as 2024-06-11T08:00Z"
-    }
+        ""
+    };
+    format!(in alloc; "an instant in UTC, as 2024-06-11T08:00Z{hint}")
 }
 
 /// What is wanted of a number, with what is wrong with the text.
-fn wanted_number(text: &[u8]) -> &'static str {
-    if text.is_empty() {
+fn wanted_number(alloc: Global, text: &[u8]) -> Result<String, AllocError> {
+    let wanted = if text.is_empty() {
         "a number; 0 if there is nothing to say"
     } else if text.starts_with(b"+") {
         "a number without a plus"
@@ -110,31 +123,37 @@ fn wanted_number(text: &[u8]) -> &'static str {
     } else if text.contains(&b' ') || text.contains(&b'\'') {
         "a number of digits alone, without spaces or marks between them"
     } else {
-        "a number of 1 to 12 digits"
-    }
+        return format!(in alloc; "a number of 1 to {MOST_DIGITS} digits");
+    };
+    String::from_str(alloc, wanted)
 }
 
 /// What is wanted of a zone text, with what is wrong with the text.
-fn wanted_zone(text: &[u8]) -> &'static str {
+fn wanted_zone(alloc: Global, text: &[u8]) -> Result<String, AllocError> {
     if text.len() > MOST_ZONE_BYTES {
-        "a zone text of 64 characters at most"
+        format!(in alloc; "a zone text of {MOST_ZONE_BYTES} characters at most")
     } else {
-        "a zone text without a space, as UTC0"
+        String::from_str(alloc, "a zone text without a space, as UTC0")
     }
 }
 
 /// What is wanted of a field that isn't of its form.
-pub(crate) fn wanted_form(form: Form, text: &[u8]) -> &'static str {
-    match form {
-        Form::Month => "a month as 2024-06, of the years 1971 to 9997",
-        Form::Identifier => wanted_name(text),
+pub(crate) fn wanted_form(alloc: Global, form: Form, text: &[u8]) -> Result<String, AllocError> {
+    let wanted = match form {
+        Form::Month => {
+            return format!(in alloc;
+                "a month as 2024-06, of the years {FIRST_MONTH_YEAR} to {LAST_MONTH_YEAR}"
+            );
+        }
+        Form::Identifier => return wanted_name(alloc, text),
         Form::OrNobody => "a person's name, or - for nobody",
         Form::DutyLetter => "P for a duty of a pairing, or C for a fixed duty of a person",
         Form::SectorLetter => "O for an operated sector, or P for a positioning one",
-        Form::Instant => wanted_instant(text),
-        Form::Zone => wanted_zone(text),
-        Form::Amount(_) | Form::Units(_) => wanted_number(text),
-    }
+        Form::Instant => return wanted_instant(alloc, text),
+        Form::Zone => return wanted_zone(alloc, text),
+        Form::Amount(_) | Form::Units(_) => return wanted_number(alloc, text),
+    };
+    String::from_str(alloc, wanted)
 }
 
 /// What is wanted of a field that is outside its limits.

@@ -115,7 +115,7 @@ pub(crate) fn field_name(row: &Record, i: usize) -> &'static str {
     if kind == Kind::Duty && i == 3 && row.field(2) == b"C".as_slice() {
         return "PERSON";
     }
-    kind.field(i).map_or("one too many", |field| field.name)
+    kind.name(i).unwrap_or("one too many")
 }
 
 /// What is wrong with the record at the place.

@@ -53,13 +53,121 @@ pub(crate) enum Form {
     Units(u32),
 }
 
-/// A field of a kind.
+/// A field of a kind: its name in the description of the format, and its form.
+type Field = (&'static str, Form);
+
+/// What the format says of the records of a kind.
 #[derive(Clone, Copy)]
-pub(crate) struct Field {
-    /// Its name in the description of the format.
-    pub(crate) name: &'static str,
-    pub(crate) form: Form,
+struct Shape {
+    /// The word with which they begin.
+    word: &'static str,
+    /// How they are written.
+    layout: &'static str,
+    /// The fields behind the word. Of a duty the third one may also be a person.
+    fields: &'static [Field],
+    /// How many there may be; `None` if the kind has no limit of its own.
+    most: Option<usize>,
 }
+
+const PERIOD: Shape = Shape {
+    word: "period",
+    layout: "period,YYYY-MM",
+    fields: &[("YYYY-MM", Form::Month)],
+    most: Some(1),
+};
+
+const WEIGHT: Shape = Shape {
+    word: "weight",
+    layout: "weight,W",
+    fields: &[("W", Form::Amount(MOST_WEIGHT))],
+    most: Some(1),
+};
+
+const BASE: Shape = Shape {
+    word: "base",
+    layout: "base,ID,ZONE",
+    fields: &[("ID", Form::Identifier), ("ZONE", Form::Zone)],
+    most: Some(MOST_BASES),
+};
+
+const CREW: Shape = Shape {
+    word: "crew",
+    layout: "crew,ID,BASE,TARGET,YEAR,ELEVEN",
+    fields: &[
+        ("ID", Form::Identifier),
+        ("BASE", Form::Identifier),
+        ("TARGET", Form::Amount(MOST_MINUTES)),
+        ("YEAR", Form::Amount(MOST_MINUTES)),
+        ("ELEVEN", Form::Amount(MOST_MINUTES)),
+    ],
+    most: Some(MOST_PERSONS),
+};
+
+const PAIRING: Shape = Shape {
+    word: "pairing",
+    layout: "pairing,ID,BASE,PENALTY",
+    fields: &[
+        ("ID", Form::Identifier),
+        ("BASE", Form::Identifier),
+        ("PENALTY", Form::Amount(MOST_PENALTY)),
+    ],
+    most: Some(MOST_PAIRINGS),
+};
+
+const DUTY: Shape = Shape {
+    word: "duty",
+    layout: "duty,ID,P,PAIRING,STATION,REPORT,RELEASE or duty,ID,C,PERSON,STATION,REPORT,RELEASE",
+    fields: &[
+        ("ID", Form::Identifier),
+        ("P or C", Form::DutyLetter),
+        ("PAIRING", Form::Identifier),
+        ("STATION", Form::Identifier),
+        ("REPORT", Form::Instant),
+        ("RELEASE", Form::Instant),
+    ],
+    most: Some(MOST_DUTIES),
+};
+
+const SECTOR: Shape = Shape {
+    word: "sector",
+    layout: "sector,DUTY,O,OFF,ON or sector,DUTY,P,OFF,ON",
+    fields: &[
+        ("DUTY", Form::Identifier),
+        ("O or P", Form::SectorLetter),
+        ("OFF", Form::Instant),
+        ("ON", Form::Instant),
+    ],
+    most: Some(MOST_SECTORS),
+};
+
+const LEAVE: Shape = Shape {
+    word: "leave",
+    layout: "leave,PERSON,FROM,TO",
+    fields: &[
+        ("PERSON", Form::Identifier),
+        ("FROM", Form::Instant),
+        ("TO", Form::Instant),
+    ],
+    most: Some(MOST_LEAVES),
+};
+
+const COST: Shape = Shape {
+    word: "cost",
+    layout: "cost,PERSON,PAIRING,UNITS",
+    fields: &[
+        ("PERSON", Form::Identifier),
+        ("PAIRING", Form::Identifier),
+        ("UNITS", Form::Units(MOST_UNITS)),
+    ],
+    most: Some(MOST_COSTS),
+};
+
+const ASSIGN: Shape = Shape {
+    word: "assign",
+    layout: "assign,PAIRING,PERSON",
+    fields: &[("PAIRING", Form::Identifier), ("PERSON", Form::OrNobody)],
+    most: None,
+};
 
 impl Kind {
     /// All kinds that a book for a check may have, in the order in which a book is told.
@@ -76,6 +184,22 @@ impl Kind {
         Kind::Assign,
     ];
 
+    /// What the format says of it.
+    fn shape(self) -> Shape {
+        match self {
+            Kind::Period => PERIOD,
+            Kind::Weight => WEIGHT,
+            Kind::Base => BASE,
+            Kind::Crew => CREW,
+            Kind::Pairing => PAIRING,
+            Kind::Duty => DUTY,
+            Kind::Sector => SECTOR,
+            Kind::Leave => LEAVE,
+            Kind::Cost => COST,
+            Kind::Assign => ASSIGN,
+        }
+    }
+
     /// The kind that the word names.
     pub(crate) fn read(word: &[u8]) -> Option<Kind> {
         for &kind in &Kind::ALL {
@@ -88,162 +212,36 @@ impl Kind {
 
     /// The word that names the kind.
     pub fn word(self) -> &'static str {
-        match self {
-            Kind::Period => "period",
-            Kind::Weight => "weight",
-            Kind::Base => "base",
-            Kind::Crew => "crew",
-            Kind::Pairing => "pairing",
-            Kind::Duty => "duty",
-            Kind::Sector => "sector",
-            Kind::Leave => "leave",
-            Kind::Cost => "cost",
-            Kind::Assign => "assign",
-        }
+        self.shape().word
     }
 
     /// How the record of the kind is written.
     pub(crate) fn layout(self) -> &'static str {
-        match self {
-            Kind::Period => "period,YYYY-MM",
-            Kind::Weight => "weight,W",
-            Kind::Base => "base,ID,ZONE",
-            Kind::Crew => "crew,ID,BASE,TARGET,YEAR,ELEVEN",
-            Kind::Pairing => "pairing,ID,BASE,PENALTY",
-            Kind::Duty => {
-                "duty,ID,P,PAIRING,STATION,REPORT,RELEASE or duty,ID,C,PERSON,STATION,REPORT,RELEASE"
-            }
-            Kind::Sector => "sector,DUTY,O,OFF,ON or sector,DUTY,P,OFF,ON",
-            Kind::Leave => "leave,PERSON,FROM,TO",
-            Kind::Cost => "cost,PERSON,PAIRING,UNITS",
-            Kind::Assign => "assign,PAIRING,PERSON",
-        }
+        self.shape().layout
     }
 
     /// How many fields a record of the kind has, the kind counted.
     pub(crate) fn columns(self) -> usize {
-        match self {
-            Kind::Period | Kind::Weight => 2,
-            Kind::Base | Kind::Assign => 3,
-            Kind::Pairing | Kind::Leave | Kind::Cost => 4,
-            Kind::Sector => 5,
-            Kind::Crew => 6,
-            Kind::Duty => 7,
-        }
+        self.shape().fields.len().saturating_add(1)
     }
 
     /// How many records of the kind there may be; `None` if the kind has no limit of its own.
     pub fn most(self) -> Option<usize> {
-        match self {
-            Kind::Period | Kind::Weight => Some(1),
-            Kind::Base => Some(MOST_BASES),
-            Kind::Crew => Some(MOST_PERSONS),
-            Kind::Pairing => Some(MOST_PAIRINGS),
-            Kind::Duty => Some(MOST_DUTIES),
-            Kind::Sector => Some(MOST_SECTORS),
-            Kind::Leave => Some(MOST_LEAVES),
-            Kind::Cost => Some(MOST_COSTS),
-            Kind::Assign => None,
-        }
+        self.shape().most
     }
 
-    /// The field at a place from 1, if the kind has it. Of a duty the fourth field may also be a person.
-    pub(crate) fn field(self, i: usize) -> Option<Field> {
-        match self {
-            Kind::Period => field_of(i, 1, "YYYY-MM", Form::Month),
-            Kind::Weight => field_of(i, 1, "W", Form::Amount(MOST_WEIGHT)),
-            Kind::Base => base_field(i),
-            Kind::Crew => crew_field(i),
-            Kind::Pairing => pairing_field(i),
-            Kind::Duty => duty_field(i),
-            Kind::Sector => sector_field(i),
-            Kind::Leave => leave_field(i),
-            Kind::Cost => cost_field(i),
-            Kind::Assign => assign_field(i),
-        }
+    /// The field at a place from 1, if the kind has it.
+    fn field(self, i: usize) -> Option<Field> {
+        self.shape().fields.get(i.checked_sub(1)?).copied()
     }
-}
 
-fn some(name: &'static str, form: Form) -> Option<Field> {
-    Some(Field { name, form })
-}
-
-fn field_of(i: usize, place: usize, name: &'static str, form: Form) -> Option<Field> {
-    if i == place { some(name, form) } else { None }
-}
-
-fn base_field(i: usize) -> Option<Field> {
-    match i {
-        1 => some("ID", Form::Identifier),
-        2 => some("ZONE", Form::Zone),
-        _ => None,
+    /// The name of the field at a place from 1, if the kind has it.
+    pub(crate) fn name(self, i: usize) -> Option<&'static str> {
+        Some(self.field(i)?.0)
     }
-}
 
-fn crew_field(i: usize) -> Option<Field> {
-    match i {
-        1 => some("ID", Form::Identifier),
-        2 => some("BASE", Form::Identifier),
-        3 => some("TARGET", Form::Amount(MOST_MINUTES)),
-        4 => some("YEAR", Form::Amount(MOST_MINUTES)),
-        5 => some("ELEVEN", Form::Amount(MOST_MINUTES)),
-        _ => None,
-    }
-}
-
-fn pairing_field(i: usize) -> Option<Field> {
-    match i {
-        1 => some("ID", Form::Identifier),
-        2 => some("BASE", Form::Identifier),
-        3 => some("PENALTY", Form::Amount(MOST_PENALTY)),
-        _ => None,
-    }
-}
-
-fn duty_field(i: usize) -> Option<Field> {
-    match i {
-        1 => some("ID", Form::Identifier),
-        2 => some("P or C", Form::DutyLetter),
-        3 => some("PAIRING", Form::Identifier),
-        4 => some("STATION", Form::Identifier),
-        5 => some("REPORT", Form::Instant),
-        6 => some("RELEASE", Form::Instant),
-        _ => None,
-    }
-}
-
-fn sector_field(i: usize) -> Option<Field> {
-    match i {
-        1 => some("DUTY", Form::Identifier),
-        2 => some("O or P", Form::SectorLetter),
-        3 => some("OFF", Form::Instant),
-        4 => some("ON", Form::Instant),
-        _ => None,
-    }
-}
-
-fn leave_field(i: usize) -> Option<Field> {
-    match i {
-        1 => some("PERSON", Form::Identifier),
-        2 => some("FROM", Form::Instant),
-        3 => some("TO", Form::Instant),
-        _ => None,
-    }
-}
-
-fn cost_field(i: usize) -> Option<Field> {
-    match i {
-        1 => some("PERSON", Form::Identifier),
-        2 => some("PAIRING", Form::Identifier),
-        3 => some("UNITS", Form::Units(MOST_UNITS)),
-        _ => None,
-    }
-}
-
-fn assign_field(i: usize) -> Option<Field> {
-    match i {
-        1 => some("PAIRING", Form::Identifier),
-        2 => some("PERSON", Form::OrNobody),
-        _ => None,
+    /// The form of the field at a place from 1, if the kind has it.
+    pub(crate) fn form(self, i: usize) -> Option<Form> {
+        Some(self.field(i)?.1)
     }
 }

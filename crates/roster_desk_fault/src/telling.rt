@@ -1,6 +1,6 @@
 //! The faults of a book in words.
 
-use crate::codes::sentence;
+use crate::codes::{crowded_sentence, sentence};
 use crate::crowded::first_crowded;
 use crate::finding::Finding;
 use crate::judging::{First, NO_PERIOD, Told, field_name, find_faults, first_of, read};
@@ -120,7 +120,8 @@ fn push_too_many(
     at: usize,
     row: &Record,
 ) -> Result<(), AllocError> {
-    let (number, line, why) = (at.saturating_add(1), row.line(), sentence(CROWDED));
+    let (number, line) = (at.saturating_add(1), row.line());
+    let why = crowded_sentence(alloc)?;
     let head = format!(in alloc; "NOT FOR SOLVE\n  line    {line}\n  record  ")?;
     out.extend_from_slice(head.as_bytes())?;
     push_record(alloc, out, row)?;

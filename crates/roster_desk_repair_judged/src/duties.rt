@@ -5,7 +5,8 @@ ghost use Rattle.roster_problem.specs.View.{holder_of};
 ghost use Rattle.roster_desk_repair_terms.specs.Fixed as spec;
 ghost use Rattle.roster_desk_repair_terms.specs.Fixed.{kept_duties, unrowed};
 
-use roster_problem::{Duty, Holder, Sector};
+use roster_desk_same::are_same_sectors;
+use roster_problem::{Duty, Holder};
 
 /// How many of the pairings before place `p` are rostered anew.
 fn rank(fixed: &[Option<u16>], p: usize) -> usize
@@ -41,26 +42,6 @@ fn kept_holder(nobody: u16, fixed: &[Option<u16>], holder: Holder) -> Option<Hol
                 None
             }
         }
-    }
-}
-
-/// Whether two sectors are the same.
-fn is_same_sector(a: Sector, b: Sector) -> bool
-    ensures { IsTrue result → a ≡ b }
-{
-    a.operates == b.operates && a.off == b.off && a.on == b.on
-}
-
-/// Whether two duties have the same sectors.
-fn are_same_sectors(before: &[Sector], after: &[Sector]) -> bool
-    ensures { IsTrue result → after.now ≡ before.now }
-{
-    match before.split_first() {
-        None => after.is_empty(),
-        Some((a, others)) => match after.split_first() {
-            None => false,
-            Some((b, rest)) => is_same_sector(*b, *a) && are_same_sectors(others, rest),
-        },
     }
 }
 

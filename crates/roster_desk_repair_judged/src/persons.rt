@@ -3,27 +3,8 @@
 ghost use Rattle.std.specs.Prelude.{◌≡◌, ◌<◌, IsTrue, length};
 ghost use Rattle.roster_desk_repair_terms.specs.Repaired.{IsSamePerson};
 
-use roster_instants::BaseDays;
+use roster_desk_same::are_same_days;
 use roster_problem::{Base, Problem};
-
-/// Whether two bases have the same days.
-fn are_same_days(a: &BaseDays, b: &BaseDays) -> bool
-    ensures { IsTrue result → a.now ≡ b.now }
-{
-    if a.days() != b.days() || a.month_days() != b.month_days() {
-        return false;
-    }
-    let days = a.days();
-    if a.mid(days) != b.mid(days) {
-        return false;
-    }
-    for i in 0..days {
-        if a.mid(i) != b.mid(i) || a.eight(i) != b.eight(i) || a.ten(i) != b.ten(i) {
-            return false;
-        }
-    }
-    true
-}
 
 /// Whether two bases are the same.
 fn is_same_base(a: &Base, b: &Base) -> bool

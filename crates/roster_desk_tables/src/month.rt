@@ -3,9 +3,8 @@
 ghost use Rattle.std.specs.Prelude.{◌<◌, length};
 
 use jiff_core::civil::{Date, Weekday};
-use roster_instants::BaseDays;
-use roster_model::limits::DAYS_BEFORE;
 use roster_problem::{DutyList, Problem};
+use roster_restrules::busy_days;
 
 /// Days of a month.
 #[derive(Clone, Copy, PartialEq, Eq)]
@@ -18,19 +17,9 @@ pub(crate) struct MonthDays {
     pub(crate) weekends: usize,
 }
 
-/// Whether a duty of the list touches a day of the window.
-fn is_worked(days: &BaseDays, list: &DutyList<'_>, day: usize) -> bool {
-    if day >= days.days() {
-        return false;
-    }
-    let (from, to) = (days.mid(day), days.mid(day + 1));
-    for i in 0..list.len() {
-        let duty = list.duty(i);
-        if duty.report < to && from < duty.release {
-            return true;
-        }
-    }
-    false
+/// Whether the word of busy days has the day of the month, from 0.
+fn is_busy(busy: u32, i: usize) -> bool {
+    i < 32 && busy >> i & 1 == 1
 }
 
 /// Whether this day of the problem's month, from 0, is a Saturday.
@@ -48,19 +37,20 @@ pub(crate) fn month_days(problem: &Problem, list: &DutyList<'_>, k: usize) -> Mo
     requires { k < length problem.now.persons }
 {
     let days = problem.days_of(k);
+    let busy = busy_days(days, list);
     let mut month = MonthDays {
         work: 0,
         free: 0,
         weekends: 0,
     };
     for i in 0..days.month_days() {
-        if is_worked(days, list, DAYS_BEFORE + i) {
+        if is_busy(busy, i) {
             month.work = month.work.saturating_add(1);
             continue;
         }
         month.free = month.free.saturating_add(1);
         let has_next = i + 1 < days.month_days();
-        if has_next && is_saturday(problem, i) && !is_worked(days, list, DAYS_BEFORE + i + 1) {
+        if has_next && is_saturday(problem, i) && !is_busy(busy, i + 1) {
             month.weekends = month.weekends.saturating_add(1);
         }
     }

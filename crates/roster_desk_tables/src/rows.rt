@@ -4,9 +4,9 @@ ghost use Rattle.std.specs.Prelude.{◌≡◌, ◌<◌, length};
 
 use crate::writing::TableRows;
 use roster_desk_given::{Zones, duties_with, utc};
-use roster_desk_words::pairing_name;
+use roster_desk_words::{flight_of, pairing_name};
 use roster_instants::Minute;
-use roster_problem::{Duty, Holder, Problem, Sector};
+use roster_problem::{Duty, Holder, Problem};
 use std::alloc::{AllocError, Global};
 
 /// The names of the columns.
@@ -34,25 +34,7 @@ struct TableRow<'a> {
     from: Minute,
     to: Minute,
     // Minutes of operated sectors; a leave has none.
-    flight: Option<i64>,
-}
-
-/// The minutes of the sector if it is operated.
-fn flown_in(sector: Sector) -> i64 {
-    if sector.operates {
-        sector.on.get() - sector.off.get()
-    } else {
-        0
-    }
-}
-
-/// The minutes of the duty's operated sectors, in the month or not.
-fn flown(duty: &Duty) -> i64 {
-    let mut minutes = 0i64;
-    for sector in duty.sectors.iter() {
-        minutes = minutes.saturating_add(flown_in(*sector));
-    }
-    minutes
+    flight: Option<u64>,
 }
 
 /// The row of a duty.
@@ -68,16 +50,16 @@ fn duty_row<'a>(problem: &'a Problem, duty: &'a Duty) -> TableRow<'a> {
         station: duty.station.as_bytes(),
         from: duty.report,
         to: duty.release,
-        flight: Some(flown(duty)),
+        flight: Some(flight_of(duty)),
     }
 }
 
 /// The minutes of flight of the duties at these places.
-fn flown_at(problem: &Problem, positions: &[u16]) -> i64 {
-    let mut minutes = 0i64;
+fn flown_at(problem: &Problem, positions: &[u16]) -> u64 {
+    let mut minutes = 0u64;
     for position in positions {
         if let Some(duty) = problem.duties().get(usize::from(*position)) {
-            minutes = minutes.saturating_add(flown(duty));
+            minutes = minutes.saturating_add(flight_of(duty));
         }
     }
     minutes
@@ -191,8 +173,8 @@ fn push_leaves(
 ) -> Result<(), AllocError>
     requires { k < length problem.now.persons }
 {
-    for leave in problem.leaves().iter() {
-        if leave.person == k {
+    for position in problem.leave(k) {
+        if let Some(leave) = problem.leaves().get(usize::from(*position)) {
             let row = TableRow {
                 kind: b"leave",
                 name: b"",

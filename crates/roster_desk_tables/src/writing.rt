@@ -60,7 +60,8 @@ fn push_columns(
     columns: &[&[u8]],
 ) -> Result<(), AllocError>
     ensures { OnOk result (IsWhole records.old
-        → HasRow records.old records.new (columns_with names.entry (map (λ column. column.now) columns.now))) }
+        → HasRow records.old records.new
+        (columns_with names.entry (map (λ column. column.now) columns.now))) }
 {
     match names {
         Some(_) => records.copy(&row_with(alloc, columns, CALLED)?),
@@ -78,7 +79,8 @@ impl<'a> TableRows<'a> {
         ensures whole { IfOk result (λ rows. IsWhole rows.records) }
         ensures setup { IfOk result (λ rows. setup_of rows.records ≡ parted sheet.entry.look.semicolon) }
         ensures text { IfOk result (λ rows. text_of rows.records ≡ mark_of sheet.entry.look.mark
-            ++ row_text (parted sheet.entry.look.semicolon) (columns_with sheet.entry.names (map (λ column. column.now) columns.now))) }
+            ++ row_text (parted sheet.entry.look.semicolon)
+            (columns_with sheet.entry.names (map (λ column. column.now) columns.now))) }
         ensures names { IfOk result (λ rows. rows.names ≡ sheet.entry.names) }
     {
         let mut records = Records::in_look(alloc, sheet.look)?;
@@ -93,7 +95,8 @@ impl<'a> TableRows<'a> {
     /// Puts a row behind the others, with what the person is called if names are given.
     pub(crate) fn push(&mut self, cells: &[&[u8]]) -> Result<(), AllocError>
         ensures row { OnOk result (IsWhole self.old.records → HasRow self.old.records self.new.records
-            (cells_with (option_map (λ names. names.now.called.items) self.old.names) (map (λ cell. cell.now) cells.now))) }
+            (cells_with (option_map (λ names. names.now.called.items) self.old.names)
+            (map (λ cell. cell.now) cells.now))) }
         ensures names { self.new.names ≡ self.old.names }
     {
         let Some(names) = self.names else {

@@ -2,14 +2,14 @@
 
 ghost use Rattle.std.specs.Prelude.{◌≡◌, ◌<◌, length};
 
-use crate::why::{push_all_broken, push_outcome, push_told};
+use crate::teller::Teller;
 use crate::words::{pairing_name, push_all};
 use roster_desk_given::{
-    Near, Nearness, Zones, duties_with, fits_nobody, nearest, with_outcome, within, without,
+    Near, Nearness, duties_with, fits_nobody, nearest, with_outcome, within, without,
 };
 use roster_legal_reasons::Reason;
-use roster_problem::{Problem, open_number};
-use std::alloc::{AllocError, Global};
+use roster_problem::open_number;
+use std::alloc::AllocError;
 
 /// Whether the person can have the pairing.
 fn is_able(near: &Near) -> bool {
@@ -27,187 +27,136 @@ fn able(all: &[Near]) -> usize {
     able
 }
 
-/// How many of the persons can have the pairing if they give up one.
-fn able_without(
-    alloc: Global,
-    problem: &Problem,
-    places: &[u16],
-    p: usize,
-    all: &[Near],
-) -> Result<usize, AllocError>
-    requires covers { length places.now ≡ length problem.now.pairings }
-    requires pairing { p < length places.now }
-{
-    let mut able = 0usize;
-    for near in all {
+impl<'a> Teller<'a> {
+    /// How many of the persons can have the pairing if they give up one.
+    fn able_without(&self, p: usize, all: &[Near]) -> Result<usize, AllocError>
+        requires { p < length self.now.problem.pairings }
+    {
+        let mut able = 0usize;
+        for near in all {
+            let k = near.person;
+            if k < self.problem.persons().len()
+                && without(self.alloc, self.problem, self.places, p, k)?.is_some()
+            {
+                able = able.saturating_add(1);
+            }
+        }
+        Ok(able)
+    }
+
+    /// Appends what is true for everybody: nobody can fly the pairing, by its own duties.
+    fn push_within(
+        &self,
+        out: &mut Vec<u8>,
+        p: usize,
+        k: usize,
+        reason: Reason,
+    ) -> Result<(), AllocError>
+        requires pairing { p < length self.now.problem.pairings }
+        requires person { k < length self.now.problem.persons }
+    {
+        let problem = self.problem;
+        let mut bare = vec![in self.alloc; open_number(problem); problem.pairings().len()]?;
+        bare[p] = k as u16;
+        let list = duties_with(self.alloc, problem, bare.as_slice(), k)?;
+        out.extend_from_slice(b"nobody can fly it: ")?;
+        self.push_told(out, k, &list, reason)
+    }
+
+    /// Appends how many persons can have the pairing, and who is nearest, of whom there is one.
+    fn push_nearest(&self, out: &mut Vec<u8>, p: usize, all: &[Near]) -> Result<(), AllocError>
+        requires { p < length self.now.problem.pairings }
+    {
+        let count = all.len();
+        let able = able(all);
+        if able > 0 {
+            let head = format!(in self.alloc; "{able} of {count} can have it; first ")?;
+            out.extend_from_slice(head.as_bytes())?;
+        } else {
+            let others = self.able_without(p, all)?;
+            let head = format!(in self.alloc;
+                "0 of {count} can have it, {others} if they give up one pairing; nearest "
+            )?;
+            out.extend_from_slice(head.as_bytes())?;
+        }
+        match all.first() {
+            Some(near) if near.person < self.problem.persons().len() => {
+                self.push_outcome(out, p, near.person)
+            }
+            _ => Ok(()),
+        }
+    }
+
+    /// Appends what is told first of the pairing at place `p`: what is true for everybody if there is such a
+    /// thing, and else who is nearest.
+    pub fn push_summary(&self, out: &mut Vec<u8>, p: usize) -> Result<(), AllocError>
+        requires { p < length self.now.problem.pairings }
+    {
+        let all = nearest(self.alloc, self.problem, self.places, p)?;
+        if all.is_empty() {
+            return out.extend_from_slice(b"nobody is at home at its base");
+        }
+        if fits_nobody(self.alloc, self.problem, p)? {
+            if let Some((k, reason)) = within(self.alloc, self.problem, p)? {
+                return self.push_within(out, p, k, reason);
+            }
+        }
+        self.push_nearest(out, p, all.as_slice())
+    }
+
+    /// Appends the line of the person who is so near: what the roster would cost if the person had the
+    /// pairing too, or why that isn't legal, and without which pairing it would be.
+    pub fn push_near(&self, out: &mut Vec<u8>, p: usize, near: &Near) -> Result<(), AllocError>
+        requires { p < length self.now.problem.pairings }
+    {
         let k = near.person;
-        if k < problem.persons().len() && without(alloc, problem, places, p, k)?.is_some() {
-            able = able.saturating_add(1);
+        if k >= self.problem.persons().len() {
+            return Ok(());
         }
-    }
-    Ok(able)
-}
-
-/// Appends what is true for everybody: nobody can fly the pairing, by its own duties.
-fn push_within(
-    alloc: Global,
-    out: &mut Vec<u8>,
-    problem: &Problem,
-    zones: &Zones,
-    p: usize,
-    k: usize,
-    reason: Reason,
-) -> Result<(), AllocError>
-    requires pairing { p < length problem.now.pairings }
-    requires person { k < length problem.now.persons }
-{
-    let mut bare = vec![in alloc; open_number(problem); problem.pairings().len()]?;
-    bare[p] = k as u16;
-    let list = duties_with(alloc, problem, bare.as_slice(), k)?;
-    out.extend_from_slice(b"nobody can fly it: ")?;
-    push_told(alloc, out, problem, zones, k, &list, reason)
-}
-
-/// Appends how many persons can have the pairing, and who is nearest, of whom there is one.
-fn push_nearest(
-    alloc: Global,
-    out: &mut Vec<u8>,
-    problem: &Problem,
-    zones: &Zones,
-    places: &[u16],
-    p: usize,
-    all: &[Near],
-) -> Result<(), AllocError>
-    requires covers { length places.now ≡ length problem.now.pairings }
-    requires pairing { p < length problem.now.pairings }
-{
-    let count = all.len();
-    let able = able(all);
-    if able > 0 {
-        let head = format!(in alloc; "{able} of {count} can have it; first ")?;
-        out.extend_from_slice(head.as_bytes())?;
-    } else {
-        let others = able_without(alloc, problem, places, p, all)?;
-        let head = format!(in alloc;
-            "0 of {count} can have it, {others} if they give up one pairing; nearest "
-        )?;
-        out.extend_from_slice(head.as_bytes())?;
-    }
-    match all.first() {
-        Some(near) if near.person < problem.persons().len() => {
-            push_outcome(alloc, out, problem, zones, places, p, near.person)
+        self.push_pairing(out, p)?;
+        self.push_outcome(out, p, k)?;
+        if !is_able(near) {
+            if let Some(q) = without(self.alloc, self.problem, self.places, p, k)? {
+                let name = pairing_name(self.problem, q);
+                push_all(out, &[b"; can have it without ", name])?;
+            }
         }
-        _ => Ok(()),
+        out.extend_from_slice(b"\n")
     }
-}
 
-/// Appends what is told first of the pairing at place `p`: what is true for everybody if there is such a thing,
-/// and else who is nearest.
-pub fn push_summary(
-    alloc: Global,
-    out: &mut Vec<u8>,
-    problem: &Problem,
-    zones: &Zones,
-    places: &[u16],
-    p: usize,
-) -> Result<(), AllocError>
-    requires covers { length places.now ≡ length problem.now.pairings }
-    requires pairing { p < length problem.now.pairings }
-{
-    let all = nearest(alloc, problem, places, p)?;
-    if all.is_empty() {
-        return out.extend_from_slice(b"nobody is at home at its base");
+    /// Appends the line that is told first of the pairing at place `p`.
+    fn push_first(&self, out: &mut Vec<u8>, p: usize) -> Result<(), AllocError>
+        requires { p < length self.now.problem.pairings }
+    {
+        self.push_pairing(out, p)?;
+        out.extend_from_slice(b"- ")?;
+        self.push_summary(out, p)?;
+        out.extend_from_slice(b"\n")
     }
-    if fits_nobody(alloc, problem, p)? {
-        if let Some((k, reason)) = within(alloc, problem, p)? {
-            return push_within(alloc, out, problem, zones, p, k, reason);
+
+    /// Of the pairing at place `p` what is told first, and then a line for each person of its base, the
+    /// nearest first.
+    pub fn pairing_text(&self, p: usize) -> Result<Vec<u8>, AllocError>
+        requires { p < length self.now.problem.pairings }
+    {
+        let mut out = Vec::new(self.alloc);
+        self.push_first(&mut out, p)?;
+        for near in nearest(self.alloc, self.problem, self.places, p)? {
+            self.push_near(&mut out, p, &near)?;
         }
+        Ok(out)
     }
-    push_nearest(alloc, out, problem, zones, places, p, all.as_slice())
-}
 
-/// Appends the line of the person who is so near: what the roster would cost if the person had the pairing too,
-/// or why that isn't legal, and without which pairing it would be.
-pub fn push_near(
-    alloc: Global,
-    out: &mut Vec<u8>,
-    problem: &Problem,
-    zones: &Zones,
-    places: &[u16],
-    p: usize,
-    near: &Near,
-) -> Result<(), AllocError>
-    requires covers { length places.now ≡ length problem.now.pairings }
-    requires pairing { p < length problem.now.pairings }
-{
-    let k = near.person;
-    if k >= problem.persons().len() {
-        return Ok(());
-    }
-    push_all(out, &[problem.pairing(p).id.as_bytes(), b" "])?;
-    push_outcome(alloc, out, problem, zones, places, p, k)?;
-    if !is_able(near) {
-        if let Some(q) = without(alloc, problem, places, p, k)? {
-            let name = pairing_name(problem, q);
-            push_all(out, &[b"; can have it without ", name])?;
+    /// Which rule each person breaks with what they have, or is locked by, and then of each open pairing what
+    /// is told first.
+    pub fn open_text(&self) -> Result<Vec<u8>, AllocError> {
+        let mut out = Vec::new(self.alloc);
+        self.push_all_broken(&mut out, None)?;
+        for p in 0..self.places.len() {
+            if self.places[p] == open_number(self.problem) {
+                self.push_first(&mut out, p)?;
+            }
         }
+        Ok(out)
     }
-    out.extend_from_slice(b"\n")
-}
-
-/// Appends the line that is told first of the pairing at place `p`.
-fn push_first(
-    alloc: Global,
-    out: &mut Vec<u8>,
-    problem: &Problem,
-    zones: &Zones,
-    places: &[u16],
-    p: usize,
-) -> Result<(), AllocError>
-    requires covers { length places.now ≡ length problem.now.pairings }
-    requires pairing { p < length problem.now.pairings }
-{
-    push_all(out, &[problem.pairing(p).id.as_bytes(), b" - "])?;
-    push_summary(alloc, out, problem, zones, places, p)?;
-    out.extend_from_slice(b"\n")
-}
-
-/// Of the pairing at place `p` what is told first, and then a line for each person of its base, the nearest
-/// first. The places are the roster, which needn't be legal, and the zones those of the book's bases.
-pub fn pairing_text(
-    alloc: Global,
-    problem: &Problem,
-    places: &[u16],
-    zones: &Zones,
-    p: usize,
-) -> Result<Vec<u8>, AllocError>
-    requires covers { length places.now ≡ length problem.now.pairings }
-    requires pairing { p < length problem.now.pairings }
-{
-    let mut out = Vec::new(alloc);
-    push_first(alloc, &mut out, problem, zones, places, p)?;
-    for near in nearest(alloc, problem, places, p)? {
-        push_near(alloc, &mut out, problem, zones, places, p, &near)?;
-    }
-    Ok(out)
-}
-
-/// Which rule each person breaks with what they have, or is locked by, and then of each open pairing what is
-/// told first. The places are the roster, which needn't be legal, and the zones those of the book's bases.
-pub fn open_text(
-    alloc: Global,
-    problem: &Problem,
-    places: &[u16],
-    zones: &Zones,
-) -> Result<Vec<u8>, AllocError>
-    requires { length places.now ≡ length problem.now.pairings }
-{
-    let mut out = Vec::new(alloc);
-    push_all_broken(alloc, &mut out, problem, zones, places, None)?;
-    for p in 0..places.len() {
-        if places[p] == open_number(problem) {
-            push_first(alloc, &mut out, problem, zones, places, p)?;
-        }
-    }
-    Ok(out)
 }

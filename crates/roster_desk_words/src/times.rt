@@ -1,11 +1,23 @@
-//! From when to when what is told of lies.
+//! From when to when what is told of lies, and how much of it is flight.
 
 use crate::words::{duty_at, push_all};
 use roster_desk_given::Zones;
 use roster_instants::Minute;
 use roster_legal_reasons::{DutyInLeave, LongBlock, SharedDuties, ShortRest};
-use roster_problem::{DutyList, Problem};
+use roster_problem::{Duty, DutyList, Problem};
 use std::alloc::{AllocError, Global};
+
+/// The minutes of flight in the duty: those of its operated sectors, in the month or not.
+pub fn flight_of(duty: &Duty) -> u64 {
+    let mut minutes = 0u64;
+    for sector in duty.sectors.as_slice() {
+        if sector.operates {
+            let flown = sector.on.get().abs_diff(sector.off.get());
+            minutes = minutes.saturating_add(flown);
+        }
+    }
+    minutes
+}
 
 /// From one instant to another.
 #[derive(Clone, Copy)]

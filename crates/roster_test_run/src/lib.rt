@@ -4,6 +4,7 @@
 //! - `runs`: runs over memory, and how they end
 //! - `devices`: readers and writers that fail, and then go on
 //! - `faults`: the texts of faults
+//! - `lines`: command lines
 //! - `values`: the values of a book, as a caller of `roster_book` names them
 #![tactic(auto)]
 
@@ -11,6 +12,8 @@
 mod devices;
 #[cfg(test)]
 mod faults;
+#[cfg(test)]
+mod lines;
 #[cfg(test)]
 mod runs;
 #[cfg(test)]

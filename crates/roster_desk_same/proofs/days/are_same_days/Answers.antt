@@ -3,7 +3,7 @@ use Rattle.std.proofs.Common.{rules, ◌≡◌, ℕ, suc, ◌<◌, List, [], ◌
 use Rattle.std.specs.Prelude.{slice_get}
 use Rattle.std.proofs.lemmas.Bool.{cases_lt}
 use Rattle.roster_model.specs.Calendar.{Days, IsTable}
-use Rattle.roster_desk_carry_judged.proofs.clocks.are_same_days.Goals as goal
+use Rattle.roster_desk_same.proofs.days.are_same_days.Goals as goal
 
 same_list : (xs ys : List ℕ) → length xs ≡ length ys
     → ((j : ℕ) → j < length xs → slice_get xs j ≡ slice_get ys j) → xs ≡ ys

@@ -1,6 +1,6 @@
 use Rattle.std.proofs.Common.{◌≡◌, ℕ, ◌<◌}
 use Rattle.std.specs.Prelude.{slice_get}
-use Rattle.roster_desk_carry_judged.proofs.clocks.are_same_days.Given as goal
+use Rattle.roster_desk_same.proofs.days.are_same_days.Given as goal
 
 -- the days before this one are the same
 abbrev pub invariant-loop-i : goal.invariant-loop-i
