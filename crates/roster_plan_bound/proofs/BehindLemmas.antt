@@ -1,5 +1,5 @@
 -- What stands behind the pairings of a path brings no less than rows and tails say.
-use Rattle.std.proofs.Common.{◌≡◌, ℕ, ◌+◌, ◌-◌, ◌*◌, ◌<◌, ◌≤◌, true, List, [], ◌∷◌, ◌++◌, length, get_or, Some, refl, sym, ap, ◌∙◌, subst, inl, inr, arith, ℤ, pos, ◌+ℤ◌, ◌≤ℤ◌}
+use Rattle.std.proofs.Common.{◌≡◌, ℕ, zero, suc, ◌+◌, ◌-◌, ◌*◌, ◌<◌, ◌≤◌, true, List, [], ◌∷◌, ◌++◌, length, get_or, Some, refl, sym, ap, ◌∙◌, subst, inl, inr, arith, ℤ, pos, ◌+ℤ◌, ◌≤ℤ◌}
 use Rattle.std.specs.Prelude.{All, neg_ℤ, slice_get}
 use Rattle.std.proofs.lemmas.Bool.{cases_Bool, cases_eq, cases_lt}
 use Rattle.std.proofs.lemmas.Int.{ints}
@@ -7,21 +7,23 @@ use Rattle.std.proofs.lemmas.List.{append_assoc}
 use Rattle.std.proofs.lemmas.List.Elements.{All-head, All-tail, All-weaker}
 use Rattle.std.proofs.lemmas.Option.{same_Some, slice_get-get_or, slice_get_within}
 use Rattle.roster_model.specs.Costs.{total}
-use Rattle.roster_model.specs.Problem.{Problem}
-use Rattle.roster_model.specs.Rules.{is_among}
+use Rattle.roster_model.specs.Problem.{Problem, home_of}
+use Rattle.roster_model.specs.Rules.{duty_list, is_among}
 use Rattle.roster_model.proofs.CostLemmas.{total-cons, total-nil}
 use Rattle.roster_model.proofs.SetLemmas.{is_among-here, All-from_is_among, All-is_among}
 use Rattle.roster_cost.specs.Amounts.{IsWithin}
 use Rattle.roster_lines.specs.Listing.{ArePartsLegal}
 use Rattle.roster_plan_bound.specs.declared.behind.Behind.{Behind}
+use Rattle.roster_plan_bound.specs.declared.rows_behind.OwedRows.{OwedRows}
 use Rattle.roster_plan_bound.specs.declared.parts.TheConstants.{MOST_BEHIND, MOST_STEP}
 use Rattle.roster_plan_bound.specs.declared.timeline.Timeline.{Timeline}
-use Rattle.roster_plan_bound.specs.Behinds.{lowest, row_at, AreBehind, IsBase, IsFrom, IsLed, IsRowBehind, IsTailBehind}
+use Rattle.roster_plan_bound.specs.Behinds.{lowest, row_at, row_for, AreBehind, AreRowsBehind, IsBase, IsBegunBehind, IsFirstAt, IsFrom, IsLed, IsRowBehind, IsTailBehind}
 use Rattle.roster_plan_bound.specs.Chains.{value_at}
 use Rattle.roster_plan_bound.specs.Ranked.{IsRanked}
 use Rattle.roster_plan_bound.specs.Spans.{IsBegun}
-use Rattle.roster_plan_bound.specs.Timelines.{begin_of, class_of, rank_of, unrested_after, AreValued, IsPath}
+use Rattle.roster_plan_bound.specs.Timelines.{begin_of, class_of, need_behind, need_first, off_of, rank_of, unrested_after, AreValued, IsOwed, IsPath}
 use Rattle.roster_plan_bound.proofs.ChainLemmas.{is_among-more, single_among}
+use Rattle.roster_plan_bound.proofs.OffLemmas.{owed-none}
 use Rattle.roster_plan_bound.proofs.RankedLemmas.{ranked-above, ranked-rest}
 
 abbrev first_of : List ℕ → ℕ
@@ -123,38 +125,45 @@ module _ (problem : Problem) (k : ℕ) (timeline : Timeline) (values : List ℤ)
   first_more from q rest r more same far = subst (λ n. from ≤ rank n) (ap first_of same) far
 
   module _ (behind : Behind) (are : AreBehind problem k timeline values behind) where
+    abbrev no_rows : OwedRows
+    no_rows = record { none = []; one = []; two = [] }
+
     found : (q : ℕ) → q < length problem.pairings
-        → (row : List ℤ) × (slice_get behind.rows.items q ≡ Some row)
+        → (rows : OwedRows) × (slice_get behind.rows.items q ≡ Some rows)
     found q place =
-        (get_or behind.rows.items q [], slice_get-get_or behind.rows.items q [] (omega (arith, are.covers, place)))
+        (get_or behind.rows.items q no_rows, slice_get-get_or behind.rows.items q no_rows (omega (arith, are.covers, place)))
 
     -- what q brings, and its row has for a class, is no more than it and what stands behind it bring
-    reached : (before : List ℕ) (q : ℕ) (rest : List ℕ) (row : List ℤ) (class : ℕ)
-        → IsPath problem k timeline (before ++ q ∷ rest) → slice_get behind.rows.items q ≡ Some row
+    reached : (before : List ℕ) (q : ℕ) (rest : List ℕ) (rows : OwedRows) (need class : ℕ)
+        → IsPath problem k timeline (before ++ q ∷ rest) → slice_get behind.rows.items q ≡ Some rows
         → class ≤ class_of timeline q → IsBegun problem k (before ++ q ∷ rest) q (begin_of timeline class)
-        → (value_at values q +ℤ row_at row class) ≤ℤ brings (q ∷ rest)
-    reached before q rest row class is at below begun =
-        let told = (are.rows q row at).each class below before rest is begun in
+        → IsOwed problem k timeline (before ++ q ∷ rest) q need
+        → (value_at values q +ℤ row_at (row_for rows need) class) ≤ℤ brings (q ∷ rest)
+    reached before q rest rows need class is at below begun owed =
+        let told = (are.rows q rows at need).each class below before rest is begun owed in
         let sum = total-cons (value_at values) q rest in
         omega (arith, ints, told, sum)
 
     -- the row that is led to says of p what it must
-    pub led_is : (p until : ℕ) (base : ℤ) (led : List ℤ) → IsBase timeline values behind p until base
-        → until ≤ length timeline.order.items → IsLed timeline values behind p until base led
-        → IsRowBehind problem k timeline values p led
-    led_is p until base led based inside is_led = record {
-      each = λ class below before rest is begun. led_each class below before rest is begun;
+    pub led_is : (p need until : ℕ) (base : ℤ) (led : List ℤ) → IsBase timeline values behind p need until base
+        → until ≤ length timeline.order.items → IsLed timeline values behind p need until base led
+        → IsRowBehind problem k timeline values p need led
+    led_is p need until base led based inside is_led = record {
+      each = λ class below before rest is begun owed. led_each class below before rest is begun owed;
       within = is_led.within;
     }
       where
         led_each : (class : ℕ) → class ≤ class_of timeline p → (before rest : List ℕ)
             → IsPath problem k timeline (before ++ p ∷ rest)
             → IsBegun problem k (before ++ p ∷ rest) p (begin_of timeline class)
+            → IsOwed problem k timeline (before ++ p ∷ rest) p need
             → row_at led class ≤ℤ brings rest
-        led_each class below before [] is begun =
+        led_each class below before [] is begun owed =
             let none = total-nil (value_at values) in
-            omega (arith, ints, none, is_led.kept class, based.end)
-        led_each class below before (q ∷ rest) is begun =
+            let among = among_behind before p [] in
+            let may = valued.is_timeline.may_end (before ++ p ∷ []) p need is.legal (place_of (before ++ p ∷ []) p is among) among owed in
+            omega (arith, ints, none, is_led.kept class, based.end may)
+        led_each class below before (q ∷ rest) is begun owed =
             let path = before ++ p ∷ q ∷ rest in
             let there = path_from before p (q ∷ rest) is in
             let among_p = among_behind before p (q ∷ rest) in
@@ -168,24 +177,29 @@ module _ (problem : Problem) (k : ℕ) (timeline : Timeline) (values : List ℤ)
             All-head (λ r. rank p < rank r) q rest (ranked-above rank p (q ∷ rest) (ranked_behind before (p ∷ q ∷ rest) is.ranked)) in
             let low = lowest_below (longer before p) (q ∷ rest) there in
             let row = found q place_q in
+            let left = need_behind timeline p q need in
+            let still : IsOwed problem k timeline (longer before p ++ q ∷ rest) q left =
+            subst (λ l. IsOwed problem k timeline l q left) (sym (regroup before p (q ∷ rest)))
+            (valued.is_timeline.need_behind path p q need is.legal place_p place_q among_p among_q owed) in
             elim (cases_lt (rank q) until) [
               | inr far ↦
+                  let here = rank_inside q alone_q in
                   let tail = get_or behind.tails.items until (pos 0) in
                   let at = slice_get-get_or behind.tails.items until (pos 0) (omega (arith, are.longer, inside)) in
                   let told = (are.tails until tail at).each (longer before p) (q ∷ rest) there
                   (λ r more same. first_more until q rest r more same far) in
-                  omega (arith, ints, told, is_led.kept class, based.tail tail at)
+                  omega (arith, ints, told, is_led.kept class, based.tail (omega (arith, far, here)) tail at)
               | inl near ↦ elim (cases_Bool (is_among (unrested_after timeline p) q)) [
                 | inl kept ↦
                     let same = valued.is_timeline.same path p q (begin_of timeline class) is.legal place_p place_q among_p among_q kept begun in
                     let high = valued.is_timeline.class p alone_p in
                     let in_time = valued.is_timeline.in_time path q class is.legal place_q among_q (omega (arith, below, high)) same in
                     let up = valued.is_timeline.rising p q place_p kept in
-                    let more = reached (longer before p) q rest row.0 class there row.1 (omega (arith, below, up)) (subst (λ l. IsBegun problem k l q (begin_of timeline class)) (sym (regroup before p (q ∷ rest))) same) in
+                    let more = reached (longer before p) q rest row.0 left class there row.1 (omega (arith, below, up)) (subst (λ l. IsBegun problem k l q (begin_of timeline class)) (sym (regroup before p (q ∷ rest))) same) still in
                     is_led.unrested (rank q) q class row.0 (brings (q ∷ rest)) above near (valued.is_timeline.order q alone_q) kept row.1 in_time below low more
                 | inr broken ↦
                     let own = valued.is_timeline.own path q is.legal place_q among_q in
-                    let more = reached (longer before p) q rest row.0 (class_of timeline q) there row.1 (omega arith) (subst (λ l. IsBegun problem k l q (begin_of timeline (class_of timeline q))) (sym (regroup before p (q ∷ rest))) own) in
+                    let more = reached (longer before p) q rest row.0 left (class_of timeline q) there row.1 (omega arith) (subst (λ l. IsBegun problem k l q (begin_of timeline (class_of timeline q))) (sym (regroup before p (q ∷ rest))) own) still in
                     let later = valued.is_timeline.later path p q is.legal place_p place_q among_p among_q above in
                     let told = based.rested (rank q) q row.0 (brings (q ∷ rest)) above near (valued.is_timeline.order q alone_q) later broken row.1 low more in
                     omega (arith, ints, told, is_led.kept class)
@@ -194,7 +208,7 @@ module _ (problem : Problem) (k : ℕ) (timeline : Timeline) (values : List ℤ)
 
     -- what begins at a rank is the pairing that stands there, or behind it
     pub tail_is : (at p : ℕ) (tail here longer_tail : ℤ) (row : List ℤ)
-        → slice_get timeline.order.items at ≡ Some p → IsRowBehind problem k timeline values p row
+        → slice_get timeline.order.items at ≡ Some p → IsRowBehind problem k timeline values p 0 row
         → IsTailBehind problem k timeline values (at + 1) longer_tail
         → ((amount : ℤ) → lowest ≤ℤ amount
         → (value_at values p +ℤ row_at row (class_of timeline p)) ≤ℤ amount → here ≤ℤ amount)
@@ -217,8 +231,9 @@ module _ (problem : Problem) (k : ℕ) (timeline : Timeline) (values : List ℤ)
               | inl same ↦
                   let there : q ≡ p = same_Some q p (sym (valued.is_timeline.order q alone) ∙ ap (λ i. slice_get timeline.order.items i) same ∙ stands) in
                   let own = valued.is_timeline.own (before ++ q ∷ rest) q is.legal (place_of (before ++ q ∷ rest) q is among) among in
-                  let is_q = subst (λ r. IsRowBehind problem k timeline values r row) (sym there) is_row in
-                  let more = is_q.each (class_of timeline q) (omega arith) before rest is own in
+                  let is_q = subst (λ r. IsRowBehind problem k timeline values r 0 row) (sym there) is_row in
+                  let none = owed-none (home_of problem k).days (duty_list problem k (before ++ q ∷ rest)) (off_of timeline q).from in
+                  let more = is_q.each (class_of timeline q) (omega arith) before rest is own none in
                   let sum = total-cons (value_at values) q rest in
                   let brought : (value_at values q +ℤ row_at row (class_of timeline q)) ≤ℤ brings (q ∷ rest) = omega (arith, ints, more, sum) in
                   let told = led (brings (q ∷ rest)) (lowest_below before (q ∷ rest) is)
@@ -229,11 +244,28 @@ module _ (problem : Problem) (k : ℕ) (timeline : Timeline) (values : List ℤ)
                   omega (arith, ints, told, below_longer)
             ]
 
+    -- what any path brings: nothing, or what its first pairing leads to
+    pub begun_is : (begun : ℤ) → begun ≤ℤ pos 0
+        → ((s q : ℕ) → s < length timeline.order.items → slice_get timeline.order.items s ≡ Some q
+        → IsFirstAt timeline values behind q begun)
+        → IsBegunBehind problem k timeline values begun
+    begun_is begun end each [] is = let none = total-nil (value_at values) in omega (arith, ints, none, end)
+    begun_is begun end each (q ∷ rest) is =
+        let path = q ∷ rest in
+        let among = is_among-here q rest in
+        let place = place_of path q is among in
+        let alone = alone_of path q is among in
+        let row = found q place in
+        let own = valued.is_timeline.own path q is.legal place among in
+        let owed = valued.is_timeline.need_first path q is.legal place among in
+        let more = reached [] q rest row.0 (need_first timeline q) (class_of timeline q) is row.1 (omega arith) own owed in
+        each (rank q) q (rank_inside q alone) (valued.is_timeline.order q alone) row.0 (brings path) row.1 (lowest_below [] path is) more
+
   -- ---- before anything is known
 
-  pub none_known : (p : ℕ) → IsRowBehind problem k timeline values p []
-  none_known p = record {
-    each = λ class below before rest is begun. lowest_below (longer before p) rest (path_from before p rest is);
+  pub none_known : (p need : ℕ) → IsRowBehind problem k timeline values p need []
+  none_known p need = record {
+    each = λ class below before rest is begun owed. lowest_below (longer before p) rest (path_from before p rest is);
     within = λ i d inside. absurd (omega (arith, inside));
   }
 
@@ -242,6 +274,9 @@ module _ (problem : Problem) (k : ℕ) (timeline : Timeline) (values : List ℤ)
     each = λ before rest is first. lowest_below before rest is;
     within = omega arith;
   }
+
+  pub begun_none : IsBegunBehind problem k timeline values lowest
+  begun_none path is = lowest_below [] path is
 
   pub tail_end : IsTailBehind problem k timeline values (length timeline.order.items) (pos 0)
   tail_end = record {
@@ -255,3 +290,15 @@ module _ (problem : Problem) (k : ℕ) (timeline : Timeline) (values : List ℤ)
       end_each before (q ∷ rest) is first =
           let inside = rank_inside q (alone_of (before ++ q ∷ rest) q is (among_behind before q rest)) in
           absurd (omega (arith, inside, first q rest refl))
+
+-- the rows of a pairing, one by one
+pub rows_are : (problem : Problem) (k : ℕ) (timeline : Timeline) (values : List ℤ) (p : ℕ) (rows : OwedRows)
+    → IsRowBehind problem k timeline values p 0 rows.none → IsRowBehind problem k timeline values p 1 rows.one
+    → IsRowBehind problem k timeline values p 2 rows.two → AreRowsBehind problem k timeline values p rows
+rows_are problem k timeline values p rows none one two zero = none
+rows_are problem k timeline values p rows none one two (suc zero) = one
+rows_are problem k timeline values p rows none one two (suc (suc zero)) = two
+rows_are problem k timeline values p rows none one two (suc (suc (suc more))) = record {
+  each = λ class below before rest is begun owed. let few = owed.few in absurd (omega (arith, few));
+  within = two.within;
+}

@@ -7,6 +7,7 @@ pub mod GapLemmas
 pub mod UnrestedLemmas
 pub mod RankedLemmas
 pub mod SpanLemmas
+pub mod OffLemmas
 pub mod BehindLemmas
 mod TimelineLemmas
 pub mod SeekLemmas

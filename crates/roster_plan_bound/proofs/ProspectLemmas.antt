@@ -1,8 +1,8 @@
 -- What paths bring: each line is a path, and tables say what paths bring at least.
-use Rattle.std.proofs.Common.{◌≡◌, ℕ, zero, suc, ◌+◌, ◌-◌, ◌*◌, ◌<◌, ◌≤◌, true, false, ◌||◌, eqb, List, [], ◌∷◌, ◌++◌, length, get_or, sym, ap, ◌∙◌, subst, inl, inr, arith, ℤ, pos, negsuc, neg_ℤ, ◌+ℤ◌, ◌-ℤ◌, ◌*ℤ◌, ◌≤ℤ◌, ◌^◌, append_assoc, w64, to_z, of_z, FitsSigned}
+use Rattle.std.proofs.Common.{◌≡◌, ℕ, zero, suc, ◌+◌, ◌-◌, ◌*◌, ◌<◌, ◌≤◌, true, false, ◌||◌, eqb, List, [], ◌∷◌, ◌++◌, length, get_or, Some, sym, ap, ◌∙◌, subst, inl, inr, arith, ℤ, pos, negsuc, neg_ℤ, ◌+ℤ◌, ◌-ℤ◌, ◌*ℤ◌, ◌≤ℤ◌, ◌^◌, append_assoc, w64, to_z, of_z, FitsSigned}
 use Rattle.std.proofs.Math.IntN.{*ℤ-zero}
 use Rattle.std.proofs.Math.Nat.{mul-le-mul_left, mul-le-mul_right, mul-add}
-use Rattle.std.specs.Prelude.{All, slice_get, slice_index, slice_index_or, unsigned_abs, unwrap_or}
+use Rattle.std.specs.Prelude.{All, slice_get, slice_index, unsigned_abs, unwrap_or}
 use Rattle.std.specs.List.{list_any, AllByRecursion, IsDistinct}
 use Rattle.std.specs.List.Sorted.{IsStrictlyIncreasing}
 use Rattle.std.proofs.lemmas.Bool.{cases_eq, cases_lt, false≢true, ne_eqb}
@@ -22,8 +22,9 @@ use Rattle.roster_cost.specs.Amounts.{minutes_of_pairing, IsWithin}
 use Rattle.roster_lines.specs.Listing.{AreFlights, ArePartsLegal}
 use Rattle.roster_plan_bound.specs.declared.parts.TheConstants.{MOST_BEHIND, MOST_CHAIN_VALUE, MOST_LEAST, MOST_SHORT, PARTS}
 use Rattle.roster_plan_bound.specs.declared.prospect.WorthTable.{WorthTable}
+use Rattle.roster_plan_bound.specs.declared.rows_behind.OwedRows.{OwedRows}
 use Rattle.roster_plan_bound.specs.declared.timeline.Timeline.{Timeline}
-use Rattle.roster_plan_bound.specs.Behinds.{row_at}
+use Rattle.roster_plan_bound.specs.Behinds.{row_at, row_for}
 use Rattle.roster_plan_bound.specs.Chains.{value_at}
 use Rattle.roster_plan_bound.specs.Networks.{missed_at, AreValues}
 use Rattle.roster_plan_bound.specs.Prospects.{flight_along, gain_of, short_of, term_of, AreWorth, IsAhead, IsLeastPath, IsTable}
@@ -215,46 +216,44 @@ table_below problem k timeline units table is path inside =
     let below = worth_below table.worth (PARTS * weight_of problem) fixed (target_of problem k) flight is.weighed in
     omega (arith, ints, brought, below, is.fixed, missed_is problem k (fixed + flight))
 
-pub tails_within : (problem : Problem) (k : ℕ) (timeline : Timeline) (units : List ℤ) (table : WorthTable)
-    → IsTable problem k timeline units table → All (IsWithin MOST_BEHIND) table.behind.tails.items
-tails_within problem k timeline units table is i d inside =
-    (is.behind.tails i (get_or table.behind.tails.items i d) (slice_get-get_or table.behind.tails.items i d inside)).within
-
 pub rows_within : (problem : Problem) (k : ℕ) (timeline : Timeline) (units : List ℤ) (table : WorthTable)
-    → IsTable problem k timeline units table → All (All (IsWithin MOST_BEHIND)) table.behind.rows.items
-rows_within problem k timeline units table is i d inside =
-    (is.behind.rows i (get_or table.behind.rows.items i d) (slice_get-get_or table.behind.rows.items i d inside)).within
+    → IsTable problem k timeline units table → (need : ℕ)
+    → All (λ rows. All (IsWithin MOST_BEHIND) (row_for rows need)) table.behind.rows.items
+rows_within problem k timeline units table is need i d inside =
+    (is.behind.rows i (get_or table.behind.rows.items i d) (slice_get-get_or table.behind.rows.items i d inside) need).within
 
 All_front : (P : ℕ → Type 0) (front back : List ℕ) → All P (front ++ back) → All P front
 All_front P front back all =
     All-from_is_among P front
     (λ p h. All-is_among P (front ++ back) p all (is_among-append front back p ∙ ap (λ b. b || is_among back p) h))
 
--- what the first tail says of each path
+-- what a table says of each path
 pub begun_below : (problem : Problem) (k : ℕ) (timeline : Timeline) (units : List ℤ) (table : WorthTable)
-    (amount : ℤ) → IsTable problem k timeline units table
-    → amount ≡ value_at table.behind.tails.items 0 +ℤ table.fixed
+    (amount : ℤ) → IsTable problem k timeline units table → amount ≡ table.behind.begun +ℤ table.fixed
     → IsLeastPath problem k timeline units amount
 begun_below problem k timeline units table amount is told path of =
-    let some : 0 < length table.behind.tails.items = omega (arith, is.behind.longer) in
-    let tail = is.behind.tails 0 (value_at table.behind.tails.items 0) (slice_get-get_or table.behind.tails.items 0 (pos 0) some) in
-    let behind = tail.each [] path of (λ q rest e. omega arith) in
+    let behind = is.behind.begun path of in
     let below = table_below problem k timeline units table is path of.places in
     omega (arith, ints, told, behind, below)
 
+abbrev no_rows : OwedRows
+no_rows = record { none = []; one = []; two = [] }
+
 -- and a row of what is ahead
 pub ahead_below : (problem : Problem) (k : ℕ) (timeline : Timeline) (units : List ℤ) (table : WorthTable)
-    (value : ℤ) (flight q class : ℕ) (amount : ℤ) → IsTable problem k timeline units table
+    (value : ℤ) (flight q class need : ℕ) (amount : ℤ) → IsTable problem k timeline units table
     → q < length problem.pairings
-    → amount ≡ value +ℤ (table.worth *ℤ pos flight) +ℤ table.fixed +ℤ row_at (slice_index_or table.behind.rows.items q []) class
-    → IsAhead problem k timeline units value flight q class amount
-ahead_below problem k timeline units table value flight q class amount is place told before rest of begun low brought flown =
+    → ((rows : OwedRows) → slice_get table.behind.rows.items q ≡ Some rows
+    → amount ≡ value +ℤ (table.worth *ℤ pos flight) +ℤ table.fixed +ℤ row_at (row_for rows need) class)
+    → IsAhead problem k timeline units value flight q class need amount
+ahead_below problem k timeline units table value flight q class need amount is place tells before rest of begun low owed brought flown =
     let front : List ℕ = before ++ q ∷ [] in
     let whole : List ℕ = before ++ q ∷ rest in
     let joined : front ++ rest ≡ whole = append_assoc before (q ∷ []) rest in
-    let row : List ℤ = slice_index_or table.behind.rows.items q [] in
-    let known = is.behind.rows q row (slice_get-get_or table.behind.rows.items q [] (omega (arith, is.behind.covers, place))) in
-    let behind = known.each class low before rest of begun in
+    let rows : OwedRows = get_or table.behind.rows.items q no_rows in
+    let at = slice_get-get_or table.behind.rows.items q no_rows (omega (arith, is.behind.covers, place)) in
+    let behind = (is.behind.rows q rows at need).each class low before rest of begun owed in
+    let told = tells rows at in
     let inside : All (λ p. p < length problem.pairings) (front ++ rest) =
     subst (All (λ p. p < length problem.pairings)) (sym joined) of.places in
     let first = total_worth problem k units is.values table.worth is.worths front (All_front (λ p. p < length problem.pairings) front rest inside) in

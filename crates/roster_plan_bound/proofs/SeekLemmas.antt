@@ -26,9 +26,9 @@ use Rattle.roster_plan_bound.specs.declared.seek.Spot.{Spot}
 use Rattle.roster_plan_bound.specs.Chains.{value_at}
 use Rattle.roster_plan_bound.specs.Prospects.{flight_along, term_of, IsAhead, IsLeastPath, Outlook}
 use Rattle.roster_plan_bound.specs.Ranked.{IsRanked}
-use Rattle.roster_plan_bound.specs.Seeks.{gain, EndsAt, IsClassWith, IsEndWith, IsLeastBelow, IsLeastFrom, IsLeastWith, IsNextSpot, IsOnward, IsSpot, IsStart, LeadsTo}
+use Rattle.roster_plan_bound.specs.Seeks.{gain, EndsAt, IsClassWith, IsEndWith, IsLeastBelow, IsLeastFrom, IsLeastWith, IsNeedWith, IsNextSpot, IsOnward, IsSpot, IsStart, LeadsTo}
 use Rattle.roster_plan_bound.specs.Spans.{IsBegun}
-use Rattle.roster_plan_bound.specs.Timelines.{begin_of, class_of, later_than, low_of, rank_of, IsPath, IsTimeline}
+use Rattle.roster_plan_bound.specs.Timelines.{begin_of, class_of, later_than, low_of, rank_of, IsOwed, IsPath, IsTimeline}
 use Rattle.roster_plan_bound.proofs.RankedLemmas.{ranked-above, ranked-rest}
 
 -- ---- lists
@@ -230,6 +230,28 @@ module _ (outlook : Outlook) where
               (subst (λ c. IsBegun outlook.problem outlook.person path q (begin_of outlook.timeline c)) (sym same) begun, omega (arith, same))
         ]
 
+    owed-with : (spot : Spot) (need q : ℕ) (before rest : List ℕ) → IsStart outlook spot before (q ∷ rest)
+        → IsNeedWith outlook.timeline spot q need
+        → IsOwed outlook.problem outlook.person outlook.timeline (before ++ q ∷ rest) q need
+    owed-with spot need q before rest start with =
+        let path : List ℕ = before ++ q ∷ rest in
+        let here : is_among path q ≡ true = among-middle before q rest in
+        let inside : q < length outlook.problem.pairings =
+        All-is_among (λ p. p < length outlook.problem.pairings) path q start.path.places here in
+        elim with [
+          | inl old ↦
+              let ends = start.ends old.0 old.1 in
+              let before_it : is_among before old.0 ≡ true = subst (λ xs. is_among xs old.0 ≡ true) (sym ends.is) (among-middle ends.front old.0 []) in
+              let there : is_among path old.0 ≡ true = among_front before (q ∷ rest) old.0 before_it in
+              let last_inside : old.0 < length outlook.problem.pairings =
+              All-is_among (λ p. p < length outlook.problem.pairings) path old.0 start.path.places there in
+              let owed = timed.need_behind path old.0 q spot.end.need start.path.legal last_inside inside there here ends.owed in
+              subst (IsOwed outlook.problem outlook.person outlook.timeline path q) (sym old.2) owed
+          | inr first ↦
+              subst (IsOwed outlook.problem outlook.person outlook.timeline path q) (sym first)
+              (timed.need_first path q start.path.legal inside here)
+        ]
+
     -- the spot with a pairing behind, at that end, and its set and what may stand behind
     abbrev spot-behind : Spot → ℕ → End → List ℕ → List ℕ → Spot
     spot-behind spot q end set may = record { set = set; last = Some q; end = end; may = may; room = spot.room - 1 }
@@ -249,17 +271,19 @@ module _ (outlook : Outlook) where
         let inside : q < length outlook.problem.pairings =
         All-is_among (λ p. p < length outlook.problem.pairings) path q start.path.places here in
         let ending = begun-with spot end.class q before rest start is.ended.class in
+        let owed = owed-with spot end.need q before rest start is.ended.need in
         record {
           path = subst (IsPath outlook.problem outlook.person outlook.timeline) (sym joined) start.path;
           members = λ p.
               among-with before q p ∙ ap (λ b. b || eqb q p) (start.members p) ∙ sym (is.members p);
           ends = λ last same.
-              subst (EndsAt outlook end.class (before ++ q ∷ []) rest) (same_Some q last same)
+              subst (EndsAt outlook end.class end.need (before ++ q ∷ []) rest) (same_Some q last same)
               (record {
                 front = before;
                 is = refl;
                 begun = subst (λ xs. IsBegun outlook.problem outlook.person xs q (begin_of outlook.timeline end.class)) (sym joined) ending.0;
                 early = ending.1;
+                owed = subst (λ xs. IsOwed outlook.problem outlook.person outlook.timeline xs q end.need) (sym joined) owed;
               });
           value = value-with spot q end before is.ended start.value;
           flight = flight-with spot q end before is.ended start.flight;
@@ -308,7 +332,7 @@ module _ (outlook : Outlook) where
 
       -- each path begins with nothing
       pub least-of-all : (set may : List ℕ) (room : ℕ) (least : ℤ) → set ≡ [] → may ≡ outlook.timeline.alone
-          → IsLeastFrom outlook (record { set = set; last = None; end = record { class = 0; value = pos 0; flight = 0 }; may = may; room = room }) least
+          → IsLeastFrom outlook (record { set = set; last = None; end = record { class = 0; value = pos 0; flight = 0; need = 0 }; may = may; room = room }) least
           → IsLeastPath outlook.problem outlook.person outlook.timeline outlook.units least
       least-of-all set may room least empty alone all path is =
           all [] path (record {
@@ -346,11 +370,12 @@ module _ (outlook : Outlook) where
 
     -- what brings no less
     pub ahead-of : (spot : Spot) (q : ℕ) (end : End) (least ahead : ℤ) → IsEndWith outlook spot q end
-        → IsAhead outlook.problem outlook.person outlook.timeline outlook.units end.value end.flight q end.class ahead
+        → IsAhead outlook.problem outlook.person outlook.timeline outlook.units end.value end.flight q end.class end.need ahead
         → least ≤ℤ ahead → IsLeastWith outlook spot q least
     ahead-of spot q end least ahead is tells more before rest start =
         let ending = begun-with spot end.class q before rest start is.class in
+        let owed = owed-with spot end.need q before rest start is.need in
         let told =
-        tells before rest start.path ending.0 ending.1 (value-with spot q end before is start.value)
+        tells before rest start.path ending.0 ending.1 owed (value-with spot q end before is start.value)
         (flight-with spot q end before is start.flight) in
         omega (arith, ints, told, more)

@@ -64,19 +64,19 @@ module _ (problem : Problem) (k : ℕ) (set : List ℕ) (ordered : IsInOrder pro
   list = duty_list problem k set
 
   -- a set with a pairing keeps each rule
-  holds : (p : ℕ) → is_among set p ≡ true → (rule : Rule) → Holds problem k set rule
+  pub holds : (p : ℕ) → is_among set p ≡ true → (rule : Rule) → Holds problem k set rule
   holds p has rule =
       elim legal [
         | inl empty ↦ absurd (false≢true (subst (λ s. is_among s p ≡ true) empty has))
         | inr each ↦ each rule
       ]
 
-  list_timed : AreTimed list
+  pub list_timed : AreTimed list
   list_timed =
       All-filter (λ duty. is_listed k set duty.holder) (λ d. d.report < d.release) problem.duties timed
 
   -- the duties of its pairings are on the list
-  on_list : (p i : ℕ) (d : Duty) → is_among set p ≡ true → slice_get (own_duties problem p) i ≡ Some d
+  pub on_list : (p i : ℕ) (d : Duty) → is_among set p ≡ true → slice_get (own_duties problem p) i ≡ Some d
       → (j : ℕ) × (slice_get list j ≡ Some d)
   on_list p i d has at =
       stays_on (is_of_pairing p) (λ duty. is_listed k set duty.holder)

@@ -1,26 +1,31 @@
 -- How a timeline is made.
-use Rattle.std.proofs.Common.{◌≡◌, ℕ, ◌<◌, ◌≤◌, true, List, [], ◌∷◌, length, get_or, Some, sym, ap, ◌∙◌, subst, inl, inr, arith}
+use Rattle.std.proofs.Common.{◌≡◌, ℕ, ◌-◌, ◌<◌, ◌≤◌, true, List, [], ◌∷◌, length, get_or, Some, sym, ap, ◌∙◌, subst, inl, inr, arith}
 use Rattle.std.specs.Prelude.{◌↔◌, slice_get}
-use Rattle.std.proofs.lemmas.Bool.{cases_eq, cases_lt}
+use Rattle.std.proofs.lemmas.Bool.{cases_eq, cases_lt, false≢true}
 use Rattle.std.proofs.lemmas.Option.{slice_get-get_or, slice_get_cases}
 use Rattle.roster_model.specs.Calendar.{month_start}
 use Rattle.roster_model.specs.Problem.{Problem, home_of}
-use Rattle.roster_model.specs.Rules.{is_among, IsLegal}
+use Rattle.roster_model.specs.Rules.{duty_list, is_among, DaysOffRule, IsLegal}
 use Rattle.roster_problem.specs.Duties.{AreTimed, IsInOrder}
 use Rattle.roster_lines.specs.declared.pairs.Pairs.{Pairs}
 use Rattle.roster_lines.specs.Listing.{AreFlights, ArePairs, ArePartsLegal}
+use Rattle.roster_plan_bound.specs.declared.days_off.DaysOff.{DaysOff}
 use Rattle.roster_plan_bound.specs.declared.span.Span.{Span}
 use Rattle.roster_plan_bound.specs.declared.timeline.Timeline.{Timeline}
+use Rattle.roster_plan_bound.specs.DaysOffs.{pairs_by, HasPairsFrom, IsOffFrom, IsSoonest}
 use Rattle.roster_plan_bound.specs.Spans.{IsBegun}
-use Rattle.roster_plan_bound.specs.Drafts.{AreListed, AreSpans, IsDraft, IsNext, IsWhole}
-use Rattle.roster_plan_bound.specs.Timelines.{begin_of, class_of, later_than, low_of, rank_of, unrested_after, IsTimeline}
+use Rattle.roster_plan_bound.specs.Drafts.{AreListed, AreOffs, AreSpans, IsDraft, IsNext, IsWhole}
+use Rattle.roster_plan_bound.specs.Timelines.{begin_of, class_of, later_than, low_of, need_behind, need_first, off_of, rank_of, unrested_after, IsOwed, IsTimeline, MayEnd}
 use Rattle.roster_plan_bound.proofs.ChainLemmas.{pair_among, single_among}
-use Rattle.roster_plan_bound.proofs.SpanLemmas.{begun-ends, begun-next, begun-own}
+use Rattle.roster_plan_bound.proofs.SpanLemmas.{begun-ends, begun-next, begun-own, holds, list_timed, on_list}
+use Rattle.roster_plan_bound.proofs.OffLemmas.{owed-first, owed-last, owed-next}
 
 module _ (problem : Problem) (k : ℕ) (pairs : Pairs) (spans : List Span) (timeline : Timeline)
     (ordered : IsInOrder problem.duties) (timed : AreTimed problem.duties) (parts : ArePartsLegal problem k)
     (are : ArePairs problem k pairs) (spanned : AreSpans problem spans)
-    (draft : IsDraft pairs spans (month_start (home_of problem k).days) timeline)
+    (offs : List DaysOff) (start : DaysOff) (are_offs : AreOffs problem k spans offs)
+    (is_start : IsOffFrom problem k [] 0 start)
+    (draft : IsDraft pairs spans offs start (month_start (home_of problem k).days) timeline)
     (whole : IsWhole timeline spans) where
   abbrev SpanAt : ℕ → Type 0
   SpanAt p = (span : Span) × (slice_get spans p ≡ Some span)
@@ -110,6 +115,54 @@ module _ (problem : Problem) (k : ℕ) (pairs : Pairs) (spans : List Span) (time
       (omega (arith, inside, draft.begins))
       (begun-ends problem k set ordered timed legal q (begin_of timeline class) span.0 has (spanned.each q span.0 span.1) begun)
 
+  -- ---- days off
+
+  off_at : (p : ℕ) → p < length problem.pairings → slice_get offs p ≡ Some (off_of timeline p)
+  off_at p inside =
+      let there : p < length offs = omega (arith, inside, are_offs.covers, spanned.covers) in
+      subst (λ xs. slice_get offs p ≡ Some (get_or xs p timeline.start)) (sym draft.are_offs) (slice_get-get_or offs p timeline.start there)
+
+  -- no pair off is over sooner in a set with the pairing
+  soonest : (set : List ℕ) (p : ℕ) → p < length problem.pairings → is_among set p ≡ true
+      → IsSoonest (home_of problem k).days (duty_list problem k set) (off_of timeline p)
+  soonest set p inside has =
+      let span = span_at p inside in
+      (are_offs.each p (off_of timeline p) (off_at p inside) span.0 span.1).soonest set (single_among set p has)
+
+  -- from one pairing of a set to another
+  owed : (set : List ℕ) (off : DaysOff) (q need : ℕ) → IsLegal problem k set → q < length problem.pairings
+      → is_among set q ≡ true → IsSoonest (home_of problem k).days (duty_list problem k set) off
+      → HasPairsFrom (home_of problem k).days (duty_list problem k set) off.from need
+      → IsOwed problem k timeline set q (need - pairs_by off (off_of timeline q).from)
+  owed set off q need legal inside has soon was =
+      let span = span_at q inside in
+      let is = spanned.each q span.0 span.1 in
+      let on = on_list problem k set ordered timed legal q 0 is.first has is.begins in
+      let reports = (are_offs.each q (off_of timeline q) (off_at q inside) span.0 span.1).begins ∙ is.report in
+      owed-next (home_of problem k).days (duty_list problem k set) off soon (off_of timeline q).from need on.0
+      is.first (list_timed problem k set ordered timed legal) on.1 reports was
+
+  first : (set : List ℕ) (q : ℕ) → IsLegal problem k set → q < length problem.pairings → is_among set q ≡ true
+      → IsOwed problem k timeline set q (need_first timeline q)
+  first set q legal inside has =
+      let days = (home_of problem k).days in
+      let soon : IsSoonest days (duty_list problem k set) timeline.start =
+      subst (IsSoonest days (duty_list problem k set)) (sym draft.is_start) (is_start.soonest set (λ r none. absurd (false≢true none))) in
+      let zero : timeline.start.from ≡ 0 = ap (λ (off : DaysOff). off.from) draft.is_start ∙ is_start.begins in
+      owed set timeline.start q 2 legal inside has soon
+      (owed-first days (duty_list problem k set) timeline.start.from zero (holds problem k set ordered timed legal q has DaysOffRule))
+
+  behind : (set : List ℕ) (p q need : ℕ) → IsLegal problem k set → p < length problem.pairings
+      → q < length problem.pairings → is_among set p ≡ true → is_among set q ≡ true
+      → IsOwed problem k timeline set p need → IsOwed problem k timeline set q (need_behind timeline p q need)
+  behind set p q need legal in_p in_q has_p has_q was =
+      owed set (off_of timeline p) q need legal in_q has_q (soonest set p in_p has_p) was
+
+  last : (set : List ℕ) (p need : ℕ) → IsLegal problem k set → p < length problem.pairings
+      → is_among set p ≡ true → IsOwed problem k timeline set p need → MayEnd timeline p need
+  last set p need legal inside has was =
+      owed-last (home_of problem k).days (duty_list problem k set) (off_of timeline p) (soonest set p inside has) need was
+
   pub drafted : IsTimeline problem k timeline
   drafted = record {
     covers = record {
@@ -118,7 +171,7 @@ module _ (problem : Problem) (k : ℕ) (pairs : Pairs) (spans : List Span) (time
       unrested = draft.long_unrested ∙ spanned.covers;
       classes = draft.classes ∙ spanned.covers;
       lows = draft.long_lows ∙ spanned.covers;
-      far = draft.far ∙ spanned.covers;
+      offs = ap length draft.are_offs ∙ are_offs.covers ∙ spanned.covers;
       begins = draft.begins;
     };
     alone = λ p. subst (λ s. (is_among s p ≡ true) ↔ ((p < length problem.pairings) × IsLegal problem k (p ∷ []))) (sym draft.alone) (are.alone p);
@@ -131,6 +184,9 @@ module _ (problem : Problem) (k : ℕ) (pairs : Pairs) (spans : List Span) (time
     same = goes;
     rising = λ p q in_p has. (next_to p q in_p has).rising;
     in_time = ends;
+    need_first = first;
+    need_behind = behind;
+    may_end = last;
     flights = subst (AreFlights problem k) (sym draft.flights) are.flights;
     few = whole.few;
   }

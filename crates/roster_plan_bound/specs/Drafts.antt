@@ -1,13 +1,15 @@
 -- How a timeline is made: each table by itself, and what is asked of all of them at the end.
-use Rattle.std.specs.Prelude.{◌≡◌, ℕ, ◌+◌, ◌<◌, ◌≤◌, ◌⊎◌, List, [], length, slice_get, slice_index, slice_index_or, true, Some, All}
+use Rattle.std.specs.Prelude.{◌≡◌, ℕ, ◌+◌, ◌<◌, ◌≤◌, ◌⊎◌, List, [], ◌∷◌, length, slice_get, slice_index, slice_index_or, true, Some, All}
 use Rattle.roster_model.specs.declared.limits.TheConstants.{MOST_PAIRINGS}
 use Rattle.roster_model.specs.declared.profile.TheConstants.{BETWEEN_RECURRENT_RESTS}
 use Rattle.roster_model.specs.Problem.{Problem}
 use Rattle.roster_model.specs.Rules.{is_among}
 use Rattle.roster_lines.specs.declared.pairs.Pairs.{Pairs}
 use Rattle.roster_plan_bound.specs.declared.parts.TheConstants.{MOST_FLIGHT}
+use Rattle.roster_plan_bound.specs.declared.days_off.DaysOff.{DaysOff}
 use Rattle.roster_plan_bound.specs.declared.span.Span.{Span}
 use Rattle.roster_plan_bound.specs.declared.timeline.Timeline.{Timeline}
+use Rattle.roster_plan_bound.specs.DaysOffs.{IsOffFrom}
 use Rattle.roster_plan_bound.specs.Spans.{GoesOn, IsSpan}
 use Rattle.roster_plan_bound.specs.Timelines.{begin_of, class_of, rank_of}
 
@@ -15,6 +17,12 @@ use Rattle.roster_plan_bound.specs.Timelines.{begin_of, class_of, rank_of}
 pub record AreSpans (problem : Problem) (spans : List Span) : Type 0 where
   pub covers : length spans ≡ length problem.pairings
   pub each : (p : ℕ) (span : Span) → slice_get spans p ≡ Some span → IsSpan problem p span
+
+-- by when there may be days off behind each pairing, from its span's report on
+pub record AreOffs (problem : Problem) (k : ℕ) (spans : List Span) (offs : List DaysOff) : Type 0 where
+  pub covers : length offs ≡ length spans
+  pub each : (p : ℕ) (off : DaysOff) → slice_get offs p ≡ Some off
+      → (span : Span) → slice_get spans p ≡ Some span → IsOffFrom problem k (p ∷ []) span.report off
 
 -- one of two pairings is in the row of the other
 abbrev pub AreListed : List (List ℕ) → ℕ → ℕ → Type 0
@@ -50,8 +58,9 @@ IsLow begins month_start span low =
     → (month_start < span.release → span.release ≤ slice_index begins class + BETWEEN_RECURRENT_RESTS)
     → low ≤ class
 
--- The tables of a timeline, made from pairs and spans.
-pub record IsDraft (pairs : Pairs) (spans : List Span) (month_start : ℕ) (timeline : Timeline) : Type 0 where
+-- The tables of a timeline, made from pairs, spans and days off.
+pub record IsDraft (pairs : Pairs) (spans : List Span) (offs : List DaysOff) (start : DaysOff)
+    (month_start : ℕ) (timeline : Timeline) : Type 0 where
   pub alone : timeline.alone ≡ pairs.alone
   pub places : All (λ p. p < length spans) timeline.order.items
   pub ranks : length timeline.ranks.items ≡ length spans
@@ -66,7 +75,8 @@ pub record IsDraft (pairs : Pairs) (spans : List Span) (month_start : ℕ) (time
   pub long_unrested : length timeline.unrested.items ≡ length spans
   pub unrested : (p : ℕ) (row : List ℕ) → slice_get timeline.unrested.items p ≡ Some row
       → IsUnrestedRow spans timeline.classes.items p row
-  pub far : length timeline.far.items ≡ length spans
+  pub are_offs : timeline.offs.items ≡ offs
+  pub is_start : timeline.start ≡ start
   pub flights : timeline.flights.items ≡ pairs.flights.items
 
 -- pairing p stands at its rank, and its class is the begin of its span

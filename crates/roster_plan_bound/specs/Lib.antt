@@ -6,6 +6,7 @@ pub mod Gaps
 pub mod Unrested
 pub mod Ranked
 pub mod Spans
+pub mod DaysOffs
 pub mod Timelines
 pub mod Behinds
 pub mod Prospects

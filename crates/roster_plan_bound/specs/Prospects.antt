@@ -12,7 +12,7 @@ use Rattle.roster_plan_bound.specs.Chains.{value_at}
 use Rattle.roster_plan_bound.specs.Networks.{missed_at, AreValues}
 use Rattle.roster_plan_bound.specs.Reduced.{ArePrices}
 use Rattle.roster_plan_bound.specs.Spans.{IsBegun}
-use Rattle.roster_plan_bound.specs.Timelines.{begin_of, class_of, AreValued, IsPath, IsTimeline}
+use Rattle.roster_plan_bound.specs.Timelines.{begin_of, class_of, AreValued, IsOwed, IsPath, IsTimeline}
 
 -- the minutes of flight of a path's pairings
 abbrev pub flight_along : Problem → ℕ → List ℕ → ℕ
@@ -69,12 +69,14 @@ pub record IsProspect (problem : Problem) (k : ℕ) (timeline : Timeline) (price
   pub small : IsWithin MOST_SHORT short
 
 -- What begins with some path that ends with pairing q brings no less, if the path has that value and flight,
--- and since the instant of the class no recurrent rest lies before its end.
-abbrev pub IsAhead : Problem → ℕ → Timeline → List ℤ → ℤ → ℕ → ℕ → ℕ → ℤ → Type 0
-IsAhead problem k timeline units value flight q class least =
+-- since the instant of the class no recurrent rest lies before its end, and so many pairs of days off still
+-- have to come from the begin of q on.
+abbrev pub IsAhead : Problem → ℕ → Timeline → List ℤ → ℤ → ℕ → ℕ → ℕ → ℕ → ℤ → Type 0
+IsAhead problem k timeline units value flight q class need least =
     (before rest : List ℕ) → IsPath problem k timeline (before ++ q ∷ rest)
     → IsBegun problem k (before ++ q ∷ rest) q (begin_of timeline class)
     → class ≤ class_of timeline q
+    → IsOwed problem k timeline (before ++ q ∷ rest) q need
     → value ≡ total (value_at units) (before ++ q ∷ [])
     → flight ≡ flight_along problem k (before ++ q ∷ [])
     → least ≤ℤ gain_of problem k units (before ++ q ∷ rest)

@@ -11,25 +11,26 @@ use Rattle.roster_plan_bound.specs.declared.timeline.Timeline.{Timeline}
 use Rattle.roster_plan_bound.specs.Chains.{value_at}
 use Rattle.roster_plan_bound.specs.Prospects.{flight_along, gain_of, Outlook}
 use Rattle.roster_plan_bound.specs.Spans.{IsBegun}
-use Rattle.roster_plan_bound.specs.Timelines.{begin_of, class_of, unrested_after, IsPath}
+use Rattle.roster_plan_bound.specs.Timelines.{begin_of, class_of, need_behind, need_first, unrested_after, IsOwed, IsPath}
 
 -- what a path brings
 abbrev pub gain : Outlook → List ℕ → ℤ
 gain outlook path = gain_of outlook.problem outlook.person outlook.units path
 
 -- The path begins with pairings of which this is the last one; since the instant of the class no recurrent
--- rest lies before its end.
-pub record EndsAt (outlook : Outlook) (class : ℕ) (before rest : List ℕ) (last : ℕ) : Type 0 where
+-- rest lies before its end, and from its begin on so many pairs of days off still have to come.
+pub record EndsAt (outlook : Outlook) (class need : ℕ) (before rest : List ℕ) (last : ℕ) : Type 0 where
   pub front : List ℕ
   pub is : before ≡ front ++ last ∷ []
   pub begun : IsBegun outlook.problem outlook.person (before ++ rest) last (begin_of outlook.timeline class)
   pub early : class ≤ class_of outlook.timeline last
+  pub owed : IsOwed outlook.problem outlook.person outlook.timeline (before ++ rest) last need
 
 -- a path begins with what the spot stands for, and goes on with what may stand behind it
 pub record IsStart (outlook : Outlook) (spot : Spot) (before rest : List ℕ) : Type 0 where
   pub path : IsPath outlook.problem outlook.person outlook.timeline (before ++ rest)
   pub members : (p : ℕ) → is_among before p ≡ is_among spot.set p
-  pub ends : (last : ℕ) → spot.last ≡ Some last → EndsAt outlook spot.end.class before rest last
+  pub ends : (last : ℕ) → spot.last ≡ Some last → EndsAt outlook spot.end.class spot.end.need before rest last
   pub value : spot.end.value ≡ total (value_at outlook.units) before
   pub flight : spot.end.flight ≡ flight_along outlook.problem outlook.person before
   pub may : (p : ℕ) → is_among rest p ≡ true → is_among spot.may p ≡ true
@@ -69,6 +70,12 @@ IsClassWith timeline spot q class =
     × (class ≡ spot.end.class))
     ⊎ (class ≡ class_of timeline q)
 
+-- how many pairs of days off still have to come from pairing q on, behind the last one or as the first
+abbrev pub IsNeedWith : Timeline → Spot → ℕ → ℕ → Type 0
+IsNeedWith timeline spot q need =
+    ((last : ℕ) × (spot.last ≡ Some last) × (need ≡ need_behind timeline last q spot.end.need))
+    ⊎ (need ≡ need_first timeline q)
+
 -- the end with pairing q behind the last one
 pub record IsEndWith (outlook : Outlook) (spot : Spot) (q : ℕ) (end : End) : Type 0 where
   pub class : IsClassWith outlook.timeline spot q end.class
@@ -76,6 +83,7 @@ pub record IsEndWith (outlook : Outlook) (spot : Spot) (q : ℕ) (end : End) : T
   pub small : IsWithin MOST_CHAIN_VALUE (value_at outlook.units q)
   pub flight : end.flight ≡ spot.end.flight + minutes_of_pairing outlook.problem outlook.person q
   pub few : minutes_of_pairing outlook.problem outlook.person q ≤ MOST_FLIGHT
+  pub need : IsNeedWith outlook.timeline spot q end.need
 
 -- each path that begins with the spot, and goes on with pairing q, begins with the next spot
 abbrev pub LeadsTo : Outlook → Spot → ℕ → Spot → Type 0

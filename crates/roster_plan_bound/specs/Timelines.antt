@@ -1,12 +1,14 @@
 -- The pairings of a person in order of time.
-use Rattle.std.specs.Prelude.{◌≡◌, ℕ, ◌<◌, ◌≤◌, List, [], length, slice_get, slice_index, slice_index_or, true, Some, ℤ, All}
-use Rattle.roster_model.specs.Problem.{Problem}
-use Rattle.roster_model.specs.Rules.{is_among, IsLegal}
+use Rattle.std.specs.Prelude.{◌≡◌, ℕ, ◌-◌, ◌<◌, ◌≤◌, List, [], length, slice_get, slice_index, slice_index_or, true, Some, ℤ, All}
+use Rattle.roster_model.specs.Problem.{Problem, home_of}
+use Rattle.roster_model.specs.Rules.{duty_list, is_among, IsLegal}
 use Rattle.roster_lines.specs.Listing.{AreAlone, AreFlights}
+use Rattle.roster_plan_bound.specs.declared.days_off.DaysOff.{DaysOff}
 use Rattle.roster_plan_bound.specs.declared.timeline.Timeline.{Timeline}
-use Rattle.roster_model.specs.declared.limits.TheConstants.{MOST_PAIRINGS}
+use Rattle.roster_model.specs.declared.limits.TheConstants.{LAST_INSTANT, MOST_PAIRINGS}
 use Rattle.roster_cost.specs.Amounts.{IsWithin}
 use Rattle.roster_plan_bound.specs.declared.parts.TheConstants.{MOST_FLIGHT, MOST_STEP}
+use Rattle.roster_plan_bound.specs.DaysOffs.{pairs_by, HasPairsFrom}
 use Rattle.roster_plan_bound.specs.Spans.{IsBegun}
 use Rattle.roster_plan_bound.specs.Ranked.{IsRanked}
 
@@ -31,6 +33,27 @@ low_of timeline p = slice_index timeline.lows.items p
 abbrev pub begin_of : Timeline → ℕ → ℕ
 begin_of timeline class = slice_index timeline.begins.items class
 
+-- by when there may have been days off behind it
+abbrev pub off_of : Timeline → ℕ → DaysOff
+off_of timeline p = slice_index_or timeline.offs.items p timeline.start
+
+-- how many of so many pairs of days off still have to come when pairing q begins behind pairing p,
+abbrev pub need_behind : Timeline → ℕ → ℕ → ℕ → ℕ
+need_behind timeline p q need = need - pairs_by (off_of timeline p) (off_of timeline q).from
+
+-- and when it is the first one
+abbrev pub need_first : Timeline → ℕ → ℕ
+need_first timeline q = 2 - pairs_by timeline.start (off_of timeline q).from
+
+-- behind pairing p so many may come before the month ends
+abbrev pub MayEnd : Timeline → ℕ → ℕ → Type 0
+MayEnd timeline p need = need ≤ pairs_by (off_of timeline p) LAST_INSTANT
+
+-- With the set person k has so many pairs of days off from the begin of pairing p on.
+abbrev pub IsOwed : Problem → ℕ → Timeline → List ℕ → ℕ → ℕ → Type 0
+IsOwed problem k timeline set p need =
+    HasPairsFrom (home_of problem k).days (duty_list problem k set) (off_of timeline p).from need
+
 -- Pairings that are legal together, by their ranks.
 pub record IsPath (problem : Problem) (k : ℕ) (timeline : Timeline) (path : List ℕ) : Type 0 where
   pub legal : IsLegal problem k path
@@ -44,11 +67,11 @@ pub record CoversPairings (problem : Problem) (timeline : Timeline) : Type 0 whe
   pub unrested : length timeline.unrested.items ≡ length problem.pairings
   pub classes : length timeline.classes.items ≡ length problem.pairings
   pub lows : length timeline.lows.items ≡ length problem.pairings
-  pub far : length timeline.far.items ≡ length problem.pairings
+  pub offs : length timeline.offs.items ≡ length problem.pairings
   pub begins : length timeline.begins.items ≡ length timeline.order.items
 
--- In each legal set it is known of its pairings which follow which, and since when no recurrent rest may
--- have been.
+-- In each legal set it is known of its pairings which follow which, since when no recurrent rest may have
+-- been, and how many pairs of days off still have to come.
 pub record IsTimeline (problem : Problem) (k : ℕ) (timeline : Timeline) : Type 0 where
   pub covers : CoversPairings problem timeline
   pub alone : AreAlone problem k timeline.alone
@@ -72,6 +95,13 @@ pub record IsTimeline (problem : Problem) (k : ℕ) (timeline : Timeline) : Type
   pub in_time : (set : List ℕ) (q class : ℕ) → IsLegal problem k set → q < length problem.pairings
       → is_among set q ≡ true → class < length timeline.order.items
       → IsBegun problem k set q (begin_of timeline class) → low_of timeline q ≤ class
+  pub need_first : (set : List ℕ) (q : ℕ) → IsLegal problem k set → q < length problem.pairings
+      → is_among set q ≡ true → IsOwed problem k timeline set q (need_first timeline q)
+  pub need_behind : (set : List ℕ) (p q need : ℕ) → IsLegal problem k set → p < length problem.pairings
+      → q < length problem.pairings → is_among set p ≡ true → is_among set q ≡ true
+      → IsOwed problem k timeline set p need → IsOwed problem k timeline set q (need_behind timeline p q need)
+  pub may_end : (set : List ℕ) (p need : ℕ) → IsLegal problem k set → p < length problem.pairings
+      → is_among set p ≡ true → IsOwed problem k timeline set p need → MayEnd timeline p need
   pub flights : AreFlights problem k timeline.flights.items
   pub few : All (λ flight. flight ≤ MOST_FLIGHT) timeline.flights.items
 

@@ -1,103 +1,34 @@
 //! What may stand behind a pairing brings at least so much.
 //!
-//! A table over pairings and classes has for each the least that stands behind the pairing, if no recurrent
-//! rest has been since the instant of the class. It looks at no more than two neighbours at a time, so no
-//! legal set brings less. Each amount is right at any time, and the lowest before anything is known: the
-//! table only gets better.
+//! A table over pairings, classes and pairs of days off has for each the least that stands behind the
+//! pairing, if no recurrent rest has been since the instant of the class, and so many pairs of days off still
+//! have to come. It looks at no more than two neighbours at a time, so no legal set brings less. Each amount
+//! is right at any time, and the lowest before anything is known: the table only gets better.
 
-ghost use Rattle.std.specs.Prelude.{◌≡◌, ◌<◌, ◌≤◌, ◌+◌, ◌+ℤ◌, ◌≤ℤ◌, ℕ, ℤ, true, false, All, IfOk, OnOk, length};
-ghost use Rattle.std.specs.Prelude.{List, Some, slice_get, pos, [], ◌⊎◌};
+ghost use Rattle.std.specs.Prelude.{◌≡◌, ◌<◌, ◌≤◌, ◌+◌, ◌+ℤ◌, ◌≤ℤ◌, ℕ, ℤ, true, All, IfOk, OnOk, length};
+ghost use Rattle.std.specs.Prelude.{Some, slice_get, pos, [], ◌⊎◌};
 ghost use Rattle.roster_model.specs.Rules.{is_among};
 ghost use Rattle.roster_cost.specs.Amounts.{IsWithin};
-ghost use Rattle.roster_plan_bound.specs.Behinds.{lowest, row_at, AreBehind, IsBase, IsLed, IsRowBehind, IsTailBehind};
+ghost use Rattle.roster_plan_bound.specs.Behinds.{lowest, row_at, row_for, AreBehind, AreRowsBehind};
+ghost use Rattle.roster_plan_bound.specs.Behinds.{IsBegunBehind, IsFirstAt, IsRowBehind, IsTailBehind};
 ghost use Rattle.roster_plan_bound.specs.Chains.{value_at};
-ghost use Rattle.roster_plan_bound.specs.Timelines.{class_of, later_than, low_of, unrested_after, AreValued};
+ghost use Rattle.roster_plan_bound.specs.Timelines.{class_of, AreValued};
 
-use crate::parts::{MOST_BEHIND, MOST_STEP};
+use crate::leading::{lesser, row_behind, through};
+use crate::parts::MOST_BEHIND;
+use crate::rows_behind::{BehindRow, LOWEST, OwedRows, brought};
 use crate::timeline::Timeline;
 use roster_legal::part_of_legal_is_legal;
 use roster_problem::Problem;
 use std::alloc::{AllocError, Global};
-use std::marker::Model;
 
-/// Less than any pairings bring.
-const LOWEST: i64 = -(MOST_BEHIND as i64);
-
-/// For each pairing a row, which has for each class the least that stands behind it; and for each rank the
-/// least that begins there or behind.
+/// For each pairing rows, which have for each class the least that stands behind it; for each rank the least
+/// that begins there or behind; and what any path brings at least.
 #[derive(Drop)]
 pub(crate) struct Behind {
-    pub(crate) rows: Vec<BehindRow>,
+    pub(crate) rows: Vec<OwedRows>,
     pub(crate) tails: Vec<i64>,
-}
-
-/// For each class an amount, or the lowest one if there is none. Contracts see the list.
-#[derive(Drop)]
-pub(crate) struct BehindRow {
-    amounts: Vec<i64>,
-}
-
-impl Model for BehindRow {
-    ghost use Rattle.std.specs.Prelude.{List, ℤ};
-
-    ghost Value = { List ℤ };
-
-    ghost view = { λ r. r.amounts.items };
-}
-
-impl BehindRow {
-    /// The same amount for so many classes.
-    fn of(alloc: Global, amount: i64, classes: usize) -> Result<BehindRow, AllocError>
-        requires { IsWithin MOST_BEHIND amount }
-        ensures value { IfOk result (λ row. (class : ℕ) → row_at row class ≤ℤ amount) }
-        ensures within { IfOk result (All (IsWithin MOST_BEHIND)) }
-    {
-        let amounts = vec![in alloc; amount; classes]?;
-        Ok(BehindRow { amounts })
-    }
-
-    /// The amount of a class.
-    pub(crate) fn at(&self, class: usize) -> i64
-        ensures value { result ≡ row_at self.now class }
-        ensures within { All (IsWithin MOST_BEHIND) self.now → IsWithin MOST_BEHIND result }
-    {
-        match self.amounts.get(class) {
-            Some(amount) => *amount,
-            None => LOWEST,
-        }
-    }
-
-    /// Lowers a class to the amount.
-    fn lower_at(&mut self, class: usize, amount: i64)
-        requires inside { class < length self.old }
-        requires amount { IsWithin MOST_BEHIND amount }
-        requires within { All (IsWithin MOST_BEHIND) self.old }
-        ensures same { length self.new ≡ length self.old }
-        ensures here { row_at self.new class ≤ℤ amount }
-        ensures kept { (other : ℕ) → row_at self.new other ≤ℤ row_at self.old other }
-        ensures within { All (IsWithin MOST_BEHIND) self.new }
-    {
-        if amount < self.amounts[class] {
-            self.amounts[class] = amount;
-        }
-    }
-
-    /// Lowers the classes from one to another to what a pairing brings, and the row behind it has there.
-    fn lower(&mut self, after: &BehindRow, value: i64, low: usize, high: usize)
-        requires value { IsWithin MOST_STEP value }
-        requires after { All (IsWithin MOST_BEHIND) after.now }
-        requires within { All (IsWithin MOST_BEHIND) self.old }
-        ensures kept { (class : ℕ) → row_at self.new class ≤ℤ row_at self.old class }
-        ensures led { (class : ℕ) (amount : ℤ) → low ≤ class → class ≤ high → lowest ≤ℤ amount
-            → (value +ℤ row_at after.now class) ≤ℤ amount → row_at self.new class ≤ℤ amount }
-        ensures within { All (IsWithin MOST_BEHIND) self.new }
-    {
-        let len = self.amounts.len();
-        let until = if high < len { high + 1 } else { len };
-        for class in low..until {
-            self.lower_at(class, brought(value, after.at(class)));
-        }
-    }
+    pub(crate) begun: i64,
 }
 
 /// What a table is made of: a person's timeline, and what each pairing brings.
@@ -120,6 +51,7 @@ pub(crate) fn behind_of(alloc: Global, valued: &Valued<'_>) -> Result<Behind, Al
     for back in 0..count {
         learn(alloc, valued, &mut behind, count - 1 - back)?;
     }
+    behind.begun = begun_of(valued, &behind);
     Ok(behind)
 }
 
@@ -133,19 +65,21 @@ fn unknown(alloc: Global, valued: &Valued<'_>) -> Result<Behind, AllocError>
     valued.problem.is_sound();
     let rows = no_rows(alloc, valued.problem.pairings().len())?;
     let tails = no_tails(alloc, valued.timeline.order.len())?;
-    Ok(Behind { rows, tails })
+    Ok(Behind {
+        rows,
+        tails,
+        begun: LOWEST,
+    })
 }
 
 /// So many empty rows.
-fn no_rows(alloc: Global, count: usize) -> Result<Vec<BehindRow>, AllocError>
+fn no_rows(alloc: Global, count: usize) -> Result<Vec<OwedRows>, AllocError>
     ensures covers { IfOk result (λ rows. length rows.items ≡ count) }
-    ensures none { IfOk result (λ rows. All (λ row. row ≡ []) rows.items) }
+    ensures none { IfOk result (λ rows. All (λ row. (need : ℕ) → row_for row need ≡ []) rows.items) }
 {
     let mut rows = Vec::new(alloc);
     for _ in 0..count {
-        rows.push(BehindRow {
-            amounts: Vec::new(alloc),
-        })?;
+        rows.push(OwedRows::empty(alloc))?;
     }
     Ok(rows)
 }
@@ -176,9 +110,9 @@ fn learn(
         valued.now.values.now behind.new) }
 {
     let p = pairing_at(valued, rank);
-    let row = row_behind(alloc, valued, behind, p)?;
-    let tail = tail_of(valued, behind, rank, p, &row);
-    put(valued, behind, rank, p, row, tail);
+    let rows = rows_behind(alloc, valued, behind, p)?;
+    let tail = tail_of(valued, behind, rank, p, &rows.none);
+    put(valued, behind, rank, p, rows, tail);
     Ok(())
 }
 
@@ -193,26 +127,24 @@ fn pairing_at(valued: &Valued<'_>, rank: usize) -> usize
     valued.timeline.order[rank]
 }
 
-/// What stands behind pairing `p`.
-fn row_behind(
+/// What stands behind pairing `p`, for each number of pairs of days off that still have to come.
+fn rows_behind(
     alloc: Global,
     valued: &Valued<'_>,
     behind: &Behind,
     p: usize,
-) -> Result<BehindRow, AllocError>
+) -> Result<OwedRows, AllocError>
     requires valued { AreValued valued.now.problem.now valued.now.person valued.now.timeline.now valued.now.values.now }
     requires alone { is_among valued.now.timeline.now.alone p ≡ true }
     requires behind { AreBehind valued.now.problem.now valued.now.person valued.now.timeline.now
         valued.now.values.now behind.now }
-    ensures { IfOk result (IsRowBehind valued.now.problem.now valued.now.person valued.now.timeline.now
+    ensures { IfOk result (AreRowsBehind valued.now.problem.now valued.now.person valued.now.timeline.now
         valued.now.values.now p) }
 {
-    part_of_legal_is_legal();
-    valued.problem.is_sound();
-    let far = far_from(valued.timeline, p);
-    let base = base_of(valued, behind, p, far);
-    let row = row_of(alloc, valued, behind, p, far, base)?;
-    Ok(row)
+    let none = row_behind(alloc, valued, behind, p, 0)?;
+    let one = row_behind(alloc, valued, behind, p, 1)?;
+    let two = row_behind(alloc, valued, behind, p, 2)?;
+    Ok(OwedRows { none, one, two })
 }
 
 /// What begins at the rank at which pairing `p` stands, whose row is known, or behind it.
@@ -224,7 +156,7 @@ fn tail_of(valued: &Valued<'_>, behind: &Behind, rank: usize, p: usize, row: &Be
     requires behind { AreBehind valued.now.problem.now valued.now.person valued.now.timeline.now
         valued.now.values.now behind.now }
     requires row { IsRowBehind valued.now.problem.now valued.now.person valued.now.timeline.now
-        valued.now.values.now p row.now }
+        valued.now.values.now p 0 row.now }
     ensures { IsTailBehind valued.now.problem.now valued.now.person valued.now.timeline.now valued.now.values.now
         rank result }
 {
@@ -246,164 +178,52 @@ fn led(valued: &Valued<'_>, p: usize, row: &BehindRow) -> i64
     brought(valued.values[p], row.at(valued.timeline.classes[p]))
 }
 
-/// Puts the row of pairing `p` and the tail of the rank into the table.
-fn put(valued: &Valued<'_>, behind: &mut Behind, rank: usize, p: usize, row: BehindRow, tail: i64)
+/// Puts the rows of pairing `p` and the tail of the rank into the table.
+fn put(valued: &Valued<'_>, behind: &mut Behind, rank: usize, p: usize, rows: OwedRows, tail: i64)
     requires place { p < length valued.now.problem.now.pairings }
     requires rank { rank < length valued.now.timeline.now.order.items }
     requires behind { AreBehind valued.now.problem.now valued.now.person valued.now.timeline.now
         valued.now.values.now behind.old }
-    requires row { IsRowBehind valued.now.problem.now valued.now.person valued.now.timeline.now
-        valued.now.values.now p row }
+    requires rows { AreRowsBehind valued.now.problem.now valued.now.person valued.now.timeline.now
+        valued.now.values.now p rows }
     requires tail { IsTailBehind valued.now.problem.now valued.now.person valued.now.timeline.now
         valued.now.values.now rank tail }
     ensures { AreBehind valued.now.problem.now valued.now.person valued.now.timeline.now valued.now.values.now
         behind.new }
 {
     behind.tails[rank] = tail;
-    behind.rows[p] = row;
+    behind.rows[p] = rows;
 }
 
-/// What stands behind pairing `p` at least, whose rank it is: nothing, one that is far, or one before which a
-/// recurrent rest may lie.
-fn base_of(valued: &Valued<'_>, behind: &Behind, p: usize, until: usize) -> i64
+/// What any path brings: the empty one, or one that begins with some pairing.
+fn begun_of(valued: &Valued<'_>, behind: &Behind) -> i64
     requires valued { AreValued valued.now.problem.now valued.now.person valued.now.timeline.now valued.now.values.now }
-    requires place { is_among valued.now.timeline.now.alone p ≡ true }
     requires behind { AreBehind valued.now.problem.now valued.now.person valued.now.timeline.now
         valued.now.values.now behind.now }
-    requires until { until ≤ length valued.now.timeline.now.order.items }
-    ensures { IsBase valued.now.timeline.now valued.now.values.now behind.now p until result }
-{
-    let timeline = valued.timeline;
-    let mut base = end_or_far(valued, behind, until);
-    for s in timeline.ranks[p] + 1..until {
-        base = rested_by(valued, behind, p, timeline.order[s], base);
-    }
-    base
-}
-
-/// What it brings that nothing stands behind, or that something of that rank or a later one does.
-fn end_or_far(valued: &Valued<'_>, behind: &Behind, until: usize) -> i64
-    requires until { until ≤ length valued.now.timeline.now.order.items }
-    requires behind { AreBehind valued.now.problem.now valued.now.person valued.now.timeline.now
-        valued.now.values.now behind.now }
-    ensures end { result ≤ℤ pos 0 }
-    ensures tail { (tail : ℤ) → slice_get behind.now.tails.items until ≡ Some tail → result ≤ℤ tail }
+    ensures begun { IsBegunBehind valued.now.problem.now valued.now.person valued.now.timeline.now
+        valued.now.values.now result }
     ensures within { IsWithin MOST_BEHIND result }
 {
-    lesser(behind.tails[until], 0)
-}
-
-/// The base, or what pairing `q` leads to, if it may follow pairing `p` after a recurrent rest and brings less.
-fn rested_by(valued: &Valued<'_>, behind: &Behind, p: usize, q: usize, base: i64) -> i64
-    requires valued { AreValued valued.now.problem.now valued.now.person valued.now.timeline.now valued.now.values.now }
-    requires place { p < length valued.now.problem.now.pairings }
-    requires other { q < length valued.now.problem.now.pairings }
-    requires behind { AreBehind valued.now.problem.now valued.now.person valued.now.timeline.now
-        valued.now.values.now behind.now }
-    requires base { IsWithin MOST_BEHIND base }
-    ensures kept { result ≤ℤ base }
-    ensures rested { is_among (later_than valued.now.timeline.now p) q ≡ true
-        → is_among (unrested_after valued.now.timeline.now p) q ≡ false → (row : List ℤ) (amount : ℤ)
-        → slice_get behind.now.rows.items q ≡ Some row → lowest ≤ℤ amount
-        → (value_at valued.now.values.now q +ℤ row_at row (class_of valued.now.timeline.now q)) ≤ℤ amount
-        → result ≤ℤ amount }
-    ensures within { IsWithin MOST_BEHIND result }
-{
-    let timeline = valued.timeline;
-    if !timeline.later[p].has(q) || timeline.unrested[p].has(q) {
-        return base;
+    part_of_legal_is_legal();
+    valued.problem.is_sound();
+    let mut begun = 0;
+    for rank in 0..valued.timeline.order.len() {
+        let q = pairing_at(valued, rank);
+        begun = lesser(begun, first_at(valued, behind, q));
     }
-    lesser(base, through(valued, behind, q, timeline.classes[q]))
+    begun
 }
 
-/// The row of pairing `p`, with that base.
-fn row_of(
-    alloc: Global,
-    valued: &Valued<'_>,
-    behind: &Behind,
-    p: usize,
-    until: usize,
-    base: i64,
-) -> Result<BehindRow, AllocError>
-    requires valued { AreValued valued.now.problem.now valued.now.person valued.now.timeline.now valued.now.values.now }
-    requires place { is_among valued.now.timeline.now.alone p ≡ true }
-    requires behind { AreBehind valued.now.problem.now valued.now.person valued.now.timeline.now
-        valued.now.values.now behind.now }
-    requires until { until ≤ length valued.now.timeline.now.order.items }
-    requires base { IsBase valued.now.timeline.now valued.now.values.now behind.now p until base }
-    ensures { IfOk result (λ row. IsLed valued.now.timeline.now valued.now.values.now behind.now p until base row) }
-{
-    let timeline = valued.timeline;
-    let mut row = BehindRow::of(alloc, base, timeline.order.len())?;
-    for s in timeline.ranks[p] + 1..until {
-        let q = timeline.order[s];
-        if timeline.unrested[p].has(q) {
-            lower_by(valued, behind, p, q, &mut row);
-        }
-    }
-    Ok(row)
-}
-
-/// Lowers the row of pairing `p` to what pairing `q` leads to, before which no recurrent rest lies.
-fn lower_by(valued: &Valued<'_>, behind: &Behind, p: usize, q: usize, row: &mut BehindRow)
-    requires valued { AreValued valued.now.problem.now valued.now.person valued.now.timeline.now valued.now.values.now }
-    requires place { p < length valued.now.problem.now.pairings }
-    requires other { q < length valued.now.problem.now.pairings }
-    requires behind { AreBehind valued.now.problem.now valued.now.person valued.now.timeline.now
-        valued.now.values.now behind.now }
-    requires within { All (IsWithin MOST_BEHIND) row.old }
-    ensures kept { (class : ℕ) → row_at row.new class ≤ℤ row_at row.old class }
-    ensures led { (class : ℕ) (after : List ℤ) (amount : ℤ) → slice_get behind.now.rows.items q ≡ Some after
-        → low_of valued.now.timeline.now q ≤ class → class ≤ class_of valued.now.timeline.now p
-        → lowest ≤ℤ amount → (value_at valued.now.values.now q +ℤ row_at after class) ≤ℤ amount
-        → row_at row.new class ≤ℤ amount }
-    ensures within { All (IsWithin MOST_BEHIND) row.new }
-{
-    let (low, high) = (valued.timeline.lows[q], valued.timeline.classes[p]);
-    row.lower(&behind.rows[q], valued.values[q], low, high);
-}
-
-/// What pairing `q` brings, and its row has for a class.
-fn through(valued: &Valued<'_>, behind: &Behind, q: usize, class: usize) -> i64
+/// What a path brings at least of which pairing `q` is the first one.
+fn first_at(valued: &Valued<'_>, behind: &Behind, q: usize) -> i64
     requires valued { AreValued valued.now.problem.now valued.now.person valued.now.timeline.now valued.now.values.now }
     requires place { q < length valued.now.problem.now.pairings }
     requires behind { AreBehind valued.now.problem.now valued.now.person valued.now.timeline.now
         valued.now.values.now behind.now }
-    ensures least { (row : List ℤ) (amount : ℤ) → slice_get behind.now.rows.items q ≡ Some row → lowest ≤ℤ amount
-        → (value_at valued.now.values.now q +ℤ row_at row class) ≤ℤ amount → result ≤ℤ amount }
+    ensures least { IsFirstAt valued.now.timeline.now valued.now.values.now behind.now q result }
     ensures within { IsWithin MOST_BEHIND result }
 {
-    brought(valued.values[q], behind.rows[q].at(class))
-}
-
-/// The rank from which on all that may follow pairing `p` begins after a recurrent rest, as far as is known.
-fn far_from(timeline: &Timeline, p: usize) -> usize
-    ensures { result ≤ length timeline.now.order.items }
-{
-    match timeline.far.get(p) {
-        Some(far) if *far <= timeline.order.len() => *far,
-        _ => timeline.order.len(),
-    }
-}
-
-/// What a pairing brings, and what stands behind it.
-fn brought(value: i64, after: i64) -> i64
-    requires value { IsWithin MOST_STEP value }
-    requires after { IsWithin MOST_BEHIND after }
-    ensures least { (amount : ℤ) → lowest ≤ℤ amount → (value +ℤ after) ≤ℤ amount → result ≤ℤ amount }
-    ensures within { IsWithin MOST_BEHIND result }
-{
-    (value + after).clamp(LOWEST, MOST_BEHIND as i64)
-}
-
-/// The lesser one.
-fn lesser(amount: i64, other: i64) -> i64
-    requires amount { IsWithin MOST_BEHIND amount }
-    requires other { IsWithin MOST_BEHIND other }
-    ensures first { result ≤ℤ amount }
-    ensures second { result ≤ℤ other }
-    ensures one { (result ≡ amount) ⊎ (result ≡ other) }
-    ensures within { IsWithin MOST_BEHIND result }
-{
-    if other < amount { other } else { amount }
+    let timeline = valued.timeline;
+    let need = timeline.need_first(q);
+    through(valued, behind, q, need, timeline.classes[q])
 }

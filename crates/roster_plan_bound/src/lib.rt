@@ -10,7 +10,10 @@
 //! - `network`: which pairings may follow one another
 //! - `span`: when a pairing begins and ends, as the recovery rule sees it
 //! - `timeline`: the pairings of a person in order of time
+//! - `days_off`: by when there may have been days off
 //! - `draft`: the tables of a timeline
+//! - `rows_behind`: amounts for each class
+//! - `leading`: what stands behind one pairing
 //! - `behind`: what the pairings that may stand behind one bring at least
 //! - `prospect`: what the paths of a person bring at some prices
 //! - `terms`: what flight costs at the end of a chain
@@ -33,8 +36,10 @@
 
 mod behind;
 mod columns;
+mod days_off;
 mod draft;
 mod gap;
+mod leading;
 mod listing;
 mod lists;
 mod master;
@@ -46,6 +51,7 @@ mod pricing;
 mod prospect;
 mod rising;
 mod rows;
+mod rows_behind;
 mod seek;
 mod sets;
 mod softness;

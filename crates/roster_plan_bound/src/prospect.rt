@@ -1,10 +1,11 @@
 //! What the paths of a person bring at some prices: tables say what all of them bring at least.
 
 ghost use Rattle.std.specs.Prelude.{◌≡◌, ◌<◌, ◌≤◌, ◌+◌, ◌*◌, ◌+ℤ◌, ◌-ℤ◌, ◌*ℤ◌, ◌≤ℤ◌, ◌⊎◌, ℕ, pos, neg_ℤ};
-ghost use Rattle.std.specs.Prelude.{All, IfOk, IfSome, length, slice_index, slice_index_or, unsigned_abs, []};
+ghost use Rattle.std.specs.Prelude.{All, IfOk, IfSome, Some, length, slice_get, slice_index, unsigned_abs};
 ghost use Rattle.roster_cost.specs.Amounts.{IsWithin};
 ghost use Rattle.roster_model.specs.Problem.{weight_of};
-ghost use Rattle.roster_plan_bound.specs.Behinds.{row_at};
+ghost use Rattle.roster_plan_bound.specs.declared.rows_behind.OwedRows.{OwedRows};
+ghost use Rattle.roster_plan_bound.specs.Behinds.{row_at, row_for};
 ghost use Rattle.roster_plan_bound.specs.Chains.{value_at};
 ghost use Rattle.roster_plan_bound.specs.Networks.{AreValues};
 ghost use Rattle.roster_plan_bound.specs.Prospects.{short_of, term_of, IsAhead, IsLeastPath, IsTable};
@@ -34,8 +35,8 @@ pub(crate) struct WorthTable {
     pub(crate) behind: Behind,
 }
 
-/// What is known of a person at some prices. Contracts see the problem, the person, the timeline, the prices, and
-/// what each pairing brings at them.
+/// What is known of a person at some prices. Contracts see the problem, the person, the timeline, the prices,
+/// and what each pairing brings at them.
 #[derive(Drop)]
 pub(crate) struct Prospect<'a> {
     problem: &'a Problem,
@@ -176,18 +177,19 @@ impl<'a> Prospect<'a> {
     }
 
     /// What a path brings at least that begins with pairings of that value and flight, of which `q` is the
-    /// last one. Since the instant of the class no recurrent rest lies before its end.
-    pub(crate) fn ahead(&self, value: i64, flight: u64, q: usize, class: usize) -> i64
+    /// last one. Since the instant of the class no recurrent rest lies before its end, and so many pairs of
+    /// days off still have to come.
+    pub(crate) fn ahead(&self, value: i64, flight: u64, q: usize, class: usize, need: usize) -> i64
         requires pairing { q < length self.now.problem.pairings }
         requires value { IsWithin (MOST_PAIRINGS * MOST_CHAIN_VALUE) value }
         requires flight { flight ≤ MOST_PAIRINGS * MOST_FLIGHT }
         ensures { IsAhead self.now.problem self.now.person self.now.timeline self.now.units value flight q
-            class result }
+            class need result }
     {
         self.problem.is_sound();
         let mut least = -(MOST_LEAST as i64);
         for i in 0..self.tables.len() {
-            least = greater(least, self.tables[i].ahead(value, flight, q, class));
+            least = greater(least, self.tables[i].ahead(value, flight, q, class, need));
         }
         least
     }
@@ -235,36 +237,34 @@ impl<'a> Prospect<'a> {
 impl WorthTable {
     /// The same as `begun`, whatever the table has.
     fn begun_at_most(&self) -> i64 {
-        match self.behind.tails.first() {
-            Some(tail) => tail.wrapping_add(self.fixed),
-            None => i64::MIN,
-        }
+        self.behind.begun.wrapping_add(self.fixed)
     }
 
     /// What any path brings at least.
     fn begun(&self) -> i64
-        requires some { 0 < length self.now.behind.tails.items }
-        requires tails { All (IsWithin MOST_BEHIND) self.now.behind.tails.items }
+        requires begun { IsWithin MOST_BEHIND self.now.behind.begun }
         requires fixed { IsWithin MOST_LEAST self.now.fixed }
-        ensures { result ≡ value_at self.now.behind.tails.items 0 +ℤ self.now.fixed }
+        ensures { result ≡ self.now.behind.begun +ℤ self.now.fixed }
     {
-        self.behind.tails[0] + self.fixed
+        self.behind.begun + self.fixed
     }
 
     /// What a path brings at least that begins with pairings of that value and flight, of which `q` is the
     /// last one.
-    fn ahead(&self, value: i64, flight: u64, q: usize, class: usize) -> i64
+    fn ahead(&self, value: i64, flight: u64, q: usize, class: usize, need: usize) -> i64
         requires pairing { q < length self.now.behind.rows.items }
         requires value { IsWithin (MOST_PAIRINGS * MOST_CHAIN_VALUE) value }
         requires flight { flight ≤ MOST_PAIRINGS * MOST_FLIGHT }
         requires worth { IsWithin MOST_WORTH self.now.worth }
         requires fixed { IsWithin MOST_LEAST self.now.fixed }
-        requires rows { All (All (IsWithin MOST_BEHIND)) self.now.behind.rows.items }
-        ensures value { result ≡ value +ℤ (self.now.worth *ℤ pos flight) +ℤ self.now.fixed
-            +ℤ row_at (slice_index_or self.now.behind.rows.items q []) class }
+        requires rows { All (λ rows. All (IsWithin MOST_BEHIND) (row_for rows need))
+            self.now.behind.rows.items }
+        ensures value { (rows : OwedRows) → slice_get self.now.behind.rows.items q ≡ Some rows
+            → result ≡ value +ℤ (self.now.worth *ℤ pos flight) +ℤ self.now.fixed
+            +ℤ row_at (row_for rows need) class }
         ensures within { IsWithin MOST_SUM result }
     {
-        value + self.worth * flight as i64 + self.fixed + self.behind.rows[q].at(class)
+        value + self.worth * flight as i64 + self.fixed + self.behind.rows[q].row(need).at(class)
     }
 }
 

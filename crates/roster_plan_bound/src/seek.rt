@@ -7,8 +7,8 @@ ghost use Rattle.std.specs.Prelude.{◌≡◌, ◌<◌, ◌≤ℤ◌, ℕ, true,
 ghost use Rattle.std.specs.Int.{w64};
 ghost use Rattle.roster_model.specs.Rules.{is_among};
 ghost use Rattle.roster_plan_bound.specs.Prospects.{IsLeastPath};
-ghost use Rattle.roster_plan_bound.specs.Seeks.{IsClassWith, IsEndWith, IsLeastBelow, IsLeastFrom, IsNextSpot, IsOnward};
-ghost use Rattle.roster_plan_bound.specs.Seeks.{IsSpot};
+ghost use Rattle.roster_plan_bound.specs.Seeks.{IsClassWith, IsEndWith, IsLeastBelow, IsLeastFrom, IsNeedWith};
+ghost use Rattle.roster_plan_bound.specs.Seeks.{IsNextSpot, IsOnward, IsSpot};
 
 use crate::columns::Columns;
 use crate::prospect::Prospect;
@@ -28,6 +28,8 @@ pub(crate) struct End {
     value: i64,
     /// Their minutes of flight.
     flight: u64,
+    /// How many pairs of days off still have to come from the last pairing on, if there is one.
+    need: usize,
 }
 
 /// Where a search has come to: a path.
@@ -81,6 +83,7 @@ pub(crate) fn seek_all(
             class: 0,
             value: 0,
             flight: 0,
+            need: 0,
         },
         may: prospect.timeline().alone,
         room: MOST_PAIRINGS,
@@ -185,7 +188,7 @@ fn onward(
     if end.class < prospect.timeline().lows[q] {
         return Ok(None);
     }
-    if prospect.ahead(end.value, end.flight, q, end.class) >= least {
+    if prospect.ahead(end.value, end.flight, q, end.class, end.need) >= least {
         return Ok(None);
     }
     let next = spot_with(prospect, spot, q, end);
@@ -206,6 +209,7 @@ fn end_with(prospect: &Prospect<'_>, spot: &Spot, q: usize) -> End
         class: class_with(timeline, spot, q),
         value: spot.end.value + prospect.units()[q],
         flight: spot.end.flight + timeline.flights[q],
+        need: need_with(timeline, spot, q),
     }
 }
 
@@ -242,4 +246,16 @@ fn class_with(timeline: &Timeline, spot: &Spot, q: usize) -> usize
         }
     }
     timeline.classes[q]
+}
+
+/// How many pairs of days off still have to come from pairing `q` behind the spot on.
+fn need_with(timeline: &Timeline, spot: &Spot, q: usize) -> usize
+    requires last { (p : ℕ) → spot.now.last ≡ Some p → p < length timeline.now.offs.items }
+    requires place { q < length timeline.now.offs.items }
+    ensures { IsNeedWith timeline.now spot.now q result }
+{
+    match spot.last {
+        Some(last) => timeline.need_behind(last, q, spot.end.need),
+        None => timeline.need_first(q),
+    }
 }

@@ -1,20 +1,21 @@
 //! The pairings of a person in order of time: which may follow one another, and by when a rest is due.
 
-ghost use Rattle.std.specs.Prelude.{◌≡◌, ◌<◌, ◌≤◌, ℕ, true, All, IfOk, IfSome, IsTrue, Some, length, slice_get};
-ghost use Rattle.std.specs.Prelude.{slice_index};
+ghost use Rattle.std.specs.Prelude.{◌≡◌, ◌<◌, ◌≤◌, ◌↔◌, ℕ, true, All, IfOk, IfSome, IsTrue, Some, length};
+ghost use Rattle.std.specs.Prelude.{slice_get, slice_index};
 ghost use Rattle.roster_model.specs.Calendar.{month_start};
 ghost use Rattle.roster_model.specs.Problem.{home_of};
 ghost use Rattle.roster_model.specs.Rules.{is_among};
 ghost use Rattle.roster_lines.specs.Listing.{ArePairs};
 ghost use Rattle.roster_plan_bound.specs.Drafts.{AreSpans, Fits, IsWhole};
-ghost use Rattle.roster_plan_bound.specs.Timelines.{IsTimeline};
+ghost use Rattle.roster_plan_bound.specs.Timelines.{need_behind, need_first, IsTimeline, MayEnd};
 
+use crate::days_off::{DaysOff, off_at_start, offs_of};
 use crate::draft::draft_of;
 use crate::parts::MOST_FLIGHT;
 use crate::span::{Span, span_of};
 use roster_legal::part_of_legal_is_legal;
 use roster_lines::Pairs;
-use roster_model::limits::MOST_PAIRINGS;
+use roster_model::limits::{LAST_INSTANT, MOST_PAIRINGS};
 use roster_problem::Problem;
 use roster_values::Set;
 use std::alloc::{AllocError, Global};
@@ -39,14 +40,45 @@ pub(crate) struct Timeline {
     pub(crate) classes: Vec<usize>,
     /// The first class from which on each pairing ends in time.
     pub(crate) lows: Vec<usize>,
-    /// For each pairing a rank from which on all may follow it, after a recurrent rest.
-    pub(crate) far: Vec<usize>,
+    /// For no pair of days off that has to come, for one and for two: for each pairing a rank from which on
+    /// all may follow it, after a recurrent rest and these days off.
+    pub(crate) far: Vec<Vec<usize>>,
+    /// By when there may have been days off after each pairing.
+    pub(crate) offs: Vec<DaysOff>,
+    /// By when there may have been days off before any pairing.
+    pub(crate) start: DaysOff,
     /// The minutes of flight of each pairing.
     pub(crate) flights: Vec<u64>,
 }
 
-/// The timeline of person `k`, whose pairs are known; none if a pairing has no duty or more flight than tables
-/// are made for.
+impl Timeline {
+    /// How many of so many pairs of days off still have to come when pairing `q` begins behind pairing `p`.
+    pub(crate) fn need_behind(&self, p: usize, q: usize, need: usize) -> usize
+        requires { (p < length self.now.offs.items) × (q < length self.now.offs.items) }
+        ensures { result ≡ need_behind self.now p q need }
+    {
+        self.offs[p].left(need, self.offs[q].from)
+    }
+
+    /// How many pairs of days off still have to come when pairing `q` begins as the first one.
+    pub(crate) fn need_first(&self, q: usize) -> usize
+        requires { q < length self.now.offs.items }
+        ensures { result ≡ need_first self.now q }
+    {
+        self.start.left(2, self.offs[q].from)
+    }
+
+    /// Whether so many pairs of days off may come behind pairing `p` before the month ends.
+    pub(crate) fn may_end(&self, p: usize, need: usize) -> bool
+        requires { p < length self.now.offs.items }
+        ensures { IsTrue result ↔ MayEnd self.now p need }
+    {
+        self.offs[p].left(need, LAST_INSTANT) == 0
+    }
+}
+
+/// The timeline of person `k`, whose pairs are known; none if a pairing has no duty or more flight than
+/// tables are made for.
 pub(crate) fn timeline_of(
     alloc: Global,
     problem: &Problem,
@@ -62,7 +94,16 @@ pub(crate) fn timeline_of(
     let Some(spans) = spans_of(alloc, problem)? else {
         return Ok(None);
     };
-    let timeline = draft_of(alloc, pairs, &spans, month_start_of(problem, k))?;
+    let offs = offs_of(alloc, problem, k, &spans)?;
+    let start = off_at_start(alloc, problem, k)?;
+    let timeline = draft_of(
+        alloc,
+        pairs,
+        &spans,
+        offs,
+        start,
+        month_start_of(problem, k),
+    )?;
     if !is_whole(&timeline, &spans) {
         return Ok(None);
     }
@@ -91,8 +132,8 @@ fn spans_of(alloc: Global, problem: &Problem) -> Result<Option<Vec<Span>>, Alloc
     Ok(Some(spans))
 }
 
-/// Whether each pairing that is legal alone has its place and its class, only these are in order, and no flight
-/// is more than tables are made for.
+/// Whether each pairing that is legal alone has its place and its class, only these are in order, and no
+/// flight is more than tables are made for.
 fn is_whole(timeline: &Timeline, spans: &[Span]) -> bool
     requires places { (p : ℕ) → is_among timeline.now.alone p ≡ true → p < length spans.now }
     requires ranks { length timeline.now.ranks.items ≡ length spans.now }

@@ -4,7 +4,7 @@ use Rattle.std.proofs.lemmas.Bool.{cases_eq}
 use Rattle.std.proofs.lemmas.Int.{to_z-of_z}
 use Rattle.std.proofs.lemmas.List.{get_or-set_other, get_or-set_same, length-set}
 use Rattle.std.proofs.lemmas.Option.{get_or_from_slice_get, slice_get-get_or, slice_get_within}
-use Rattle.roster_plan_bound.specs.Behinds.{IsRowBehind, IsTailBehind}
+use Rattle.roster_plan_bound.specs.Behinds.{AreRowsBehind, IsTailBehind}
 use Rattle.roster_plan_bound.proofs.behind.put.Goals as goal
 
 -- what stands at a place of a list of which one place is set anew
@@ -34,11 +34,13 @@ returns c =
     let tails = c.args.behind.now.tails.items in
     let told = to_z-of_z w64 c.args.tail c.ranges.tail in
     record {
-      covers = length-set rows c.args.p c.args.row ∙ c.requires.behind.covers;
-      rows = set_cases (IsRowBehind problem k timeline values) rows c.args.p c.args.row
-          (omega (arith, c.requires.behind.covers, c.requires.place)) c.requires.row c.requires.behind.rows;
+      covers = length-set rows c.args.p c.args.rows ∙ c.requires.behind.covers;
+      rows = set_cases (AreRowsBehind problem k timeline values) rows c.args.p c.args.rows
+          (omega (arith, c.requires.behind.covers, c.requires.place)) c.requires.rows c.requires.behind.rows;
       longer = length-set tails c.args.rank (to_z w64 (of_z w64 c.args.tail)) ∙ c.requires.behind.longer;
       tails = set_cases (IsTailBehind problem k timeline values) tails c.args.rank (to_z w64 (of_z w64 c.args.tail))
           (omega (arith, c.requires.behind.longer, c.requires.rank))
           (subst (IsTailBehind problem k timeline values c.args.rank) (sym told) c.requires.tail) c.requires.behind.tails;
+      begun = c.requires.behind.begun;
+      within = c.requires.behind.within;
     }

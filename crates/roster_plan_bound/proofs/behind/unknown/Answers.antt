@@ -1,8 +1,8 @@
-use Rattle.std.proofs.Common.{◌+◌, length, sym, ap, ◌∙◌, subst, inl, inr}
+use Rattle.std.proofs.Common.{◌+◌, length, arith, sym, ap, ◌∙◌, subst, inl, inr}
 use Rattle.std.proofs.lemmas.Option.{get_or_from_slice_get, slice_get_within}
 use Rattle.roster_lines.specs.Listing.{ArePartsLegal}
-use Rattle.roster_plan_bound.specs.Behinds.{IsRowBehind, IsTailBehind}
-use Rattle.roster_plan_bound.proofs.BehindLemmas.{none_known, tail_end, tail_none}
+use Rattle.roster_plan_bound.specs.Behinds.{row_for, IsRowBehind, IsTailBehind}
+use Rattle.roster_plan_bound.proofs.BehindLemmas.{begun_none, none_known, tail_end, tail_none}
 use Rattle.roster_plan_bound.proofs.behind.unknown.Goals as goal
 
 pub returns : goal.returns
@@ -19,11 +19,13 @@ returns c =
       covers = c.in_ok-rows.ensures.covers ∙ ap length c.pairings.ensures.value;
       rows = λ p row at.
           let none = c.in_ok-rows.ensures.none p row (slice_get_within rows p row at) in
-          let same = sym (get_or_from_slice_get rows p row row at) ∙ none in
-          subst (IsRowBehind problem k timeline values p) (sym same) (none_known problem k timeline values parts c.requires p);
+          let same = get_or_from_slice_get rows p row row at in
+          λ need. subst (IsRowBehind problem k timeline values p need) (sym (ap (λ r. row_for r need) (sym same) ∙ none need)) (none_known problem k timeline values parts c.requires p need);
       longer = c.in_ok-tails.ensures.longer ∙ ap (λ n. n + 1) (c.len.ensures ∙ timeline.order.ok.0);
       tails = λ from tail at. elim (c.in_ok-tails.ensures.none from tail at) [
         | inl low ↦ subst (IsTailBehind problem k timeline values from) (sym low) (tail_none problem k timeline values parts c.requires from)
         | inr end ↦ subst (λ i. IsTailBehind problem k timeline values i tail) (sym (end.0 ∙ c.len.ensures ∙ timeline.order.ok.0)) (subst (IsTailBehind problem k timeline values (length timeline.order.items)) (sym end.1) (tail_end problem k timeline values parts c.requires))
       ];
+      begun = begun_none problem k timeline values parts c.requires;
+      within = omega arith;
     }

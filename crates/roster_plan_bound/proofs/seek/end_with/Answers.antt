@@ -5,7 +5,7 @@ use Rattle.roster_model.specs.declared.limits.TheConstants.{MOST_PAIRINGS}
 use Rattle.roster_cost.specs.Amounts.{IsWithin}
 use Rattle.roster_plan_bound.specs.declared.parts.TheConstants.{MOST_CHAIN_VALUE, MOST_FLIGHT}
 use Rattle.roster_plan_bound.specs.Chains.{value_at}
-use Rattle.roster_plan_bound.specs.Seeks.{IsClassWith}
+use Rattle.roster_plan_bound.specs.Seeks.{IsClassWith, IsNeedWith}
 use Rattle.roster_plan_bound.proofs.seek.end_with.Goals as goal
 
 -- the sum that the code takes
@@ -61,4 +61,7 @@ returns c =
       small = small;
       flight = ap (λ n. spot.end.flight + n) flown;
       few = subst (λ n. n ≤ MOST_FLIGHT) (sym minutes ∙ flown) (timed.few q at flight_inside);
+      need =
+          subst (λ t. IsNeedWith t spot q c.need_with.result) c.timeline-timeline.ensures.value
+          c.need_with.ensures;
     }

@@ -3,8 +3,9 @@ use Rattle.std.specs.Prelude.{IfSome}
 use Rattle.roster_model.specs.Calendar.{month_start}
 use Rattle.roster_model.specs.Problem.{home_of}
 use Rattle.roster_lines.specs.Listing.{ArePartsLegal}
+use Rattle.roster_plan_bound.specs.declared.days_off.DaysOff.{DaysOff}
 use Rattle.roster_plan_bound.specs.declared.span.Span.{Span}
-use Rattle.roster_plan_bound.specs.Drafts.{AreSpans, IsDraft, IsWhole}
+use Rattle.roster_plan_bound.specs.Drafts.{AreOffs, AreSpans, IsDraft, IsWhole}
 use Rattle.roster_plan_bound.proofs.TimelineLemmas.{drafted}
 use Rattle.roster_plan_bound.proofs.timeline.timeline_of.Goals as goal
 
@@ -19,9 +20,13 @@ returns c =
     c.part_of_legal_is_legal.ensures problem c.args.k set part sound.ordered sound.timed within legal in
     let spanned : AreSpans problem spans =
     subst (λ found. IfSome found (λ s. AreSpans problem s.items)) c.in-Some.is c.in_ok-spans.ensures in
-    let draft : IsDraft pairs spans (month_start (home_of problem c.args.k).days) timeline =
-    subst (λ n. IsDraft pairs spans n timeline) c.month_start_of.ensures
-    (subst (λ (s : List Span). IsDraft pairs s c.month_start_of.result timeline) c.deref.ensures.value c.in_ok-timeline.ensures) in
+    let offs : List DaysOff = c.in_ok-offs.offs.items in
+    let start : DaysOff = c.in_ok-start.start in
+    let are_offs : AreOffs problem c.args.k spans offs =
+    subst (λ (s : List Span). AreOffs problem c.args.k s offs) c.deref.ensures.value c.in_ok-offs.ensures in
+    let draft : IsDraft pairs spans offs start (month_start (home_of problem c.args.k).days) timeline =
+    subst (λ n. IsDraft pairs spans offs start n timeline) c.month_start_of.ensures
+    (subst (λ (s : List Span). IsDraft pairs s offs start c.month_start_of.result timeline) c.deref-2.ensures.value c.in_ok-timeline.ensures) in
     let whole : IsWhole timeline spans =
-    subst (IsWhole timeline) c.deref-2.ensures.value (c.is_whole.ensures c.if-not-is_whole.false) in
-    drafted problem c.args.k pairs spans timeline sound.ordered sound.timed parts c.requires.pairs spanned draft whole
+    subst (IsWhole timeline) c.deref-3.ensures.value (c.is_whole.ensures c.if-not-is_whole.false) in
+    drafted problem c.args.k pairs spans timeline sound.ordered sound.timed parts c.requires.pairs spanned offs start are_offs c.in_ok-start.ensures draft whole

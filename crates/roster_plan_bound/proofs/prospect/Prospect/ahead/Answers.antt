@@ -15,7 +15,7 @@ loop-i-init c =
     subst (IsWithin MOST_SHORT) is.is_short is.small in
     let low = subst (λ v. IsLeastPath v.problem v.person v.timeline v.units (neg_ℤ (pos MOST_LEAST))) c.self.view_is
     (gain_low inner.problem.now inner.prices.now inner.person inner.timeline.now inner.units.items is.are_units sound.pairings sound.weight away) in
-    λ before rest of begun class brought flown. low _ of
+    λ before rest of begun class owed brought flown. low _ of
 
 pub ahead-requires-clause-rows : goal.ahead-requires-clause-rows
 ahead-requires-clause-rows c =
@@ -23,7 +23,7 @@ ahead-requires-clause-rows c =
     let own = IsTable inner.problem.now inner.person inner.timeline.now inner.units.items in
     let table : own c.index.result.now =
     subst own (sym c.index.ensures) (c.self.invariant.are_tables c.loop-i.i c.index.result.now (omega (arith, c.loop-i-test.true, c.len-i-end.ensures, inner.tables.ok.0))) in
-    rows_within inner.problem.now inner.person inner.timeline.now inner.units.items c.index.result.now table
+    rows_within inner.problem.now inner.person inner.timeline.now inner.units.items c.index.result.now table c.args.need
 
 pub loop-i-preserved : goal.loop-i-preserved
 loop-i-preserved c =
@@ -33,15 +33,15 @@ loop-i-preserved c =
     subst own (sym c.index.ensures) (c.self.invariant.are_tables c.loop-i.i c.index.result.now (omega (arith, c.loop-i-test.true, c.len-i-end.ensures, inner.tables.ok.0))) in
     let place : c.args.q < length inner.problem.now.pairings =
     subst (λ v. c.args.q < length v.problem.pairings) (sym c.self.view_is) c.requires.pairing in
-    let ahead = subst (λ v. IsAhead v.problem v.person v.timeline v.units (to_z w64 (of_z w64 c.args.value)) c.args.flight c.args.q c.args.class c.ahead.result) c.self.view_is
-    (ahead_below inner.problem.now inner.person inner.timeline.now inner.units.items c.index.result.now (to_z w64 (of_z w64 c.args.value)) c.args.flight c.args.q c.args.class c.ahead.result table place c.ahead.ensures.value) in
+    let ahead = subst (λ v. IsAhead v.problem v.person v.timeline v.units (to_z w64 (of_z w64 c.args.value)) c.args.flight c.args.q c.args.class c.args.need c.ahead.result) c.self.view_is
+    (ahead_below inner.problem.now inner.person inner.timeline.now inner.units.items c.index.result.now (to_z w64 (of_z w64 c.args.value)) c.args.flight c.args.q c.args.class c.args.need c.ahead.result table place c.ahead.ensures.value) in
     let fits : FitsSigned w64 c.greater-least.result = search rules in
     let told = to_z-of_z w64 c.greater-least.result fits in
     let ahead_told = told_in MOST_SUM c.ahead.result c.ahead.ensures.within (omega arith) in
     let one = c.greater-least.ensures in
-    λ before rest of begun class brought flown.
-    let here = ahead before rest of begun class brought flown in
-    let known = c.loop-i.invariant before rest of begun class brought flown in
+    λ before rest of begun class owed brought flown.
+    let here = ahead before rest of begun class owed brought flown in
+    let known = c.loop-i.invariant before rest of begun class owed brought flown in
     elim one [
       | inl same ↦ omega (arith, ints, told, same, known, c.loop-i.least-is)
       | inr more ↦ omega (arith, ints, told, more, ahead_told, here)
@@ -49,5 +49,5 @@ loop-i-preserved c =
 
 pub returns : goal.returns
 returns c =
-    subst (λ v. IsAhead c.args.self.now.problem c.args.self.now.person c.args.self.now.timeline c.args.self.now.units v c.args.flight c.args.q c.args.class (to_z w64 c.loop-i.least-bits)) (to_z-of_z w64 c.args.value c.ranges.value)
-    (λ before rest of begun class brought flown. let known = c.loop-i.invariant before rest of begun class brought flown in omega (arith, ints, known, c.loop-i.least-is))
+    subst (λ v. IsAhead c.args.self.now.problem c.args.self.now.person c.args.self.now.timeline c.args.self.now.units v c.args.flight c.args.q c.args.class c.args.need (to_z w64 c.loop-i.least-bits)) (to_z-of_z w64 c.args.value c.ranges.value)
+    (λ before rest of begun class owed brought flown. let known = c.loop-i.invariant before rest of begun class owed brought flown in omega (arith, ints, known, c.loop-i.least-is))

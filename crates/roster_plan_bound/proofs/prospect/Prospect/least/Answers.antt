@@ -3,7 +3,7 @@ use Rattle.std.proofs.lemmas.Int.{ints, to_z-of_z}
 use Rattle.roster_cost.specs.Amounts.{IsWithin}
 use Rattle.roster_plan_bound.specs.declared.parts.TheConstants.{MOST_LEAST, MOST_SHORT}
 use Rattle.roster_plan_bound.specs.Prospects.{short_of, IsLeastPath, IsTable}
-use Rattle.roster_plan_bound.proofs.ProspectLemmas.{begun_below, gain_low, tails_within, told_in}
+use Rattle.roster_plan_bound.proofs.ProspectLemmas.{begun_below, gain_low, told_in}
 use Rattle.roster_plan_bound.proofs.prospect.Prospect.least.Goals as goal
 
 pub loop-i-init : goal.loop-i-init
@@ -19,13 +19,13 @@ loop-i-init c =
       within = (omega (arith, ints), omega (arith, ints));
     }
 
-pub begun-requires-clause-tails : goal.begun-requires-clause-tails
-begun-requires-clause-tails c =
+pub begun-requires-clause-begun : goal.begun-requires-clause-begun
+begun-requires-clause-begun c =
     let inner = c.self.inside in
     let own = IsTable inner.problem.now inner.person inner.timeline.now inner.units.items in
     let table : own c.index.result.now =
     subst own (sym c.index.ensures) (c.self.invariant.are_tables c.loop-i.i c.index.result.now (omega (arith, c.loop-i-test.true, c.len-i-end.ensures, inner.tables.ok.0))) in
-    tails_within inner.problem.now inner.person inner.timeline.now inner.units.items c.index.result.now table
+    table.behind.within
 
 pub loop-i-preserved : goal.loop-i-preserved
 loop-i-preserved c =

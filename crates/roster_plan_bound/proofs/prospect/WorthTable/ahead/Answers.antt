@@ -1,5 +1,5 @@
-use Rattle.std.proofs.Common.{◌≡◌, ℕ, ◌+◌, ◌*◌, ◌≤◌, ℤ, pos, ◌+ℤ◌, ◌*ℤ◌, ◌<◌, ◌^◌, FitsSigned, w64, to_z, of_z, List, [], length, get_or, inl, inr, arith, ap, ◌∙◌, subst, sym}
-use Rattle.std.specs.Prelude.{All, slice_index_or}
+use Rattle.std.proofs.Common.{◌≡◌, ℕ, ◌+◌, ◌*◌, ◌≤◌, ℤ, pos, ◌+ℤ◌, ◌*ℤ◌, ◌<◌, ◌^◌, FitsSigned, w64, to_z, of_z, List, Some, length, get_or, inl, inr, arith, ap, ◌∙◌, subst, sym}
+use Rattle.std.specs.Prelude.{All, slice_get}
 use Rattle.std.proofs.lemmas.Bool.{cases_lt}
 use Rattle.std.proofs.lemmas.Int.{ints}
 use Rattle.std.proofs.lemmas.List.{get_or_past}
@@ -7,7 +7,8 @@ use Rattle.std.proofs.lemmas.Option.{get_or_from_slice_get, slice_get-get_or}
 use Rattle.roster_model.specs.declared.limits.TheConstants.{MOST_PAIRINGS}
 use Rattle.roster_cost.specs.Amounts.{IsWithin}
 use Rattle.roster_plan_bound.specs.declared.parts.TheConstants.{MOST_BEHIND, MOST_CHAIN_VALUE, MOST_FLIGHT, MOST_LEAST, MOST_SUM, MOST_WORTH}
-use Rattle.roster_plan_bound.specs.Behinds.{lowest, row_at}
+use Rattle.roster_plan_bound.specs.declared.rows_behind.OwedRows.{OwedRows}
+use Rattle.roster_plan_bound.specs.Behinds.{lowest, row_at, row_for}
 use Rattle.roster_plan_bound.proofs.ProspectLemmas.{fits_in, pos_within, times_within, told_in}
 use Rattle.roster_plan_bound.proofs.RowLemmas.{within-more}
 use Rattle.roster_plan_bound.proofs.prospect.WorthTable.ahead.Goals as goal
@@ -70,16 +71,14 @@ overflow_add-result-2 c =
     fits_both (value +ℤ (worth *ℤ pos flight)) c.args.self.now.fixed MOST_BEHIND MOST_LEAST _ (brought_within value worth flight r.value r.worth r.flight) r.fixed (brought_told value worth flight r.value r.worth r.flight) (omega arith) (omega arith)
 
 -- the row, as it is read
-row_is : (c : goal.After-at) → c.index.result.now ≡ slice_index_or c.args.self.now.behind.rows.items c.args.q []
-row_is c =
-    let rows = c.args.self.now.behind.rows.items in
-    let row = c.index.result.now in
-    c.index.ensures
-    ∙ sym (get_or_from_slice_get rows c.args.q (get_or rows c.args.q row) [] (slice_get-get_or rows c.args.q row c.requires.pairing))
-
-amount_is : (c : goal.After-at)
-    → c.at.result ≡ row_at (slice_index_or c.args.self.now.behind.rows.items c.args.q []) c.args.class
-amount_is c = c.at.ensures.value ∙ ap (λ row. row_at row c.args.class) (row_is c)
+amount_is : (c : goal.After-at) (rows : OwedRows) → slice_get c.args.self.now.behind.rows.items c.args.q ≡ Some rows
+    → c.at.result ≡ row_at (row_for rows c.args.need) c.args.class
+amount_is c rows at =
+    let all = c.args.self.now.behind.rows.items in
+    let found : c.index.result.now ≡ rows =
+    c.index.ensures ∙ get_or_from_slice_get all c.args.q rows c.index.result.now at in
+    c.at.ensures.value
+    ∙ ap (λ row. row_at row c.args.class) (c.row.ensures ∙ ap (λ r. row_for r c.args.need) found)
 
 amount_within : (row : List ℤ) (class : ℕ) → All (IsWithin MOST_BEHIND) row → IsWithin MOST_BEHIND (row_at row class)
 amount_within row class within =
@@ -90,8 +89,11 @@ amount_within row class within =
 
 row_within : (c : goal.After-at) → IsWithin MOST_BEHIND c.at.result
 row_within c =
-    subst (IsWithin MOST_BEHIND) (sym (amount_is c))
-    (amount_within (slice_index_or c.args.self.now.behind.rows.items c.args.q []) c.args.class (c.requires.rows c.args.q [] c.requires.pairing))
+    let all = c.args.self.now.behind.rows.items in
+    let rows = c.index.result.now in
+    let at = slice_get-get_or all c.args.q rows c.requires.pairing in
+    subst (IsWithin MOST_BEHIND) (sym (amount_is c (get_or all c.args.q rows) at))
+    (amount_within (row_for (get_or all c.args.q rows) c.args.need) c.args.class (c.requires.rows c.args.q rows c.requires.pairing))
 
 -- what is brought, with what stands beside it
 there : (c : goal.After-at) → IsWithin (MOST_BEHIND + MOST_LEAST) ((c.args.value +ℤ (c.args.self.now.worth *ℤ pos c.args.flight)) +ℤ c.args.self.now.fixed)
@@ -113,8 +115,8 @@ whole_told c =
     told_both ((c.args.value +ℤ (c.args.self.now.worth *ℤ pos c.args.flight)) +ℤ c.args.self.now.fixed) c.at.result (MOST_BEHIND + MOST_LEAST) MOST_BEHIND _ (there c) (row_within c) (there_told c) (omega arith) (omega arith)
 
 pub returns-clause-value : goal.returns-clause-value
-returns-clause-value c =
-    whole_told c ∙ ap (λ z. ((c.args.value +ℤ (c.args.self.now.worth *ℤ pos c.args.flight)) +ℤ c.args.self.now.fixed) +ℤ z) (amount_is c)
+returns-clause-value c rows at =
+    whole_told c ∙ ap (λ z. ((c.args.value +ℤ (c.args.self.now.worth *ℤ pos c.args.flight)) +ℤ c.args.self.now.fixed) +ℤ z) (amount_is c rows at)
 
 pub returns-clause-within : goal.returns-clause-within
 returns-clause-within c =
