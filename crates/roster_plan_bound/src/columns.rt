@@ -1,4 +1,4 @@
-//! Columns: the chains of a person that cost little at some prices. Nothing rests on them.
+//! Columns: the legal sets of a person that cost little at some prices. Nothing rests on them.
 
 use crate::lists::{amount_at, place_at};
 use crate::softness::{share_of, weight_of};
@@ -6,7 +6,7 @@ use crate::tuning::FINE;
 use roster_values::Set;
 use std::alloc::{AllocError, Global};
 
-/// The chains of one person that are known, one behind another.
+/// The legal sets of one person that are known, one behind another.
 #[derive(Drop)]
 pub(crate) struct Columns {
     // For each column what it costs without prices, in parts of a cost unit, and where its pairings end.
@@ -19,8 +19,6 @@ pub(crate) struct Columns {
     pub(crate) worth: i64,
     /// How far the other tables are from it; nothing before the first ones.
     pub(crate) step: i64,
-    /// Whether they are lines. Of a chain it is only known that its neighbours are legal together.
-    pub(crate) sets: bool,
 }
 
 impl Columns {
@@ -33,15 +31,6 @@ impl Columns {
             reach,
             worth: 0,
             step: 0,
-            sets: false,
-        }
-    }
-
-    /// None so far, which are to be lines.
-    pub(crate) fn of_sets(alloc: Global, reach: i64) -> Columns {
-        Columns {
-            sets: true,
-            ..Columns::new(alloc, reach)
         }
     }
 
@@ -105,21 +94,11 @@ impl Columns {
         value
     }
 
-    /// Adds the columns of another list that cost more than so much at the prices, as many as there is room
-    /// for.
-    pub(crate) fn keep_above(
-        &mut self,
-        others: &Columns,
-        prices: &[i64],
-        least: i64,
-        most: usize,
-    ) -> Result<(), AllocError> {
-        for i in 0..others.len() {
-            if self.len() < most && others.value(i, prices) > least {
-                self.push(others.places(i), amount_at(&others.costs, i))?;
-            }
-        }
-        Ok(())
+    /// How many cost no more than so much at the prices.
+    pub(crate) fn within(&self, prices: &[i64], most: i64) -> usize {
+        (0..self.len())
+            .filter(|i| self.value(*i, prices) <= most)
+            .count()
     }
 
     /// Adds the columns of another list that it hasn't.
@@ -155,7 +134,7 @@ impl Columns {
         most: usize,
     ) -> Result<Columns, AllocError> {
         let limit = self.value_behind(alloc, prices, most)?;
-        let mut kept = Columns::of_sets(alloc, self.reach);
+        let mut kept = Columns::new(alloc, self.reach);
         kept.worth = self.worth;
         kept.step = self.step;
         for i in 0..self.len() {

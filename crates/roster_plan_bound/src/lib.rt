@@ -1,10 +1,11 @@
 //! What no roster of a base costs less than, however many legal sets there are.
 //!
 //! In a roster of a base only its persons fly, so the pairings of other bases are open. At any prices of
-//! pairings it costs the reduced costs of its lines, and the price or the penalty of each pairing. Each line
-//! of a person is a chain of pairings of which each is legal with the one before, so the cheapest chain costs
-//! no more than any line; and a table over pairings and the flight so far has it, whatever the number of
-//! lines. In reading order:
+//! pairings it costs the reduced costs of its lines, and the price or the penalty of each pairing. Of each
+//! person labels find lines that cost little, and the least of them is a claim. Tables say what may stand
+//! behind a pairing at least, by the rests and days off that are still due, and a search that they lead shows
+//! the claim: it finds no line that costs less. A table of chains, of which each pairing is legal with the one
+//! before, says less, and serves gaps. In reading order:
 //!
 //! - `parts`: amounts in parts of a cost unit
 //! - `network`: which pairings may follow one another
@@ -17,14 +18,14 @@
 //! - `behind`: what the pairings that may stand behind one bring at least
 //! - `prospect`: what the paths of a person bring at some prices
 //! - `terms`: what flight costs at the end of a chain
-//! - `rows`: the table
-//! - `columns`: chains that are known
-//! - `listing`: how they are listed
+//! - `rows`: the table of chains
+//! - `columns`: legal sets that are known
 //! - `seek`: a search for the path that brings the least
-//! - `sets`: legal sets, listed
+//! - `labels`: legal sets that cost little, found in order of time
+//! - `sets`: what legal sets bring at least
 //! - `persons`: looks at each person of a base, shared among threads
 //! - `pricing`: what prices say of the rosters of a base
-//! - `master`: the best prices for the chains that are known
+//! - `master`: the best prices for the legal sets that are known
 //! - `softness`: weights and logarithms in whole numbers
 //! - `start`: the prices that looks begin with
 //! - `pace`: how prices move from one look to the next
@@ -39,8 +40,8 @@ mod columns;
 mod days_off;
 mod draft;
 mod gap;
+mod labels;
 mod leading;
-mod listing;
 mod lists;
 mod master;
 mod network;

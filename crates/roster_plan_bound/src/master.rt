@@ -1,4 +1,4 @@
-//! The best prices for the chains that are known: the linear program of these columns, nearly. Nothing rests
+//! The best prices for the legal sets that are known: the linear program of these columns, nearly. Nothing rests
 //! on them.
 
 ghost use Rattle.std.specs.Prelude.{◌<◌};

@@ -13,7 +13,7 @@ use std::thread::{Threads, for_each_mut};
 /// What looks know of a person.
 #[derive(Drop)]
 pub(crate) struct Seen {
-    /// The chains that are known.
+    /// The legal sets that are known.
     pub(crate) columns: Columns,
     /// What the last look says that reduced costs are at least, in parts of a cost unit.
     pub(crate) least: Result<i64, AllocError>,

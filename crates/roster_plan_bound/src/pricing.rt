@@ -14,7 +14,6 @@ ghost use Rattle.roster_plan_bound.specs.Reduced.{shares_behind, ArePrices, IsLe
 ghost use Rattle.roster_plan_bound.specs.Timelines.{IsTimeline};
 
 use crate::columns::Columns;
-use crate::listing::renew_at;
 use crate::network::{Network, network_of};
 use crate::parts::{MOST_CHAIN_VALUE, MOST_LEAST, MOST_PLAN_PRICE, MOST_SUM, PARTS};
 use crate::persons::{Seen, look_at_all};
@@ -229,7 +228,8 @@ impl<'a> Pricing<'a> {
     }
 }
 
-/// No line of person `k`, whose network and timeline these are, has a lower reduced cost at the prices.
+/// No line of person `k`, whose network and timeline these are, has a lower reduced cost at the prices. If the
+/// timeline says nothing, chains do.
 fn least_of(
     alloc: Global,
     problem: &Problem,
@@ -245,15 +245,14 @@ fn least_of(
     requires prices { ArePrices problem.now prices.now }
     ensures { IfOk result (IsLeastOf problem.now prices.now k) }
 {
-    let values = values_of(alloc, problem, k, prices)?;
-    let rows = rows_of(alloc, problem, k, network, &values)?;
-    let chain = least_chain(alloc, problem, k, network, prices, &values, &rows)?;
-    if columns.sets {
-        let least = least_set(alloc, problem, k, timeline, prices, chain, columns)?;
+    let least = least_set(alloc, problem, k, timeline, prices, columns)?;
+    if let Some(least) = least {
         return Ok(least);
     }
-    renew_at(alloc, network, prices, &values, &rows, chain, columns)?;
-    Ok(chain)
+    let values = values_of(alloc, problem, k, prices)?;
+    let rows = rows_of(alloc, problem, k, network, &values)?;
+    let least = least_chain(alloc, problem, k, network, prices, &values, &rows)?;
+    Ok(least)
 }
 
 /// What a chain of person `k` brings at least. No line has a lower reduced cost.

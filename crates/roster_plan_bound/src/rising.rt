@@ -16,7 +16,6 @@ use crate::pace::Pace;
 use crate::parts::{MOST_PLAN_PRICE, PARTS};
 use crate::persons::{Seen, unseen};
 use crate::pricing::{Priced, Pricing};
-use crate::sets::turn_to_sets;
 use crate::start::start_prices;
 use crate::tuning::MOST_IDLE;
 use roster_bases::{is_pairing_of, persons_of};
@@ -46,8 +45,6 @@ pub struct PricedBound<'a> {
     pace: Pace,
     // How many looks in a row have said no more in whole cost units.
     idle: u32,
-    // Whether looks list lines and no longer chains.
-    sets: bool,
 }
 
 impl<'a> Model for PricedBound<'a> {
@@ -94,11 +91,10 @@ impl<'a> PricedBound<'a> {
         self.bound
     }
 
-    /// Raises the bound by so many looks at other prices. Each look lists the chains that cost least, and the
-    /// next prices are the best ones for all chains that are known: column generation, with prices kept near
-    /// those of the best look. If many looks in a row say no more, looks list lines from then on. It ends
-    /// before so many looks if many in a row say no more by lines too, or if the bound is what a known roster
-    /// costs. So many threads at most share the persons of a look, and each number of them gives the same
+    /// Raises the bound by so many looks at other prices. Each look lists legal sets that cost little, and the
+    /// next prices are the best ones for all that are known: column generation, with prices kept near those of
+    /// the best look. It ends before so many looks if many in a row say no more, or if the bound is what a known
+    /// roster costs. So many threads at most share the persons of a look, and each number of them gives the same
     /// bound.
     pub fn raise<R: Threads + Sync>(
         &mut self,
@@ -117,14 +113,14 @@ impl<'a> PricedBound<'a> {
             if self.is_done(known) {
                 break;
             }
-            self.look_on(rt, alloc, threads)?;
+            self.step(rt, alloc, threads)?;
         }
         Ok(())
     }
 
     /// Whether `raise` looks no more: the bound is what a known roster costs, or looks say no more.
     pub fn is_done(&self, known: i64) -> bool {
-        self.bound >= known || (self.sets && self.idle >= MOST_IDLE)
+        self.bound >= known || self.idle >= MOST_IDLE
     }
 
     /// For the rosters in which only persons of the base fly: the lines that each of them may have in a legal
@@ -179,7 +175,6 @@ impl<'a> PricedBound<'a> {
             parts: look.parts,
             pace: Pace::first(),
             idle: 0,
-            sets: false,
         })
     }
 
@@ -199,25 +194,6 @@ impl<'a> PricedBound<'a> {
         let wanted = start_prices(alloc, self.pricing, self.base, &self.persons)?;
         let prices = limited(alloc, problem, &wanted)?;
         self.look(rt, alloc, threads, prices)
-    }
-
-    /// Looks once more: by lines from now on, if many looks in a row have said no more.
-    fn look_on<R: Threads + Sync>(
-        &mut self,
-        rt: &R,
-        alloc: Global,
-        threads: usize,
-    ) -> Result<(), AllocError>
-        requires { 0 < threads }
-        ensures problem { self.new.problem ≡ self.old.problem }
-        ensures base { self.new.base ≡ self.old.base }
-        ensures raised { self.old.bound ≤ℤ self.new.bound }
-    {
-        if self.idle >= MOST_IDLE {
-            self.turn(rt, alloc, threads)
-        } else {
-            self.step(rt, alloc, threads)
-        }
     }
 
     /// Looks at the next prices, and takes them if they say more.
@@ -245,28 +221,6 @@ impl<'a> PricedBound<'a> {
         )?;
         let prices = limited(alloc, problem, &wanted)?;
         self.look(rt, alloc, threads, prices)
-    }
-
-    /// Looks at the best prices again, from now on by lines.
-    fn turn<R: Threads + Sync>(
-        &mut self,
-        rt: &R,
-        alloc: Global,
-        threads: usize,
-    ) -> Result<(), AllocError>
-        requires { 0 < threads }
-        ensures problem { self.new.problem ≡ self.old.problem }
-        ensures base { self.new.base ≡ self.old.base }
-        ensures raised { self.old.bound ≤ℤ self.new.bound }
-    {
-        turn_to_sets(alloc, &mut self.seen);
-        self.sets = true;
-        let mut prices = Vec::new(alloc);
-        prices.extend_from_slice(&self.prices)?;
-        self.look(rt, alloc, threads, prices)?;
-        self.idle = 0;
-        self.pace = Pace::first();
-        Ok(())
     }
 
     /// Looks at the prices, and takes them if they say more.

@@ -3,7 +3,7 @@
 //! A search goes on from a path to each pairing that may stand behind it, unless what the tables say of it is
 //! no less than what is known already.
 
-ghost use Rattle.std.specs.Prelude.{◌≡◌, ◌<◌, ◌≤ℤ◌, ℕ, true, length, FitsSigned, IfOk, Some};
+ghost use Rattle.std.specs.Prelude.{◌≡◌, ◌<◌, ◌≤ℤ◌, ℕ, ℤ, true, length, FitsSigned, IfOk, Some};
 ghost use Rattle.std.specs.Int.{w64};
 ghost use Rattle.roster_model.specs.Rules.{is_among};
 ghost use Rattle.roster_plan_bound.specs.Prospects.{IsLeastPath};
@@ -13,7 +13,7 @@ ghost use Rattle.roster_plan_bound.specs.Seeks.{IsNextSpot, IsOnward, IsSpot};
 use crate::columns::Columns;
 use crate::prospect::Prospect;
 use crate::timeline::Timeline;
-use crate::tuning::MOST_FOUND;
+use crate::tuning::MOST_LISTED;
 use roster_legal::{Judge, part_of_legal_is_legal};
 use roster_model::limits::MOST_PAIRINGS;
 use roster_values::Set;
@@ -23,43 +23,41 @@ use std::alloc::AllocError;
 #[derive(Clone, Copy)]
 pub(crate) struct End {
     /// Since the instant of this class no recurrent rest lies before it.
-    class: usize,
+    pub(crate) class: usize,
     /// What the path's pairings bring.
-    value: i64,
+    pub(crate) value: i64,
     /// Their minutes of flight.
-    flight: u64,
+    pub(crate) flight: u64,
     /// How many pairs of days off still have to come from the last pairing on, if there is one.
-    need: usize,
+    pub(crate) need: usize,
 }
 
 /// Where a search has come to: a path.
 #[derive(Clone, Copy)]
 pub(crate) struct Spot {
     /// The path's pairings.
-    set: Set,
+    pub(crate) set: Set,
     /// The last one of them, if there is one.
     last: Option<usize>,
     /// Its end.
-    end: End,
+    pub(crate) end: End,
     /// The pairings that may stand behind.
-    may: Set,
+    pub(crate) may: Set,
     /// How many of them, at most.
-    room: usize,
+    pub(crate) room: usize,
 }
 
-/// The paths that bring little, as a search finds them.
+/// What a search may still do, and what it found.
 #[derive(Drop)]
 pub(crate) struct Listing {
     /// From how many paths the search may still go on.
     pub(crate) left: u32,
-    /// How far above the least that is known a path may be, in parts of a cost unit.
-    pub(crate) reach: i64,
-    /// Those that were so near when they were found, as many as there is room for.
+    /// The paths that brought no more than the least that was known, as many as there is room for.
     pub(crate) found: Columns,
 }
 
 /// Lowers `least` to the least that a path brings, in parts of a cost unit: the empty one brings 0. Or says
-/// false if there is too much to look at. Lists the paths that are near. Fails if memory for the list, or for
+/// false if there is too much to look at. Lists paths that lower it. Fails if memory for the list, or for
 /// a duty list, runs out.
 pub(crate) fn seek_all(
     prospect: &Prospect<'_>,
@@ -74,9 +72,19 @@ pub(crate) fn seek_all(
     ensures least { IfOk result (λ all. all ≡ true → IsLeastPath prospect.now.problem prospect.now.person
         prospect.now.timeline prospect.now.units least.new) }
 {
+    let root = start_of(prospect);
+    seek(prospect, judge, &root, least, listing)
+}
+
+/// The spot with which each path begins: no pairing so far.
+pub(crate) fn start_of(prospect: &Prospect<'_>) -> Spot
+    ensures spot { IsSpot prospect.now result }
+    ensures all { (least : ℤ) → IsLeastFrom prospect.now result least → IsLeastPath prospect.now.problem
+        prospect.now.person prospect.now.timeline prospect.now.units least }
+{
     part_of_legal_is_legal();
     prospect.problem().is_sound();
-    let root = Spot {
+    Spot {
         set: Set::empty(),
         last: None,
         end: End {
@@ -87,8 +95,7 @@ pub(crate) fn seek_all(
         },
         may: prospect.timeline().alone,
         room: MOST_PAIRINGS,
-    };
-    seek(prospect, judge, &root, least, listing)
+    }
 }
 
 /// Lowers `least` to the least that a path brings which begins with the spot, or says false, as `seek_all`.
@@ -117,8 +124,7 @@ fn seek(
     listing.left -= 1;
     let mut from = 0;
     while let Some(q) = spot.may.first_from(from) {
-        let limit = limit_above(*least, listing.reach);
-        if let Some(next) = onward(prospect, judge, spot, q, limit)? {
+        if let Some(next) = onward(prospect, judge, spot, q, *least)? {
             if !seek(prospect, judge, &next, least, listing)? {
                 return Ok(false);
             }
@@ -142,7 +148,7 @@ fn lower(prospect: &Prospect<'_>, spot: &Spot, least: &mut i64)
     }
 }
 
-/// Lists the path if it is near the least that is known, and there is room.
+/// Lists the path if it brings no more than the least that is known, and there is room.
 fn keep(
     prospect: &Prospect<'_>,
     spot: &Spot,
@@ -152,18 +158,10 @@ fn keep(
     requires { IsSpot prospect.now spot.now }
 {
     let gain = spot.end.value.wrapping_add(prospect.term(spot.end.flight));
-    if gain > limit_above(least, listing.reach) || listing.found.len() >= MOST_FOUND {
+    if gain > least || listing.found.len() >= MOST_LISTED {
         return Ok(());
     }
     listing.found.push_gain(&spot.set, gain, prospect.prices())
-}
-
-/// The number that is so far above the least one, or the least one itself.
-fn limit_above(least: i64, reach: i64) -> i64
-    ensures { least ≤ℤ result }
-{
-    let limit = least.saturating_add(reach);
-    if limit < least { least } else { limit }
 }
 
 /// The spot with pairing `q` behind, if a path that begins so may be legal, and bring less than `least`.
@@ -199,7 +197,7 @@ fn onward(
 }
 
 /// The end of the path with pairing `q` behind.
-fn end_with(prospect: &Prospect<'_>, spot: &Spot, q: usize) -> End
+pub(crate) fn end_with(prospect: &Prospect<'_>, spot: &Spot, q: usize) -> End
     requires spot { IsSpot prospect.now spot.now }
     requires may { is_among spot.now.may q ≡ true }
     ensures { IsEndWith prospect.now spot.now q result }
@@ -214,7 +212,7 @@ fn end_with(prospect: &Prospect<'_>, spot: &Spot, q: usize) -> End
 }
 
 /// The spot with pairing `q` behind, at which its path ends.
-fn spot_with(prospect: &Prospect<'_>, spot: &Spot, q: usize, end: End) -> Spot
+pub(crate) fn spot_with(prospect: &Prospect<'_>, spot: &Spot, q: usize, end: End) -> Spot
     requires spot { IsSpot prospect.now spot.now }
     requires room { 0 < spot.now.room }
     requires may { is_among spot.now.may q ≡ true }

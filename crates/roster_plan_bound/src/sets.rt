@@ -1,63 +1,51 @@
-//! Legal sets that cost little, listed.
+//! What legal sets bring at least.
 //!
-//! Of a chain it is only known that its neighbours are legal together, and the cheapest one may cost far less
-//! than any line does. So tables that know of recurrent rests say what lines cost at least, and a search that
-//! they lead lists the lines near the least one: if it comes to its end, no line costs less than that.
+//! Labels find sets that bring little, and the least of them is a claim. Tables that know of recurrent rests and
+//! days off lead a search for a set that brings less. If it comes to its end, there is none.
 
 ghost use Rattle.std.specs.Prelude.{◌≡◌, ◌<◌, ◌≤ℤ◌, ◌⊎◌, IfOk, IfSome, MatchOption, length};
 ghost use Rattle.roster_plan_bound.specs.Reduced.{ArePrices, IsLeastOf};
 ghost use Rattle.roster_plan_bound.specs.Timelines.{IsTimeline};
 
 use crate::columns::Columns;
+use crate::labels::{Labelled, label_all};
 use crate::parts::{MOST_LEAST, PARTS};
-use crate::persons::Seen;
 use crate::prospect::Prospect;
 use crate::seek::{Listing, seek_all};
 use crate::timeline::Timeline;
 use crate::tuning::{
-    FEWEST_COLUMNS, FIRST_REACH_OF_SETS, LEAST_REACH, MOST_CLAIMS, MOST_FOUND, MOST_KEPT,
-    MOST_KNOWN, MOST_LISTS, MOST_REACH, MOST_VISITS, WORTH_STEPS,
+    FEWEST_LISTED, LEAST_REACH, MANY_LISTED, MOST_CLAIMS, MOST_COLUMNS, MOST_KEPT, MOST_KNOWN,
+    MOST_REACH, MOST_VISITS, WORTH_STEPS,
 };
 use roster_legal::Judge;
 use roster_problem::Problem;
 use std::alloc::{AllocError, Global};
 
-/// Forgets the chains that are known: from now on columns are lines.
-pub(crate) fn turn_to_sets(alloc: Global, seen: &mut [Seen])
-    ensures { length seen.new ≡ length seen.old }
-{
-    for k in 0..seen.len() {
-        seen[k].columns = Columns::of_sets(alloc, FIRST_REACH_OF_SETS);
-    }
-}
-
-/// No line of person `k`, whose timeline it is, has a lower reduced cost at the prices; none has a lower one
-/// than `chain`. The columns get lines that cost little. Without a timeline nothing else is known.
+/// No line of person `k`, whose timeline it is, has a lower reduced cost at the prices. The columns get lines
+/// that cost little. Nothing is known without a timeline, or if the fixed flight is too far from the target.
 pub(crate) fn least_set(
     alloc: Global,
     problem: &Problem,
     k: usize,
     timeline: &Option<Timeline>,
     prices: &[i64],
-    chain: i64,
     columns: &mut Columns,
-) -> Result<i64, AllocError>
+) -> Result<Option<i64>, AllocError>
     requires person { k < length problem.now.persons }
     requires timeline { IfSome timeline.now (IsTimeline problem.now k) }
     requires prices { ArePrices problem.now prices.now }
-    requires chain { IsLeastOf problem.now prices.now k chain }
-    ensures { IfOk result (IsLeastOf problem.now prices.now k) }
+    ensures { IfOk result (λ found. IfSome found (IsLeastOf problem.now prices.now k)) }
 {
     let Some(timeline) = timeline else {
-        return Ok(chain);
+        return Ok(None);
     };
     let Some(mut prospect) = Prospect::new(alloc, problem, k, timeline, prices)? else {
-        return Ok(chain);
+        return Ok(None);
     };
     add_tables(alloc, problem, &mut prospect, columns)?;
-    let tabled = better(chain, Some(prospect.least()));
-    let least = least_in_lists(alloc, &prospect, tabled, columns)?;
-    Ok(least)
+    let tabled = prospect.least();
+    let least = least_by_labels(alloc, &prospect, tabled, columns)?;
+    Ok(Some(least))
 }
 
 /// Makes tables at what a minute of flight was worth to the best one before, and at a step less and more. The
@@ -87,13 +75,14 @@ fn add_tables(
     } else {
         step.wrapping_mul(2).min(longest)
     }
+    .max(weight / (4 * WORTH_STEPS))
     .max(1);
     Ok(())
 }
 
-/// What lists say that no line of the person is below, if it is more than `known`. The first one reaches as far
-/// as the columns' reach, and the next ones further or less far; the columns get the lines of the last one.
-fn least_in_lists(
+/// What searches show that no line of the person is below, if it is more than `known`: what labels find to be
+/// the least, or something between. The columns get what labels find.
+fn least_by_labels(
     alloc: Global,
     prospect: &Prospect<'_>,
     known: i64,
@@ -102,29 +91,25 @@ fn least_in_lists(
     requires { IsLeastOf prospect.now.problem prospect.now.prices prospect.now.person known }
     ensures { IfOk result (IsLeastOf prospect.now.problem prospect.now.prices prospect.now.person) }
 {
-    let first = columns.reach.clamp(LEAST_REACH, MOST_REACH);
     let mut judge = Judge::new(alloc, prospect.problem());
-    let mut least = known;
-    let mut reach = first;
-    let mut claim = columns.least_value(prospect.prices());
-    let mut listing = listing_of(alloc, reach);
-    for _ in 0..MOST_LISTS {
-        listing = listing_of(alloc, reach);
-        let found = list(prospect, &mut judge, claim, &mut listing)?;
-        least = better(least, found);
-        claim = claim.min(listing.found.least_value(prospect.prices()));
-        let many = match found {
-            Some(_) => listing.found.len(),
-            None => usize::MAX,
-        };
-        let Some(next) = next_reach(first, reach, many) else {
-            break;
-        };
-        reach = next;
+    let reach = columns.reach.clamp(LEAST_REACH, MOST_REACH);
+    let mut labelled = Labelled {
+        least: columns.least_value(prospect.prices()),
+        reach,
+        found: Columns::new(alloc, reach),
+    };
+    label_all(alloc, prospect, &mut judge, &mut labelled)?;
+    let mut listing = listing_of(alloc);
+    let found = shown(prospect, &mut judge, labelled.least, &mut listing)?;
+    labelled.found.join(&listing.found)?;
+    let claim = labelled
+        .least
+        .min(listing.found.least_value(prospect.prices()));
+    renew(alloc, &labelled, prospect.prices(), columns)?;
+    match found {
+        Some(_) => Ok(better(known, found)),
+        None => least_claimed(alloc, prospect, known, claim),
     }
-    renew(alloc, listing.found, prospect.prices(), columns)?;
-    let least = least_claimed(alloc, prospect, least, claim)?;
-    Ok(least)
 }
 
 /// What is claimed between `known` and what some line costs, if a search shows it: half of the way, or half of
@@ -145,8 +130,8 @@ fn least_claimed(
         if open <= 0 {
             break;
         }
-        let mut listing = listing_of(alloc, 0);
-        let found = list(prospect, &mut judge, known.wrapping_add(open), &mut listing)?;
+        let mut listing = listing_of(alloc);
+        let found = shown(prospect, &mut judge, known.wrapping_add(open), &mut listing)?;
         if found.is_some() {
             return Ok(better(known, found));
         }
@@ -154,18 +139,17 @@ fn least_claimed(
     Ok(known)
 }
 
-/// Nothing is listed so far.
-fn listing_of(alloc: Global, reach: i64) -> Listing {
+/// Nothing is found so far.
+fn listing_of(alloc: Global) -> Listing {
     Listing {
         left: MOST_VISITS,
-        reach,
-        found: Columns::of_sets(alloc, reach),
+        found: Columns::new(alloc, 0),
     }
 }
 
-/// Lists the lines that are near the least one, or the claim, if that is less. What no line has a lower reduced
-/// cost than: the lesser of these two. Nothing if there is too much to look at.
-fn list(
+/// What no line has a lower reduced cost than: the claim, or what the cheapest line costs, if that is less.
+/// Nothing if there is too much to look at.
+fn shown(
     prospect: &Prospect<'_>,
     judge: &mut Judge<'_>,
     claim: i64,
@@ -198,30 +182,17 @@ fn better(least: i64, found: Option<i64>) -> i64
     }
 }
 
-/// How far the next list is to reach after one of so many lines; none if there is to be no other one. Lists
-/// reach half as far while they are too long, and at last no further than the least, or twice as far while
-/// they are short, and never turn round.
-fn next_reach(first: i64, reach: i64, many: usize) -> Option<i64> {
-    if many >= MOST_FOUND {
-        if reach > first || reach <= 0 {
-            return None;
-        }
-        return Some(if reach > LEAST_REACH { reach / 2 } else { 0 });
-    }
-    if many >= FEWEST_COLUMNS / 2 || reach < first || reach >= MOST_REACH {
-        return None;
-    }
-    Some(reach.wrapping_mul(2))
-}
-
-/// The columns become the lines that were found, and those known before: the cheapest ones, if they are many.
+/// The columns become the sets that were found, and those known before: the cheapest ones, if they are many.
 fn renew(
     alloc: Global,
-    found: Columns,
+    labelled: &Labelled,
     prices: &[i64],
     columns: &mut Columns,
 ) -> Result<(), AllocError> {
-    let mut known = found;
+    let near = labelled.found.cheapest(alloc, prices, MOST_COLUMNS)?;
+    let many = near.within(prices, labelled.limit());
+    let mut known = near;
+    known.reach = next_reach(labelled.reach, many);
     known.worth = columns.worth;
     known.step = columns.step;
     known.join(columns)?;
@@ -231,4 +202,15 @@ fn renew(
         known
     };
     Ok(())
+}
+
+/// How far the next labels reach after so many sets were found.
+fn next_reach(reach: i64, many: usize) -> i64 {
+    if many > MANY_LISTED {
+        return (reach.wrapping_mul(7) / 10).max(LEAST_REACH);
+    }
+    if many < FEWEST_LISTED {
+        return (reach.wrapping_mul(13) / 10).min(MOST_REACH);
+    }
+    reach
 }

@@ -4,20 +4,15 @@
 /// One, in shares.
 pub(crate) const ONE: i64 = 1 << 16;
 
-/// A person's columns that are listed at some prices, at most, and more of them if there are fewer.
+/// How many of the sets that labels list at one look become columns, at most.
 pub(crate) const MOST_COLUMNS: usize = 200;
 
-pub(crate) const FEWEST_COLUMNS: usize = MOST_COLUMNS / 2;
-
-/// How far above the least columns are listed at first, at least and at most, in parts of a cost unit.
+/// How far above the least one a set is listed at first, at least and at most, in parts of a cost unit.
 pub(crate) const FIRST_REACH: i64 = 200 * 64;
 
 pub(crate) const LEAST_REACH: i64 = 32;
 
 pub(crate) const MOST_REACH: i64 = 2000 * 64;
-
-/// How many chains are tried for one list.
-pub(crate) const MOST_TRIES: u32 = 1 << 18;
 
 /// How many steps of a moving price a part of a cost unit has.
 pub(crate) const FINE: i64 = 1 << 8;
@@ -52,27 +47,32 @@ pub(crate) const MOST_STRIDE: i64 = 600 * 64;
 /// After so many looks in a row that say no more in whole cost units the bound is as good as it gets.
 pub(crate) const MOST_IDLE: u32 = 12;
 
-/// From how many lines one list of a person goes on, at most.
-pub(crate) const MOST_VISITS: u32 = 4000;
-
-/// How many lines one list has, at most. So many are too many.
-pub(crate) const MOST_FOUND: usize = 2 * MOST_COLUMNS;
+/// From how many sets a search goes on that shows the least, at most.
+pub(crate) const MOST_VISITS: u32 = 16_000;
 
 /// How many lines of a person are known, at most, and how many of them stay if there are more.
 pub(crate) const MOST_KNOWN: usize = 500;
 
 pub(crate) const MOST_KEPT: usize = 300;
 
-/// How many lists of a person there are at one look, at most: so often a reach is halved from `MOST_REACH` to
-/// `LEAST_REACH`, and then falls to 0.
-pub(crate) const MOST_LISTS: u32 = 13;
-
 /// How far the worth of a minute of flight moves from one look to the next, at most: so many of such steps are
 /// the weight of the target.
 pub(crate) const WORTH_STEPS: i64 = 8;
 
-/// If no list is whole: how often half of what is open is claimed, at most.
+/// If a search doesn't come to its end: how often half of what is open is claimed, at most.
 pub(crate) const MOST_CLAIMS: u32 = 3;
 
-/// How far above the least chain lines are listed at first, in parts of a cost unit.
-pub(crate) const FIRST_REACH_OF_SETS: i64 = 20 * 64;
+/// How many labels a person has, about, and how many end with one pairing, at least and at most.
+pub(crate) const MOST_LABELS: usize = 6000;
+
+pub(crate) const FEWEST_LABELS: usize = 8;
+
+pub(crate) const MOST_LABELS_AT_ONE: usize = 40;
+
+/// How many sets labels list at one look, at most.
+pub(crate) const MOST_LISTED: usize = 800;
+
+/// Labels reach further or less far at the next look if they list less than so many sets, or more.
+pub(crate) const FEWEST_LISTED: usize = 60;
+
+pub(crate) const MANY_LISTED: usize = 200;

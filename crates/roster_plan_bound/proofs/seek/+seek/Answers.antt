@@ -28,17 +28,13 @@ loop-q-preserved t c =
             below = subst (IsLeastBelow o spot (q + 1)) (sym w.least-is) (below-next o spot c.loop-q.from q c.loop-q.least new inv.below c.in-Some.ensures.least less with);
           }
       | in_default-2 w ↦
-          let limit : ℤ = c.limit_above-limit.result in
-          let fits : FitsSigned w64 limit = search rules in
-          let told : to_z w64 (of_z w64 limit) ≡ limit = to_z-of_z w64 limit fits in
-          let least_fits : FitsSigned w64 c.loop-q.least = search rules in
-          let least_told : to_z w64 (of_z w64 c.loop-q.least) ≡ c.loop-q.least =
-          to_z-of_z w64 c.loop-q.least least_fits in
-          let above = c.limit_above-limit.ensures in
+          let fits : FitsSigned w64 c.loop-q.least = search rules in
+          let told : to_z w64 (of_z w64 c.loop-q.least) ≡ c.loop-q.least =
+          to_z-of_z w64 c.loop-q.least fits in
           let with = none-there o spot q _ c.in_ok-next.field-0 w.in_default-2.is c.in_ok-next.ensures.next in
           let less : IsLeastWith o spot q c.loop-q.least = λ before rest start.
           let more = with before rest start in
-          omega (arith, ints, more, told, least_told, above) in
+          omega (arith, ints, more, told) in
           record {
             few = omega (arith, place);
             judge = w.judge-is ∙ c.in_ok-next.ensures.judge;

@@ -4,10 +4,10 @@ use Rattle.roster_plan_bound.proofs.rising.PricedBound.raise.Goals as goal
 
 pub loop-preserved : goal.loop-preserved
 loop-preserved g c =
-    let raised = c.look_on.ensures.raised in
+    let raised = c.step.ensures.raised in
     let before = c.loop.invariant.raised in
     record {
-      same = c.look_on.ensures.problem ∙ c.loop.invariant.same;
-      base = c.look_on.ensures.base ∙ c.loop.invariant.base;
+      same = c.step.ensures.problem ∙ c.loop.invariant.same;
+      base = c.step.ensures.base ∙ c.loop.invariant.base;
       raised = omega (arith, ints, raised, before);
     }

@@ -1,7 +1,7 @@
 use Rattle.std.proofs.Common.{◌≡◌, sym, subst, ℤ, w64, FitsSigned, to_z, of_z}
 use Rattle.std.proofs.lemmas.Int.{to_z-of_z}
 use Rattle.roster_plan_bound.specs.Prospects.{IsLeastPath}
-use Rattle.roster_plan_bound.proofs.sets.list.Goals as goal
+use Rattle.roster_plan_bound.proofs.sets.shown.Goals as goal
 
 pub is_least-requires-clause-path : goal.is_least-requires-clause-path
 is_least-requires-clause-path c =

@@ -1,0 +1,202 @@
+//! Legal sets of a person that bring little, found by labels in order of time. Nothing rests on them.
+//!
+//! A label is a legal set with what is known at its end. Of the labels that end with a pairing only those stay
+//! that promise least, and each of them has another flight, a later class or more days off: of sets that
+//! differ little, one tells prices enough.
+
+ghost use Rattle.std.specs.Prelude.{◌≡◌, ◌<◌, All, IfOk, IfSome, true};
+ghost use Rattle.roster_model.specs.Rules.{is_among};
+ghost use Rattle.roster_plan_bound.specs.Seeks.{IsEndWith, IsSpot};
+
+use crate::columns::Columns;
+use crate::prospect::Prospect;
+use crate::seek::{End, Spot, end_with, spot_with, start_of};
+use crate::tuning::{FEWEST_LABELS, MOST_LABELS, MOST_LABELS_AT_ONE, MOST_LISTED};
+use roster_legal::Judge;
+use roster_model::limits::MOST_PAIRINGS;
+use std::alloc::{AllocError, Global};
+
+/// What labels find of a person at some prices.
+#[derive(Drop)]
+pub(crate) struct Labelled {
+    /// What the cheapest set brings that is known, in parts of a cost unit.
+    pub(crate) least: i64,
+    /// How far above it a set may be to be listed.
+    pub(crate) reach: i64,
+    /// Those that were so near when they were found, as many as there is room for.
+    pub(crate) found: Columns,
+}
+
+impl Labelled {
+    /// What a set may bring at most to be listed.
+    pub(crate) fn limit(&self) -> i64 {
+        self.least.saturating_add(self.reach)
+    }
+}
+
+/// What a label promises at least that goes on with a pairing, and its place among the labels.
+#[derive(Clone, Copy, PartialEq, Eq, PartialOrd, Ord)]
+struct Promise {
+    least: i64,
+    label: usize,
+}
+
+/// Makes labels, pairing by pairing in order of time, and lists the sets that bring little.
+pub(crate) fn label_all(
+    alloc: Global,
+    prospect: &Prospect<'_>,
+    judge: &mut Judge<'_>,
+    labelled: &mut Labelled,
+) -> Result<(), AllocError>
+    requires { judge.old ≡ prospect.now.problem }
+    ensures { judge.new ≡ prospect.now.problem }
+{
+    let order = &prospect.timeline().order;
+    let most = most_at_one(order.len());
+    let mut labels = Vec::new(alloc);
+    labels.push(start_of(prospect))?;
+    for rank in 0..order.len() {
+        let q = order[rank];
+        let near = promises(alloc, prospect, &labels, q, labelled)?;
+        add_labels(prospect, judge, &near, q, most, &mut labels, labelled)?;
+    }
+    Ok(())
+}
+
+/// How many labels may end with one of so many pairings.
+fn most_at_one(pairings: usize) -> usize {
+    (MOST_LABELS / pairings.max(1)).clamp(FEWEST_LABELS, MOST_LABELS_AT_ONE)
+}
+
+/// The labels that may go on with pairing `q` and promise little, the least first.
+fn promises(
+    alloc: Global,
+    prospect: &Prospect<'_>,
+    labels: &[Spot],
+    q: usize,
+    labelled: &Labelled,
+) -> Result<Vec<Promise>, AllocError>
+    requires { All (IsSpot prospect.now) labels.now }
+{
+    let limit = labelled.limit();
+    let mut near = Vec::new(alloc);
+    for label in 0..labels.len() {
+        if let Some((_, least)) = promised(prospect, &labels[label], q) {
+            if least <= limit {
+                near.push(Promise { least, label })?;
+            }
+        }
+    }
+    near.sort_unstable();
+    Ok(near)
+}
+
+/// The end of a label with pairing `q` behind, and what it promises at least; none if that isn't legal.
+fn promised(prospect: &Prospect<'_>, spot: &Spot, q: usize) -> Option<(End, i64)>
+    requires { IsSpot prospect.now spot.now }
+    ensures room { IfSome result (λ found. 0 < spot.now.room) }
+    ensures may { IfSome result (λ found. is_among spot.now.may q ≡ true) }
+    ensures place { IfSome result (λ found. q < MOST_PAIRINGS) }
+    ensures end { IfSome result (λ found. IsEndWith prospect.now spot.now q found.0) }
+{
+    if spot.room == 0 || q >= MOST_PAIRINGS || !spot.may.has(q) {
+        return None;
+    }
+    let end = end_with(prospect, spot, q);
+    match prospect.timeline().lows.get(q) {
+        Some(low) if end.class >= *low => {
+            let least = prospect.ahead(end.value, end.flight, q, end.class, end.need);
+            Some((end, least))
+        }
+        _ => None,
+    }
+}
+
+/// Adds the labels that end with pairing `q` and promise least, no more than so many.
+fn add_labels(
+    prospect: &Prospect<'_>,
+    judge: &mut Judge<'_>,
+    near: &[Promise],
+    q: usize,
+    most: usize,
+    labels: &mut Vec<Spot>,
+    labelled: &mut Labelled,
+) -> Result<(), AllocError>
+    requires judge { judge.old ≡ prospect.now.problem }
+    requires labels { All (IsSpot prospect.now) labels.old.items }
+    ensures judge { judge.new ≡ prospect.now.problem }
+    ensures labels { All (IsSpot prospect.now) labels.new.items }
+{
+    let first = labels.len();
+    for promise in near {
+        if labels.len().wrapping_sub(first) >= most {
+            break;
+        }
+        if let Some(next) = next_label(prospect, judge, labels, first, promise.label, q)? {
+            labels.push(next)?;
+            keep(prospect, &next, labelled)?;
+        }
+    }
+    Ok(())
+}
+
+/// The label that goes on with pairing `q`; none if that isn't legal, or none of the labels from the first one
+/// on leaves it a chance.
+fn next_label(
+    prospect: &Prospect<'_>,
+    judge: &mut Judge<'_>,
+    labels: &[Spot],
+    first: usize,
+    label: usize,
+    q: usize,
+) -> Result<Option<Spot>, AllocError>
+    requires judge { judge.old ≡ prospect.now.problem }
+    requires labels { All (IsSpot prospect.now) labels.now }
+    ensures judge { judge.new ≡ prospect.now.problem }
+    ensures next { IfOk result (λ found. IfSome found (IsSpot prospect.now)) }
+{
+    let Some(spot) = labels.get(label) else {
+        return Ok(None);
+    };
+    let Some((end, _)) = promised(prospect, spot, q) else {
+        return Ok(None);
+    };
+    if is_covered(labels, first, &end) {
+        return Ok(None);
+    }
+    let next = spot_with(prospect, spot, q, end);
+    if !judge.is_legal(prospect.person(), &next.set)? {
+        return Ok(None);
+    }
+    Ok(Some(next))
+}
+
+/// Whether a label from the first one on is as good at its end.
+fn is_covered(labels: &[Spot], first: usize, end: &End) -> bool {
+    for label in first..labels.len() {
+        if is_as_good(&labels[label].end, end) {
+            return true;
+        }
+    }
+    false
+}
+
+/// Whether an end of the same flight brings no more, and leaves no less for what may stand behind.
+fn is_as_good(known: &End, end: &End) -> bool {
+    known.flight == end.flight
+        && known.value <= end.value
+        && known.class >= end.class
+        && known.need <= end.need
+}
+
+/// Lists the set of a label if it brings little.
+fn keep(prospect: &Prospect<'_>, spot: &Spot, labelled: &mut Labelled) -> Result<(), AllocError>
+    requires { IsSpot prospect.now spot.now }
+{
+    let gain = spot.end.value.wrapping_add(prospect.term(spot.end.flight));
+    labelled.least = labelled.least.min(gain);
+    if gain > labelled.limit() || labelled.found.len() >= MOST_LISTED {
+        return Ok(());
+    }
+    labelled.found.push_gain(&spot.set, gain, prospect.prices())
+}
