@@ -8,6 +8,7 @@ ghost use Rattle.roster_plan.specs.Bases.{AreGaps, IsGap};
 ghost use Rattle.roster_plan.specs.Months.{IsMonth, IsMonthFrom};
 ghost use Rattle.roster_plan.specs.Parts.{AreParts};
 
+use crate::dives::improved_by_dives;
 use crate::exact::{Found, close};
 use crate::means::{MOST_EFFORT, Means};
 use crate::months::Month;
@@ -131,8 +132,21 @@ fn explored<R: Threads + Sync, W: Watcher>(
         look_all(rt, alloc, problem, means.workers, gaps);
         month = with_bounds(alloc, problem, month, gaps, watcher)?;
     }
+    month = improved_by_dives(rt, alloc, problem, month, means, gaps, watcher)?;
+    renew_costs(&month.parts, gaps);
     close_all(rt, alloc, problem, means, gaps);
     Ok(month)
+}
+
+/// Each base has what its known roster costs now.
+fn renew_costs(parts: &[BasePlan], gaps: &mut [Gap<'_>])
+    ensures { (problem : Problem) → AreGaps problem gaps.old → AreGaps problem gaps.new }
+{
+    for i in 0..gaps.len() {
+        if let Some(part) = parts.get(gaps[i].base) {
+            gaps[i].cost = part.roster.cost;
+        }
+    }
 }
 
 /// Looks at other prices of each base.
