@@ -8,3 +8,4 @@ pub mod Parts
 pub mod Months
 pub mod Bases
 pub mod Runs
+pub mod Dives

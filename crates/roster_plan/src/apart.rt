@@ -8,6 +8,7 @@ ghost use Rattle.roster_plan.specs.Bases.{AreGaps, IsGap};
 ghost use Rattle.roster_plan.specs.Months.{IsMonth, IsMonthFrom};
 ghost use Rattle.roster_plan.specs.Parts.{AreParts};
 
+use crate::dives::improved_by_dives;
 use crate::exact::{Found, close};
 use crate::means::{MOST_EFFORT, Means};
 use crate::months::Month;
@@ -22,15 +23,9 @@ use roster_problem::Problem;
 use std::alloc::{AllocError, Global};
 use std::thread::{Threads, for_each_mut};
 
-/// How many steps prices are worth at effort 0, about; each takes about a nanosecond. Each effort more
-/// doubles them.
-const FEWEST_STEPS: u64 = 1 << 28;
-
-/// How many states of flight a person has, about.
-const USUAL_STATES: u64 = 1000;
-
-/// How many pairings may follow one before all do, about.
-const USUAL_FOLLOWERS: u64 = 16;
+/// How many pairs of a person and a pairing looks at prices go through at effort 0, about; each takes some hundreds
+/// of microseconds. Each effort more doubles them.
+const FEWEST_PAIRS: u64 = 1 << 15;
 
 /// How often prices of a base are looked at, at most, at effort 0.
 const FEWEST_LOOKS: u32 = 4;
@@ -131,8 +126,21 @@ fn explored<R: Threads + Sync, W: Watcher>(
         look_all(rt, alloc, problem, means.workers, gaps);
         month = with_bounds(alloc, problem, month, gaps, watcher)?;
     }
+    month = improved_by_dives(rt, alloc, problem, month, means, gaps, watcher)?;
+    renew_costs(&month.parts, gaps);
     close_all(rt, alloc, problem, means, gaps);
     Ok(month)
+}
+
+/// Each base has what its known roster costs now.
+fn renew_costs(parts: &[BasePlan], gaps: &mut [Gap<'_>])
+    ensures { (problem : Problem) → AreGaps problem gaps.old → AreGaps problem gaps.new }
+{
+    for i in 0..gaps.len() {
+        if let Some(part) = parts.get(gaps[i].base) {
+            gaps[i].cost = part.roster.cost;
+        }
+    }
 }
 
 /// Looks at other prices of each base.
@@ -270,7 +278,7 @@ fn closed<W: Watcher>(
 }
 
 /// How often an effort looks at the prices of each base that isn't settled: more often the greater it is, if
-/// there is time for so many steps.
+/// there is time for so many pairs.
 fn looks_of(problem: &Problem, parts: &[BasePlan], effort: u32) -> u32 {
     let effort = if effort < MOST_EFFORT {
         effort
@@ -278,20 +286,19 @@ fn looks_of(problem: &Problem, parts: &[BasePlan], effort: u32) -> u32 {
         MOST_EFFORT
     };
     let looks = FEWEST_LOOKS + 2 * effort * (effort + 2);
-    let in_time = (FEWEST_STEPS << effort) / steps_of(problem, parts).max(1);
+    let in_time = (FEWEST_PAIRS << effort) / pairs_of(problem, parts).max(1);
     in_time.min(u64::from(looks)) as u32
 }
 
-/// How many steps a look takes, about: for each person of those bases and each pairing of the same base so
-/// many that may follow it before all do, and each state of flight.
-fn steps_of(problem: &Problem, parts: &[BasePlan]) -> u64 {
-    let mut steps: u64 = 0;
+/// How many pairs a look goes through: each person of those bases, with each pairing of the same base.
+fn pairs_of(problem: &Problem, parts: &[BasePlan]) -> u64 {
+    let mut pairs: u64 = 0;
     for base in 0..MOST_BASES {
         if is_open(parts, base) {
             let crew = count_of_persons(problem, base) as u64;
             let pairings = count_of_pairings(problem, base) as u64;
-            steps = steps.wrapping_add(crew.wrapping_mul(pairings));
+            pairs = pairs.wrapping_add(crew.wrapping_mul(pairings));
         }
     }
-    steps.wrapping_mul(USUAL_FOLLOWERS * USUAL_STATES)
+    pairs
 }

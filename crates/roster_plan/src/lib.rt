@@ -19,6 +19,7 @@
 //! - `together`: neighbourhoods that several threads search at once
 //! - `runs`: runs of changes, which several threads do at once
 //! - `exact`: the best roster of a base, if its bound is near enough to what it costs
+//! - `dives`: rosters of columns
 //! - `whole`: bases with few legal sets, each searched whole
 //! - `apart`: bases of which not all lines can be searched, bounded by prices
 //! - `planning`: the plan
@@ -26,6 +27,7 @@
 
 mod apart;
 mod bound;
+mod dives;
 mod exact;
 mod kept;
 mod known;

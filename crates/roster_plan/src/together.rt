@@ -216,7 +216,7 @@ fn with_new<W: Watcher>(
 
 /// The known roster with what is new in another one, as far as that is legal; or the known one, unless that
 /// saves something. What is new is what differs from the one before.
-fn joined(
+pub(crate) fn joined(
     alloc: Global,
     problem: &Problem,
     before: &Roster,

@@ -21,6 +21,8 @@ pub enum Phase {
     Neighbourhoods,
     /// Prices of a base were looked at.
     Prices,
+    /// Rosters were made of known columns.
+    Columns,
     /// The sets of a base's rosters that cost little more than its bound were searched.
     Gap,
 }
@@ -33,6 +35,7 @@ impl Display for Phase {
             Phase::Changes => "changes",
             Phase::Neighbourhoods => "neighbourhoods",
             Phase::Prices => "prices",
+            Phase::Columns => "columns",
             Phase::Gap => "gap",
         })
     }

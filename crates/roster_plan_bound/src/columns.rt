@@ -158,8 +158,8 @@ impl Columns {
         }
     }
 
-    // The pairings of column i.
-    fn places(&self, i: usize) -> &[u16] {
+    /// The pairings of column `i`.
+    pub(crate) fn places(&self, i: usize) -> &[u16] {
         let (start, end) = self.range(i);
         match self.places.get(start..end) {
             Some(places) => places,
@@ -185,6 +185,34 @@ impl Columns {
             }
         }
         Ok(least)
+    }
+
+    /// The share of each column, as covers count it.
+    pub(crate) fn weigh(
+        &self,
+        shares: &mut Vec<i64>,
+        prices: &[i64],
+        softness: i64,
+    ) -> Result<(), AllocError> {
+        let least = self.values(shares, prices)?;
+        let sum = weighed(shares, least, softness);
+        for i in 0..shares.len() {
+            shares[i] = share_of(shares[i], sum);
+        }
+        Ok(())
+    }
+
+    /// The same columns.
+    pub(crate) fn copy(&self, alloc: Global) -> Result<Columns, AllocError> {
+        let mut copy = Columns {
+            worth: self.worth,
+            step: self.step,
+            ..Columns::new(alloc, self.reach)
+        };
+        copy.costs.extend_from_slice(&self.costs)?;
+        copy.ends.extend_from_slice(&self.ends)?;
+        copy.places.extend_from_slice(&self.places)?;
+        Ok(copy)
     }
 
     // The value of each column, and the least.

@@ -9,6 +9,7 @@ ghost use Rattle.roster_model.specs.Rules.{is_among};
 ghost use Rattle.roster_plan_bound.specs.Seeks.{IsEndWith, IsSpot};
 
 use crate::columns::Columns;
+use crate::parts::MOST_PLAN_PRICE;
 use crate::prospect::Prospect;
 use crate::seek::{End, Spot, end_with, spot_with, start_of};
 use crate::tuning::{FEWEST_LABELS, MOST_LABELS, MOST_LABELS_AT_ONE, MOST_LISTED};
@@ -57,10 +58,21 @@ pub(crate) fn label_all(
     labels.push(start_of(prospect))?;
     for rank in 0..order.len() {
         let q = order[rank];
+        if is_barred(prospect, q) {
+            continue;
+        }
         let near = promises(alloc, prospect, &labels, q, labelled)?;
         add_labels(prospect, judge, &near, q, most, &mut labels, labelled)?;
     }
     Ok(())
+}
+
+/// Whether the price of pairing `q` is such that nobody is to have it.
+fn is_barred(prospect: &Prospect<'_>, q: usize) -> bool {
+    match prospect.prices().get(q) {
+        Some(price) => *price <= -(MOST_PLAN_PRICE as i64),
+        None => true,
+    }
 }
 
 /// How many labels may end with one of so many pairings.

@@ -30,6 +30,7 @@
 //! - `start`: the prices that looks begin with
 //! - `pace`: how prices move from one look to the next
 //! - `rising`: prices that say more and more
+//! - `dive`: rosters of columns
 //! - `gap`: lines that a roster may have which costs little more than a bound
 //! - `lists`: what stands at a place of a list
 //! - `tuning`: the numbers that decide how good a bound is
@@ -38,6 +39,7 @@
 mod behind;
 mod columns;
 mod days_off;
+mod dive;
 mod draft;
 mod gap;
 mod labels;
@@ -62,6 +64,7 @@ mod terms;
 mod timeline;
 mod tuning;
 
+pub use dive::DivePlan;
 pub use parts::PARTS;
 pub use pricing::Pricing;
 pub use rising::PricedBound;

@@ -56,16 +56,55 @@ pub(crate) fn ascend<R: Threads + Sync>(
 ) -> Result<Vec<i64>, AllocError>
     requires { 0 < threads }
 {
+    ascend_with_shares(rt, alloc, threads, seen, center, covered, pace, &mut [])
+}
+
+/// `ascend`, for which the shares of columns are counted: those in the second half of the steps are added to the
+/// sums, one for each column of each person who has sums.
+pub(crate) fn ascend_with_shares<R: Threads + Sync>(
+    rt: &R,
+    alloc: Global,
+    threads: usize,
+    seen: &[Seen],
+    center: &[i64],
+    covered: &[Covered],
+    pace: Pace,
+    sums: &mut [Vec<i64>],
+) -> Result<Vec<i64>, AllocError>
+    requires { 0 < threads }
+{
     let center = fine_prices(alloc, center)?;
     let covered = fine_covered(alloc, covered)?;
     let stride = pace.stride.wrapping_mul(FINE);
     let mut way = start(alloc, &center, pace.softness.wrapping_mul(FINE))?;
     let mut portions = portions_of(alloc, threads, seen, center.len())?;
-    for _ in 0..pace.steps {
+    for nth in 0..pace.steps {
+        if nth >= pace.steps / 2 {
+            add_shares(alloc, seen, &way, sums)?;
+        }
         cover_all(rt, threads, seen, &way, &mut portions);
         step(alloc, &mut way, &portions, &center, &covered, stride)?;
     }
     in_parts(alloc, &way.best)
+}
+
+/// Adds the shares of the columns of each person who has sums.
+fn add_shares(
+    alloc: Global,
+    seen: &[Seen],
+    way: &Way,
+    sums: &mut [Vec<i64>],
+) -> Result<(), AllocError> {
+    let mut shares = Vec::new(alloc);
+    for k in 0..sums.len() {
+        if k < seen.len() {
+            seen[k]
+                .columns
+                .weigh(&mut shares, &way.prices, way.softness)?;
+            add_up(&mut sums[k], &shares);
+        }
+    }
+    Ok(())
 }
 
 /// The prices in steps that are finer than parts, as they move: rounded to parts, a small push would be none.

@@ -18,7 +18,7 @@ use crate::network::{Network, network_of};
 use crate::parts::{MOST_CHAIN_VALUE, MOST_LEAST, MOST_PLAN_PRICE, MOST_SUM, PARTS};
 use crate::persons::{Seen, look_at_all};
 use crate::rows::{ChainRow, end_of_all, row_behind, rows_of};
-use crate::sets::least_set;
+use crate::sets::{least_set, renew_sets};
 use crate::timeline::{Timeline, timeline_of};
 use roster_bases::{is_pairing_of, is_person_of};
 use roster_cost::{cost_without_pairings, priced_shares_add_up, shares_add_up};
@@ -166,6 +166,20 @@ impl<'a> Pricing<'a> {
             prices,
             columns,
         )
+    }
+
+    /// The person's columns are renewed at the prices, and nothing is claimed.
+    pub(crate) fn renew(
+        &self,
+        alloc: Global,
+        k: usize,
+        prices: &[i64],
+        columns: &mut Columns,
+    ) -> Result<(), AllocError>
+        requires person { k < length self.now.persons }
+        requires prices { ArePrices self.now prices.now }
+    {
+        renew_sets(alloc, self.problem, k, &self.timelines[k], prices, columns)
     }
 
     /// The pairs of person `k`.

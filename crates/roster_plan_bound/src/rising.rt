@@ -1,6 +1,6 @@
 //! Prices on their rise: a bound that gets better round by round.
 
-ghost use Rattle.std.specs.Prelude.{◌≡◌, ◌<◌, ◌≤◌, ◌≤ℤ◌, ◌+ℤ◌, ℕ, pos, IfOk, List};
+ghost use Rattle.std.specs.Prelude.{◌≡◌, ◌<◌, ◌≤◌, ◌≤ℤ◌, ◌+ℤ◌, ℕ, pos, All, IfOk, List, length};
 ghost use Rattle.roster_model.specs.Costs.{cost_of};
 ghost use Rattle.roster_cost.specs.Amounts.{IsWithin};
 ghost use Rattle.roster_lines_table.specs.Person.{AreListed, IsOfTable};
@@ -9,6 +9,7 @@ ghost use Rattle.roster_bases.specs.Homes.{EachHomeRoster, IsHome, IsHomeBound};
 ghost use Rattle.roster_plan_bound.specs.Looks.{IsLook};
 ghost use Rattle.roster_plan_bound.specs.Reduced.{ArePrices};
 
+use crate::dive::{Dive, DivePlan, whole};
 use crate::gap::lines_of_gap;
 use crate::lists::amount_at;
 use crate::master::{Covered, ascend};
@@ -145,6 +146,37 @@ impl<'a> PricedBound<'a> {
             gap,
             most,
         )
+    }
+
+    /// Of a roster in which the persons of the base who are free get other pairings, by columns that cost little
+    /// for all of them together: whom each pairing is given to. All others keep what the given places give them.
+    /// It begins with so many looks, and each time at least so many hundredths of those who are left get theirs.
+    /// It need not be legal. So many threads at most share the persons of a look, and each number of them gives
+    /// the same.
+    pub fn dive<R: Threads + Sync>(
+        &self,
+        rt: &R,
+        alloc: Global,
+        threads: usize,
+        given: &[u16],
+        free: &[bool],
+        plan: DivePlan,
+    ) -> Result<Vec<u16>, AllocError>
+        requires { 0 < threads }
+        ensures covers { IfOk result (λ places. length places.items ≡ length self.now.problem.pairings) }
+        ensures numbers { IfOk result
+            (λ places. All (λ x. x ≤ length self.now.problem.persons) places.items) }
+    {
+        let problem = self.pricing.problem();
+        let mut dive = Dive::new(alloc, self.pricing, &self.prices, given)?;
+        for (i, k) in self.persons.iter().enumerate() {
+            if is_marked(free, *k) && i < self.seen.len() {
+                dive.leave(alloc, *k, &self.seen[i].columns)?;
+            }
+        }
+        let covered = covered_of(alloc, problem, self.base)?;
+        dive.end(rt, alloc, threads, &covered, plan)?;
+        whole(alloc, problem, &dive.places)
     }
 
     /// What no prices at all say of the base at this place. So many threads at most share its persons.
@@ -284,6 +316,14 @@ fn no_prices(alloc: Global, problem: &Problem) -> Result<Vec<i64>, AllocError>
     Ok(prices)
 }
 
+/// Whether the one at this place is marked.
+fn is_marked(marks: &[bool], k: usize) -> bool {
+    match marks.get(k) {
+        Some(is_marked) => *is_marked,
+        None => false,
+    }
+}
+
 /// The pairings of the base.
 fn covered_of(alloc: Global, problem: &Problem, base: usize) -> Result<Vec<Covered>, AllocError> {
     let mut covered = Vec::new(alloc);
@@ -297,7 +337,11 @@ fn covered_of(alloc: Global, problem: &Problem, base: usize) -> Result<Vec<Cover
 }
 
 /// For each pairing the price that is wanted, within the limits of prices.
-fn limited(alloc: Global, problem: &Problem, wanted: &[i64]) -> Result<Vec<i64>, AllocError>
+pub(crate) fn limited(
+    alloc: Global,
+    problem: &Problem,
+    wanted: &[i64],
+) -> Result<Vec<i64>, AllocError>
     ensures { IfOk result (λ prices. ArePrices problem.now prices.items) }
 {
     let mut prices = Vec::new(alloc);

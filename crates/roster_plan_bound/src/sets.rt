@@ -80,6 +80,32 @@ fn add_tables(
     Ok(())
 }
 
+/// The columns get lines of person `k`, whose timeline it is, that cost little at the prices. They stay as they are
+/// without a timeline, or if the fixed flight is too far from the target.
+pub(crate) fn renew_sets(
+    alloc: Global,
+    problem: &Problem,
+    k: usize,
+    timeline: &Option<Timeline>,
+    prices: &[i64],
+    columns: &mut Columns,
+) -> Result<(), AllocError>
+    requires person { k < length problem.now.persons }
+    requires timeline { IfSome timeline.now (IsTimeline problem.now k) }
+    requires prices { ArePrices problem.now prices.now }
+{
+    let Some(timeline) = timeline else {
+        return Ok(());
+    };
+    let Some(mut prospect) = Prospect::new(alloc, problem, k, timeline, prices)? else {
+        return Ok(());
+    };
+    add_tables(alloc, problem, &mut prospect, columns)?;
+    let mut judge = Judge::new(alloc, prospect.problem());
+    let labelled = labelled_at(alloc, &prospect, &mut judge, columns)?;
+    renew(alloc, &labelled, prices, columns)
+}
+
 /// What searches show that no line of the person is below, if it is more than `known`: what labels find to be
 /// the least, or something between. The columns get what labels find.
 fn least_by_labels(
@@ -92,13 +118,7 @@ fn least_by_labels(
     ensures { IfOk result (IsLeastOf prospect.now.problem prospect.now.prices prospect.now.person) }
 {
     let mut judge = Judge::new(alloc, prospect.problem());
-    let reach = columns.reach.clamp(LEAST_REACH, MOST_REACH);
-    let mut labelled = Labelled {
-        least: columns.least_value(prospect.prices()),
-        reach,
-        found: Columns::new(alloc, reach),
-    };
-    label_all(alloc, prospect, &mut judge, &mut labelled)?;
+    let mut labelled = labelled_at(alloc, prospect, &mut judge, columns)?;
     let mut listing = listing_of(alloc);
     let found = shown(prospect, &mut judge, labelled.least, &mut listing)?;
     labelled.found.join(&listing.found)?;
@@ -110,6 +130,26 @@ fn least_by_labels(
         Some(_) => Ok(better(known, found)),
         None => least_claimed(alloc, prospect, known, claim),
     }
+}
+
+/// What labels find, who know these columns.
+fn labelled_at(
+    alloc: Global,
+    prospect: &Prospect<'_>,
+    judge: &mut Judge<'_>,
+    columns: &Columns,
+) -> Result<Labelled, AllocError>
+    requires { judge.old ≡ prospect.now.problem }
+    ensures { judge.new ≡ prospect.now.problem }
+{
+    let reach = columns.reach.clamp(LEAST_REACH, MOST_REACH);
+    let mut labelled = Labelled {
+        least: columns.least_value(prospect.prices()),
+        reach,
+        found: Columns::new(alloc, reach),
+    };
+    label_all(alloc, prospect, judge, &mut labelled)?;
+    Ok(labelled)
 }
 
 /// What is claimed between `known` and what some line costs, if a search shows it: half of the way, or half of

@@ -1,6 +1,8 @@
 //! Numbers that were found by measuring. Each may be another one: no bound rests on them, only how good it
 //! is.
 
+use crate::pace::Pace;
+
 /// One, in shares.
 pub(crate) const ONE: i64 = 1 << 16;
 
@@ -76,3 +78,22 @@ pub(crate) const MOST_LISTED: usize = 800;
 pub(crate) const FEWEST_LISTED: usize = 60;
 
 pub(crate) const MANY_LISTED: usize = 200;
+
+/// How prices move in a dive from one look to the next.
+pub(crate) const DIVE_PACE: Pace = Pace {
+    stride: 60 * 64,
+    softness: 20 * 64,
+    steps: 150,
+};
+
+/// How soft covers are at first where shares are counted, in parts of a cost unit.
+pub(crate) const DIVE_SOFTNESS: i64 = 5 * 64;
+
+/// How many looks there are each time that some got their columns.
+pub(crate) const LOOKS_A_DIVE: u32 = 4;
+
+/// A share that is as good as all, in parts of `ONE`.
+pub(crate) const SURE_SHARE: i64 = ONE * 17 / 20;
+
+/// Who has less gets no column as long as others have more.
+pub(crate) const LEAST_DIVE_SHARE: i64 = ONE * 3 / 10;

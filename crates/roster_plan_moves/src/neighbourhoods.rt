@@ -101,6 +101,17 @@ impl Neighbourhoods {
         })
     }
 
+    /// So many persons of one base, by chance; fewer if it has fewer.
+    pub fn few(
+        &mut self,
+        alloc: Global,
+        problem: &Problem,
+        count: usize,
+    ) -> Result<Vec<usize>, AllocError> {
+        let mut left = self.mates(alloc, problem)?;
+        self.chosen(alloc, &mut left, count)
+    }
+
     /// Whether the search of a neighbourhood has ended.
     pub fn tell(&mut self, neighbourhood: &Neighbourhood, is_settled: bool) {
         if let Some(size) = self.sizes.get_mut(neighbourhood.kind) {
@@ -122,15 +133,20 @@ impl Neighbourhoods {
 
     // Some persons of one base: a few, half of them, or all.
     fn persons(&mut self, alloc: Global, problem: &Problem) -> Result<Vec<usize>, AllocError> {
-        let i = self.random.below(self.persons.len());
-        let k = self.persons.get(i).copied().unwrap_or(0);
-        let mut left = mates_of(alloc, problem, k)?;
+        let mut left = self.mates(alloc, problem)?;
         let count = match self.kind {
             0 => (self.size() / PARTS) as usize,
             1 => left.len().saturating_add(1) / 2,
             _ => left.len(),
         };
         self.chosen(alloc, &mut left, count)
+    }
+
+    // All persons of one base, which is that of a person by chance.
+    fn mates(&mut self, alloc: Global, problem: &Problem) -> Result<Vec<usize>, AllocError> {
+        let i = self.random.below(self.persons.len());
+        let k = self.persons.get(i).copied().unwrap_or(0);
+        mates_of(alloc, problem, k)
     }
 
     // So many of those that are left, by chance.

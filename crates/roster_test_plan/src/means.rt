@@ -25,6 +25,7 @@ fn phases_are_told_apart(rt: HostRuntime) {
         Phase::Changes,
         Phase::Neighbourhoods,
         Phase::Prices,
+        Phase::Columns,
         Phase::Gap,
     ];
     for (i, first) in all.iter().enumerate() {

@@ -1,0 +1,260 @@
+//! Rosters of columns: of all persons of a base, and then of a few of them again and again.
+
+ghost use Rattle.std.specs.Prelude.{◌≡◌, ◌<◌, IfOk, IfSome, length};
+ghost use Rattle.std.specs.Thread.{IsSync};
+ghost use Rattle.roster_model.specs.Settled.{IsHeld};
+ghost use Rattle.roster_plan.specs.Bases.{AreGaps, IsGap};
+ghost use Rattle.roster_plan.specs.Dives.{AreTried, IsTried};
+ghost use Rattle.roster_plan.specs.Months.{IsMonth, IsMonthFrom};
+
+use crate::apart::Gap;
+use crate::kept::kept;
+use crate::known::{costed, places_of};
+use crate::means::Means;
+use crate::months::Month;
+use crate::together::{joined, neighbourhoods_of};
+use crate::watching::{Phase, Watcher};
+use roster_bases::{all_open, is_person_of};
+use roster_cost::keys_are_in_order;
+use roster_plan_bound::{DivePlan, PricedBound};
+use roster_plan_moves::Neighbourhoods;
+use roster_problem::Problem;
+use roster_values::Roster;
+use std::alloc::{AllocError, Global};
+use std::thread::{Threads, for_each_mut};
+
+/// The least effort at which there are dives.
+const LEAST_EFFORT: u32 = 3;
+
+/// At each dive of a base at least so many hundredths of those who are left get a column each time.
+const HUNDREDTHS: [usize; 2] = [15, 5];
+
+/// So many dives of a few persons begin with the same roster. What a plan comes to hangs on this number, and not on
+/// how many threads share them.
+const DIVES_AT_ONCE: usize = 4;
+
+/// How often there are so many with each effort more.
+const ROUNDS_AN_EFFORT: u32 = 8;
+
+/// How many persons such a dive has, and how often prices are looked at first.
+const FEW: usize = 7;
+
+const FEW_LOOKS: u32 = 5;
+
+/// Some persons, and the roster that a dive of them comes to, if it is of a base that is left.
+#[derive(Drop)]
+pub(crate) struct Tried {
+    free: Vec<bool>,
+    pub(crate) found: Result<Option<Roster>, AllocError>,
+}
+
+/// The month with what dives find, in the bases whose prices these are. The workers share them.
+pub(crate) fn improved_by_dives<R: Threads + Sync, W: Watcher>(
+    rt: &R,
+    alloc: Global,
+    problem: &Problem,
+    start: Month,
+    means: &Means,
+    gaps: &[Gap<'_>],
+    watcher: &mut W,
+) -> Result<Month, AllocError>
+    requires month { IsMonth problem.now start }
+    requires workers { 0 < means.now.workers }
+    requires gaps { AreGaps problem.now gaps.now }
+    ensures { IfOk result (IsMonthFrom problem.now start.planned.roster) }
+{
+    keys_are_in_order();
+    if means.effort < LEAST_EFFORT {
+        return Ok(start);
+    }
+    let mut month = start;
+    for gap in gaps {
+        month = of_base(rt, alloc, problem, month, means, &gap.priced, watcher)?;
+    }
+    let mut neighbourhoods = neighbourhoods_of(alloc, problem, &month.parts)?;
+    for _ in 0..means.effort.saturating_mul(ROUNDS_AN_EFFORT) {
+        month = of_few(
+            rt,
+            alloc,
+            problem,
+            month,
+            means,
+            gaps,
+            &mut neighbourhoods,
+            watcher,
+        )?;
+    }
+    Ok(month)
+}
+
+/// The month with what dives of a base find.
+fn of_base<R: Threads + Sync, W: Watcher>(
+    rt: &R,
+    alloc: Global,
+    problem: &Problem,
+    start: Month,
+    means: &Means,
+    priced: &PricedBound<'_>,
+    watcher: &mut W,
+) -> Result<Month, AllocError>
+    requires month { IsMonth problem.now start }
+    requires workers { 0 < means.now.workers }
+    requires priced { priced.now.problem ≡ problem.now }
+    ensures { IfOk result (IsMonthFrom problem.now start.planned.roster) }
+{
+    keys_are_in_order();
+    let open = all_open(alloc, problem)?;
+    let all = vec![in alloc; true; problem.persons().len()]?;
+    let mut month = start;
+    for hundredths in HUNDREDTHS {
+        let plan = DivePlan {
+            looks: 0,
+            hundredths,
+        };
+        let roster = found_by(rt, alloc, means.workers, problem, priced, &open, &all, plan)?;
+        month = month.renewed(alloc, problem, &roster, Phase::Columns, watcher)?;
+    }
+    Ok(month)
+}
+
+/// The roster that a dive finds, as far as it is legal.
+fn found_by<R: Threads + Sync>(
+    rt: &R,
+    alloc: Global,
+    threads: usize,
+    problem: &Problem,
+    priced: &PricedBound<'_>,
+    given: &[u16],
+    free: &[bool],
+    plan: DivePlan,
+) -> Result<Roster, AllocError>
+    requires threads { 0 < threads }
+    requires priced { priced.now.problem ≡ problem.now }
+    ensures { IfOk result (IsHeld problem.now) }
+{
+    let places = priced.dive(rt, alloc, threads, given, free, plan)?;
+    let legal = kept(alloc, problem, &places)?;
+    Ok(costed(problem, legal))
+}
+
+/// The month with what some dives of a few persons find, each from the same roster.
+fn of_few<R: Threads + Sync, W: Watcher>(
+    rt: &R,
+    alloc: Global,
+    problem: &Problem,
+    start: Month,
+    means: &Means,
+    gaps: &[Gap<'_>],
+    neighbourhoods: &mut Neighbourhoods,
+    watcher: &mut W,
+) -> Result<Month, AllocError>
+    requires month { IsMonth problem.now start }
+    requires workers { 0 < means.now.workers }
+    requires gaps { AreGaps problem.now gaps.now }
+    ensures { IfOk result (IsMonthFrom problem.now start.planned.roster) }
+{
+    keys_are_in_order();
+    let before = start.planned.roster.copy(alloc)?;
+    let mut all = tried_of(alloc, problem, neighbourhoods)?;
+    try_all(rt, alloc, problem, &before, means.workers, gaps, &mut all);
+    let mut month = start;
+    for tried in all {
+        let Tried { found, .. } = tried;
+        if let Some(roster) = found? {
+            let known = month.planned.roster.copy(alloc)?;
+            let roster = joined(alloc, problem, &before, &roster, known)?;
+            month = month.renewed(alloc, problem, &roster, Phase::Columns, watcher)?;
+        }
+    }
+    Ok(month)
+}
+
+/// The next few persons, so often.
+fn tried_of(
+    alloc: Global,
+    problem: &Problem,
+    neighbourhoods: &mut Neighbourhoods,
+) -> Result<Vec<Tried>, AllocError>
+    ensures { IfOk result (λ all. AreTried problem.now all.items) }
+{
+    let mut all = Vec::new(alloc);
+    for _ in 0..DIVES_AT_ONCE {
+        let few = neighbourhoods.few(alloc, problem, FEW)?;
+        let mut free = vec![in alloc; false; problem.persons().len()]?;
+        for k in &few {
+            mark(&mut free, *k);
+        }
+        all.push(Tried {
+            free,
+            found: Ok(None),
+        })?;
+    }
+    Ok(all)
+}
+
+/// Marks the one at this place.
+fn mark(marks: &mut [bool], k: usize) {
+    if k < marks.len() {
+        marks[k] = true;
+    }
+}
+
+/// Dives with each of these, which the workers share.
+fn try_all<R: Threads + Sync>(
+    rt: &R,
+    alloc: Global,
+    problem: &Problem,
+    before: &Roster,
+    workers: usize,
+    gaps: &[Gap<'_>],
+    all: &mut [Tried],
+)
+    requires workers { 0 < workers }
+    requires gaps { AreGaps problem.now gaps.now }
+    requires all { AreTried problem.now all.old }
+    ensures { AreTried problem.now all.new }
+{
+    let search = |_: usize, tried: &mut Tried|
+        requires { IsSync R.row × AreGaps problem.now gaps.now }
+        ensures { IsTried problem.entry.now tried.new }
+    {
+        tried.found = found_among(rt, alloc, problem, before, gaps, &tried.free);
+    };
+    for_each_mut(rt, all, workers, &search);
+}
+
+/// The roster that a dive of these persons finds from a known one, if they are of one of these bases.
+fn found_among<R: Threads + Sync>(
+    rt: &R,
+    alloc: Global,
+    problem: &Problem,
+    before: &Roster,
+    gaps: &[Gap<'_>],
+    free: &[bool],
+) -> Result<Option<Roster>, AllocError>
+    requires gaps { AreGaps problem.now gaps.now }
+    ensures { IfOk result (λ found. IfSome found (IsHeld problem.now)) }
+{
+    let plan = DivePlan {
+        looks: FEW_LOOKS,
+        hundredths: 1,
+    };
+    for gap in gaps {
+        if has_free(problem, gap.base, free) {
+            let given = places_of(before);
+            let roster = found_by(rt, alloc, 1, problem, &gap.priced, given, free, plan)?;
+            return Ok(Some(roster));
+        }
+    }
+    Ok(None)
+}
+
+/// Whether one of these persons is of the base.
+fn has_free(problem: &Problem, base: usize, free: &[bool]) -> bool {
+    for k in 0..problem.persons().len() {
+        if is_person_of(problem, k, base) && free.get(k) == Some(&true) {
+            return true;
+        }
+    }
+    false
+}

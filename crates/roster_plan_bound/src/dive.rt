@@ -1,0 +1,389 @@
+//! Rosters of columns: the person whose best column has the greatest share of the covers flies it, then the next
+//! one, and between them prices and columns are renewed for those who are left. Nothing rests on it: whoever
+//! takes such a roster judges it.
+
+ghost use Rattle.std.specs.Prelude.{◌≡◌, ◌<◌, ◌≤◌, All, IfOk, length};
+ghost use Rattle.roster_plan_bound.specs.Reduced.{ArePrices};
+
+use crate::columns::Columns;
+use crate::master::{Covered, ascend, ascend_with_shares};
+use crate::pace::Pace;
+use crate::parts::MOST_PLAN_PRICE;
+use crate::persons::Seen;
+use crate::pricing::Pricing;
+use crate::rising::limited;
+use crate::tuning::{DIVE_PACE, DIVE_SOFTNESS, LEAST_DIVE_SHARE, LOOKS_A_DIVE, ONE, SURE_SHARE};
+use roster_problem::{Problem, open_number};
+use std::alloc::{AllocError, Global};
+use std::thread::{Threads, for_each_mut};
+
+/// A roster in the making: who is left, what is known of them, the prices, which pairings are free, and whom each
+/// pairing is given to so far.
+#[derive(Drop)]
+pub(crate) struct Dive<'a> {
+    pricing: &'a Pricing<'a>,
+    left: Vec<usize>,
+    seen: Vec<Seen>,
+    prices: Vec<i64>,
+    free: Vec<Covered>,
+    pub(crate) places: Vec<u16>,
+}
+
+/// How a roster of columns is made.
+#[derive(Clone, Copy)]
+pub struct DivePlan {
+    /// How many looks at prices there are before anybody gets a column.
+    pub looks: u32,
+    /// Each time at least so many hundredths of those who are left get a column, if any is fair, and one does
+    /// in any case.
+    pub hundredths: usize,
+}
+
+/// Of one who is left, the column of the greatest share. A share is so many parts of `ONE`.
+#[derive(Clone, Copy)]
+struct Choice {
+    at: usize,
+    column: usize,
+    share: i64,
+}
+
+impl<'a> Dive<'a> {
+    /// Begins with these prices and with the roster of these places, in which nobody is left.
+    pub(crate) fn new(
+        alloc: Global,
+        pricing: &'a Pricing<'a>,
+        prices: &[i64],
+        places: &[u16],
+    ) -> Result<Dive<'a>, AllocError> {
+        let mut known = Vec::new(alloc);
+        known.extend_from_slice(places)?;
+        let mut begun = Vec::new(alloc);
+        begun.extend_from_slice(prices)?;
+        Ok(Dive {
+            pricing,
+            left: Vec::new(alloc),
+            seen: Vec::new(alloc),
+            prices: begun,
+            free: Vec::new(alloc),
+            places: known,
+        })
+    }
+
+    /// Person `k`, of whom these columns are known, is left and gives up all pairings.
+    pub(crate) fn leave(
+        &mut self,
+        alloc: Global,
+        k: usize,
+        columns: &Columns,
+    ) -> Result<(), AllocError> {
+        let nobody = open_number(self.pricing.problem());
+        for p in 0..self.places.len() {
+            if usize::from(self.places[p]) == k {
+                self.places[p] = nobody;
+            }
+        }
+        self.left.push(k)?;
+        self.seen.push(Seen {
+            columns: columns.copy(alloc)?,
+            least: Err(AllocError),
+        })?;
+        Ok(())
+    }
+
+    /// Goes on until nobody is left. Those who are left get some of these pairings.
+    pub(crate) fn end<R: Threads + Sync>(
+        &mut self,
+        rt: &R,
+        alloc: Global,
+        threads: usize,
+        covered: &[Covered],
+        plan: DivePlan,
+    ) -> Result<(), AllocError>
+        requires { 0 < threads }
+    {
+        self.begin(covered)?;
+        self.look(rt, alloc, threads, plan.looks)?;
+        for _ in 0..self.left.len() {
+            if self.left.is_empty() {
+                break;
+            }
+            let choices = self.choices(rt, alloc, threads)?;
+            let least = self.left.len().saturating_mul(plan.hundredths) / 100;
+            self.take(alloc, &choices, least)?;
+            self.look(rt, alloc, threads, LOOKS_A_DIVE)?;
+        }
+        Ok(())
+    }
+
+    /// Of these pairings those are free that nobody has. No other one pays.
+    fn begin(&mut self, covered: &[Covered]) -> Result<(), AllocError> {
+        let nobody = open_number(self.pricing.problem());
+        for pairing in covered {
+            if number_at(&self.places, pairing.place) == nobody {
+                self.free.push(*pairing)?;
+            } else {
+                forbid(&mut self.prices, pairing.place);
+            }
+        }
+        Ok(())
+    }
+
+    /// Renews prices and columns of those who are left, so many times.
+    fn look<R: Threads + Sync>(
+        &mut self,
+        rt: &R,
+        alloc: Global,
+        threads: usize,
+        looks: u32,
+    ) -> Result<(), AllocError>
+        requires { 0 < threads }
+    {
+        let mut pace = DIVE_PACE;
+        for _ in 0..looks {
+            if self.left.is_empty() {
+                break;
+            }
+            let wanted = ascend(
+                rt,
+                alloc,
+                threads,
+                &self.seen,
+                &self.prices,
+                &self.free,
+                pace,
+            )?;
+            let prices = limited(alloc, self.pricing.problem(), &wanted)?;
+            look_at(
+                rt,
+                alloc,
+                threads,
+                self.pricing,
+                &self.left,
+                &prices,
+                &mut self.seen,
+            );
+            check(&self.seen)?;
+            self.prices = prices;
+            pace.softness /= 2;
+        }
+        Ok(())
+    }
+
+    /// Of each who is left the column of the greatest share, at the next prices.
+    fn choices<R: Threads + Sync>(
+        &mut self,
+        rt: &R,
+        alloc: Global,
+        threads: usize,
+    ) -> Result<Vec<Choice>, AllocError>
+        requires { 0 < threads }
+    {
+        let pace = Pace {
+            softness: DIVE_SOFTNESS,
+            ..DIVE_PACE
+        };
+        let mut sums = sums_of(alloc, &self.seen)?;
+        self.prices = ascend_with_shares(
+            rt,
+            alloc,
+            threads,
+            &self.seen,
+            &self.prices,
+            &self.free,
+            pace,
+            &mut sums,
+        )?;
+        let mut choices = Vec::new(alloc);
+        for at in 0..sums.len() {
+            choices.push(greatest(at, &sums[at], i64::from(pace.steps - pace.steps / 2)))?;
+        }
+        Ok(choices)
+    }
+
+    /// Those whose shares are the greatest get their columns: one, all who are nearly sure of it, and so many at
+    /// least whose shares are fair.
+    fn take(&mut self, alloc: Global, choices: &[Choice], least: usize) -> Result<(), AllocError> {
+        let mut gone = vec![in alloc; false; self.left.len()]?;
+        for nth in 0..choices.len() {
+            let Some(choice) = next_of(choices, &gone) else {
+                break;
+            };
+            let is_fair = choice.share >= LEAST_DIVE_SHARE && nth < least;
+            if nth > 0 && choice.share < SURE_SHARE && !is_fair {
+                break;
+            }
+            self.give(choice);
+            mark(&mut gone, choice.at);
+        }
+        self.renew(alloc, &gone)
+    }
+
+    /// Gives the pairings of the column that are still free to whose it is.
+    fn give(&mut self, choice: Choice) {
+        let nobody = open_number(self.pricing.problem());
+        let (Some(k), Some(one)) = (self.left.get(choice.at), self.seen.get(choice.at)) else {
+            return;
+        };
+        let number = (*k).min(usize::from(nobody)) as u16;
+        for p in one.columns.places(choice.column) {
+            let p = usize::from(*p);
+            if p < self.places.len() && self.places[p] == nobody {
+                self.places[p] = number;
+                forbid(&mut self.prices, p);
+            }
+        }
+    }
+
+    /// Nobody of those who are gone is left, and only pairings that nobody has are free.
+    fn renew(&mut self, alloc: Global, gone: &[bool]) -> Result<(), AllocError> {
+        for i in 0..gone.len() {
+            let last = gone.len() - 1 - i;
+            if gone[last] && last < self.left.len() && last < self.seen.len() {
+                let _ = self.left.swap_remove(last);
+                let _ = self.seen.swap_remove(last);
+            }
+        }
+        let nobody = open_number(self.pricing.problem());
+        let mut free = Vec::new(alloc);
+        for pairing in &self.free {
+            if number_at(&self.places, pairing.place) == nobody {
+                free.push(*pairing)?;
+            }
+        }
+        self.free = free;
+        Ok(())
+    }
+}
+
+/// Looks at those who are left at the prices, by so many threads at most.
+fn look_at<R: Threads + Sync>(
+    rt: &R,
+    alloc: Global,
+    threads: usize,
+    pricing: &Pricing<'_>,
+    left: &[usize],
+    prices: &[i64],
+    seen: &mut [Seen],
+)
+    requires threads { 0 < threads }
+    requires prices { ArePrices pricing.now prices.now }
+{
+    let look = |i: usize, one: &mut Seen|
+        requires { ArePrices pricing.now prices.now }
+    {
+        if let Some(k) = left.get(i) {
+            one.least = renewed(alloc, pricing, *k, prices, &mut one.columns);
+        }
+    };
+    for_each_mut(rt, seen, threads, &look);
+}
+
+/// Renews the columns of person `k`, if there is such a person. Whether there was memory for that.
+fn renewed(
+    alloc: Global,
+    pricing: &Pricing<'_>,
+    k: usize,
+    prices: &[i64],
+    columns: &mut Columns,
+) -> Result<i64, AllocError>
+    requires { ArePrices pricing.now prices.now }
+{
+    if k < pricing.problem().persons().len() {
+        pricing.renew(alloc, k, prices, columns)?;
+    }
+    Ok(0)
+}
+
+/// Whether there was memory for all looks.
+fn check(seen: &[Seen]) -> Result<(), AllocError> {
+    for one in seen {
+        if one.least.is_err() {
+            return Err(AllocError);
+        }
+    }
+    Ok(())
+}
+
+/// Nothing so far, for each column of each.
+fn sums_of(alloc: Global, seen: &[Seen]) -> Result<Vec<Vec<i64>>, AllocError> {
+    let mut sums = Vec::new(alloc);
+    for one in seen {
+        let none = vec![in alloc; 0; one.columns.len()]?;
+        sums.push(none)?;
+    }
+    Ok(sums)
+}
+
+/// The greatest share of one who is left, of sums of so many shares.
+fn greatest(at: usize, sums: &[i64], many: i64) -> Choice {
+    let mut choice = Choice {
+        at,
+        column: 0,
+        share: 0,
+    };
+    for column in 0..sums.len() {
+        let share = sums[column] / many.max(1);
+        if share > choice.share {
+            choice = Choice { at, column, share };
+        }
+    }
+    choice
+}
+
+/// The greatest share of those who aren't gone.
+fn next_of(choices: &[Choice], gone: &[bool]) -> Option<Choice> {
+    let mut next: Option<Choice> = None;
+    for choice in choices {
+        let is_gone = match gone.get(choice.at) {
+            Some(is_gone) => *is_gone,
+            None => true,
+        };
+        let is_less = match next {
+            Some(best) => choice.share <= best.share,
+            None => false,
+        };
+        if !is_gone && !is_less {
+            next = Some(*choice);
+        }
+    }
+    next
+}
+
+/// Marks the one at this place.
+fn mark(marks: &mut [bool], at: usize) {
+    if at < marks.len() {
+        marks[at] = true;
+    }
+}
+
+/// Nobody who is left takes this pairing.
+fn forbid(prices: &mut [i64], p: usize) {
+    if p < prices.len() {
+        prices[p] = -(MOST_PLAN_PRICE as i64);
+    }
+}
+
+/// The number at a place of a list, or 0.
+fn number_at(places: &[u16], p: usize) -> u16 {
+    match places.get(p) {
+        Some(number) => *number,
+        None => 0,
+    }
+}
+
+/// One number for each pairing, none of them too great.
+pub(crate) fn whole(
+    alloc: Global,
+    problem: &Problem,
+    places: &[u16],
+) -> Result<Vec<u16>, AllocError>
+    ensures covers { IfOk result (λ places. length places.items ≡ length problem.now.pairings) }
+    ensures numbers { IfOk result (λ places. All (λ x. x ≤ length problem.now.persons) places.items) }
+{
+    let nobody = open_number(problem);
+    let mut numbers = Vec::new(alloc);
+    for p in 0..problem.pairings().len() {
+        numbers.push(number_at(places, p).min(nobody))?;
+    }
+    Ok(numbers)
+}
