@@ -151,7 +151,7 @@ impl<'a> PricedBound<'a> {
     /// Of a roster in which the persons of the base who are free get other pairings, by columns that cost little
     /// for all of them together: whom each pairing is given to. All others keep what the given places give them.
     /// It begins with so many looks, and each time at least so many hundredths of those who are left get theirs.
-    /// It need not be legal. So many threads at most share the persons of a look, and each number of them gives
+    /// It need not be legal. The places are as given if the first looks leave no hope. So many threads at most share the persons of a look, and each number of them gives
     /// the same.
     pub fn dive<R: Threads + Sync>(
         &self,
@@ -175,7 +175,9 @@ impl<'a> PricedBound<'a> {
             }
         }
         let covered = covered_of(alloc, problem, self.base)?;
-        dive.end(rt, alloc, threads, &covered, plan)?;
+        if !dive.end(rt, alloc, threads, &covered, plan)? {
+            return whole(alloc, problem, given);
+        }
         whole(alloc, problem, &dive.places)
     }
 
