@@ -1,6 +1,6 @@
 //! What persons of a roster cost, in parts of a cost unit. Nothing rests on it.
 
-use crate::parts::PARTS;
+use crate::parts::{MOST_FLIGHT, MOST_SHORT, PARTS};
 use crate::pricing::Pricing;
 use roster_cost::fixed_flight;
 
@@ -17,11 +17,12 @@ pub(crate) fn own_cost(pricing: &Pricing<'_>, k: usize, places: &[u16]) -> i64 {
         if places.get(p).map(|number| usize::from(*number)) == Some(k) {
             units = units.wrapping_add(problem.units(k, p));
             units = units.wrapping_sub(i64::from(pairing.penalty));
-            flight = flight.wrapping_add(pricing.flight(k, p) as i64);
+            flight = flight.wrapping_add(pricing.flight(k, p).min(MOST_FLIGHT) as i64);
         }
     }
     let target = i64::from(problem.person(k).target);
-    let short = (fixed_flight(problem, k) as i64).wrapping_sub(target);
+    let fixed = fixed_flight(problem, k).min(MOST_SHORT) as i64;
+    let short = fixed.wrapping_sub(target);
     let missed = size_of(short.wrapping_add(flight)).wrapping_sub(size_of(short));
     let weighed = missed.wrapping_mul(i64::from(problem.weight()));
     units.wrapping_add(weighed).wrapping_mul(PARTS as i64)
