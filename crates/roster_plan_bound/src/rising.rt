@@ -17,7 +17,7 @@ use crate::pace::Pace;
 use crate::parts::{MOST_PLAN_PRICE, PARTS};
 use crate::persons::{Seen, unseen};
 use crate::pricing::{Priced, Pricing};
-use crate::start::start_at;
+use crate::start::start_prices;
 use crate::tuning::MOST_IDLE;
 use roster_bases::{is_pairing_of, persons_of};
 use roster_lines::TableFault;
@@ -225,9 +225,8 @@ impl<'a> PricedBound<'a> {
         ensures raised { self.old.bound ≤ℤ self.new.bound }
     {
         let problem = self.pricing.problem();
-        let start = start_at(alloc, self.pricing, self.base, &self.persons)?;
-        begin_with(&mut self.seen, start.worth);
-        let prices = limited(alloc, problem, &start.prices)?;
+        let wanted = start_prices(alloc, self.pricing, self.base, &self.persons)?;
+        let prices = limited(alloc, problem, &wanted)?;
         self.look(rt, alloc, threads, prices)
     }
 
@@ -308,15 +307,6 @@ impl<'a> PricedBound<'a> {
         self.prices = prices;
         self.leasts = look.leasts;
         self.bound = look.bound;
-    }
-}
-
-/// Tables of these persons begin with this worth of a minute of flight.
-fn begin_with(seen: &mut [Seen], worth: i64)
-    ensures { length seen.new ≡ length seen.old }
-{
-    for k in 0..seen.len() {
-        seen[k].columns.worth = worth;
     }
 }
 

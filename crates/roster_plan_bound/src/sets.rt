@@ -48,8 +48,8 @@ pub(crate) fn least_set(
     Ok(Some(least))
 }
 
-/// Makes tables at what a minute of flight was worth to the best one before, and at a step less and more. The
-/// steps are half as long from then on if that is the best one again, and else twice as long.
+/// Makes tables at what a minute of flight was worth to the best one before, and at a step less and more: the
+/// weight at first. The steps are half as long from then on if that is the best one again, and else twice as long.
 fn add_tables(
     alloc: Global,
     problem: &Problem,
@@ -59,11 +59,10 @@ fn add_tables(
     ensures { prospect.new ≡ prospect.old }
 {
     let weight = (PARTS as i64).wrapping_mul(i64::from(problem.weight()));
-    let longest = weight / WORTH_STEPS;
     let step = if columns.step > 0 {
         columns.step
     } else {
-        longest
+        weight
     };
     let worth = columns.worth;
     prospect.add(alloc, worth)?;
@@ -73,9 +72,9 @@ fn add_tables(
     columns.step = if columns.worth == worth {
         step / 2
     } else {
-        step.wrapping_mul(2).min(longest)
+        step.wrapping_mul(2).min(weight)
     }
-    .max(weight / (4 * WORTH_STEPS))
+    .max(weight / WORTH_STEPS)
     .max(1);
     Ok(())
 }
