@@ -14,8 +14,8 @@ use crate::prospect::Prospect;
 use crate::seek::{Listing, seek_all};
 use crate::timeline::Timeline;
 use crate::tuning::{
-    FEWEST_LISTED, LEAST_REACH, MANY_LISTED, MOST_CLAIMS, MOST_COLUMNS, MOST_KEPT, MOST_KNOWN,
-    MOST_REACH, MOST_VISITS, WORTH_STEPS,
+    FEWEST_LISTED, FEWEST_WORTH_STEPS, LEAST_REACH, MANY_LISTED, MOST_CLAIMS, MOST_COLUMNS,
+    MOST_KEPT, MOST_KNOWN, MOST_REACH, MOST_VISITS, MOST_WORTH_STEPS,
 };
 use roster_legal::Judge;
 use roster_problem::Problem;
@@ -48,8 +48,8 @@ pub(crate) fn least_set(
     Ok(Some(least))
 }
 
-/// Makes tables at what a minute of flight was worth to the best one before, and at a step less and more: the
-/// weight at first. The steps are half as long from then on if that is the best one again, and else twice as long.
+/// Makes tables at what a minute of flight was worth to the best one before, and at a step less and more. The
+/// steps are half as long from then on if that is the best one again, and else twice as long.
 fn add_tables(
     alloc: Global,
     problem: &Problem,
@@ -59,10 +59,11 @@ fn add_tables(
     ensures { prospect.new ≡ prospect.old }
 {
     let weight = (PARTS as i64).wrapping_mul(i64::from(problem.weight()));
+    let longest = weight / FEWEST_WORTH_STEPS;
     let step = if columns.step > 0 {
         columns.step
     } else {
-        weight
+        longest
     };
     let worth = columns.worth;
     prospect.add(alloc, worth)?;
@@ -72,9 +73,9 @@ fn add_tables(
     columns.step = if columns.worth == worth {
         step / 2
     } else {
-        step.wrapping_mul(2).min(weight)
+        step.wrapping_mul(2).min(longest)
     }
-    .max(weight / WORTH_STEPS)
+    .max(weight / MOST_WORTH_STEPS)
     .max(1);
     Ok(())
 }

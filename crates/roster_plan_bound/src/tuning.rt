@@ -57,9 +57,11 @@ pub(crate) const MOST_KNOWN: usize = 500;
 
 pub(crate) const MOST_KEPT: usize = 300;
 
-/// How far the worth of a minute of flight moves from one look to the next, at least: so many of such steps are
-/// the weight of the target.
-pub(crate) const WORTH_STEPS: i64 = 32;
+/// How far the worth of a minute of flight moves from one look to the next: so many of such steps, at least and at
+/// most, are the weight of the target.
+pub(crate) const FEWEST_WORTH_STEPS: i64 = 8;
+
+pub(crate) const MOST_WORTH_STEPS: i64 = 32;
 
 /// If a search doesn't come to its end: how often half of what is open is claimed, at most.
 pub(crate) const MOST_CLAIMS: u32 = 3;
