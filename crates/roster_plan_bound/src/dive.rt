@@ -5,10 +5,13 @@
 ghost use Rattle.std.specs.Prelude.{◌≡◌, ◌<◌, ◌≤◌, All, IfOk, length};
 ghost use Rattle.roster_plan_bound.specs.Reduced.{ArePrices};
 
+use crate::choosing::{Choice, greatest, next_of, sums_of};
 use crate::columns::Columns;
+use crate::lists::amount_at;
 use crate::master::{Covered, ascend, ascend_with_shares};
+use crate::own_cost::own_cost;
 use crate::pace::Pace;
-use crate::parts::MOST_PLAN_PRICE;
+use crate::parts::{MOST_PLAN_PRICE, PARTS};
 use crate::persons::Seen;
 use crate::pricing::Pricing;
 use crate::rising::limited;
@@ -27,6 +30,8 @@ pub(crate) struct Dive<'a> {
     prices: Vec<i64>,
     free: Vec<Covered>,
     pub(crate) places: Vec<u16>,
+    // What those who are left cost with what they had, and open pairings beside them, in parts of a cost unit.
+    known: i64,
 }
 
 /// How a roster of columns is made.
@@ -37,14 +42,6 @@ pub struct DivePlan {
     /// Each time at least so many hundredths of those who are left get a column, if any is fair, and one does
     /// in any case.
     pub hundredths: usize,
-}
-
-/// Of one who is left, the column of the greatest share. A share is so many parts of `ONE`.
-#[derive(Clone, Copy)]
-struct Choice {
-    at: usize,
-    column: usize,
-    share: i64,
 }
 
 impl<'a> Dive<'a> {
@@ -66,6 +63,7 @@ impl<'a> Dive<'a> {
             prices: begun,
             free: Vec::new(alloc),
             places: known,
+            known: 0,
         })
     }
 
@@ -77,6 +75,8 @@ impl<'a> Dive<'a> {
         columns: &Columns,
     ) -> Result<(), AllocError> {
         let nobody = open_number(self.pricing.problem());
+        let cost = own_cost(self.pricing, k, &self.places);
+        self.known = self.known.wrapping_add(cost);
         for p in 0..self.places.len() {
             if usize::from(self.places[p]) == k {
                 self.places[p] = nobody;
@@ -90,7 +90,8 @@ impl<'a> Dive<'a> {
         Ok(())
     }
 
-    /// Goes on until nobody is left. Those who are left get some of these pairings.
+    /// Goes on until nobody is left. Those who are left get some of these pairings. It says false, and has done
+    /// nothing, if the first looks show no hope of a cheaper roster.
     pub(crate) fn end<R: Threads + Sync>(
         &mut self,
         rt: &R,
@@ -98,11 +99,14 @@ impl<'a> Dive<'a> {
         threads: usize,
         covered: &[Covered],
         plan: DivePlan,
-    ) -> Result<(), AllocError>
+    ) -> Result<bool, AllocError>
         requires { 0 < threads }
     {
         self.begin(covered)?;
         self.look(rt, alloc, threads, plan.looks)?;
+        if plan.looks > 0 && !self.has_hope() {
+            return Ok(false);
+        }
         for _ in 0..self.left.len() {
             if self.left.is_empty() {
                 break;
@@ -112,7 +116,22 @@ impl<'a> Dive<'a> {
             self.take(alloc, &choices, least)?;
             self.look(rt, alloc, threads, LOOKS_A_DIVE)?;
         }
-        Ok(())
+        Ok(true)
+    }
+
+    /// Whether what is known of sets and prices leaves room for a roster that costs a unit less.
+    fn has_hope(&self) -> bool {
+        let mut least: i64 = PARTS as i64;
+        for one in &self.seen {
+            if let Ok(claim) = one.least {
+                least = least.wrapping_add(claim);
+            }
+        }
+        for pairing in &self.free {
+            let price = amount_at(&self.prices, pairing.place);
+            least = least.wrapping_add(price.min(pairing.penalty));
+        }
+        least <= self.known
     }
 
     /// Of these pairings those are free that nobody has. No other one pays.
@@ -120,6 +139,7 @@ impl<'a> Dive<'a> {
         let nobody = open_number(self.pricing.problem());
         for pairing in covered {
             if number_at(&self.places, pairing.place) == nobody {
+                self.known = self.known.wrapping_add(pairing.penalty);
                 self.free.push(*pairing)?;
             } else {
                 forbid(&mut self.prices, pairing.place);
@@ -278,7 +298,7 @@ fn look_at<R: Threads + Sync>(
     for_each_mut(rt, seen, threads, &look);
 }
 
-/// Renews the columns of person `k`, if there is such a person. Whether there was memory for that.
+/// Renews the columns of person `k`, if there is such a person. What the cheapest of them brings.
 fn renewed(
     alloc: Global,
     pricing: &Pricing<'_>,
@@ -288,10 +308,10 @@ fn renewed(
 ) -> Result<i64, AllocError>
     requires { ArePrices pricing.now prices.now }
 {
-    if k < pricing.problem().persons().len() {
-        pricing.renew(alloc, k, prices, columns)?;
+    if k >= pricing.problem().persons().len() {
+        return Ok(0);
     }
-    Ok(0)
+    pricing.renew(alloc, k, prices, columns)
 }
 
 /// Whether there was memory for all looks.
@@ -302,51 +322,6 @@ fn check(seen: &[Seen]) -> Result<(), AllocError> {
         }
     }
     Ok(())
-}
-
-/// Nothing so far, for each column of each.
-fn sums_of(alloc: Global, seen: &[Seen]) -> Result<Vec<Vec<i64>>, AllocError> {
-    let mut sums = Vec::new(alloc);
-    for one in seen {
-        let none = vec![in alloc; 0; one.columns.len()]?;
-        sums.push(none)?;
-    }
-    Ok(sums)
-}
-
-/// The greatest share of one who is left, of sums of so many shares.
-fn greatest(at: usize, sums: &[i64], many: i64) -> Choice {
-    let mut choice = Choice {
-        at,
-        column: 0,
-        share: 0,
-    };
-    for column in 0..sums.len() {
-        let share = sums[column] / many.max(1);
-        if share > choice.share {
-            choice = Choice { at, column, share };
-        }
-    }
-    choice
-}
-
-/// The greatest share of those who aren't gone.
-fn next_of(choices: &[Choice], gone: &[bool]) -> Option<Choice> {
-    let mut next: Option<Choice> = None;
-    for choice in choices {
-        let is_gone = match gone.get(choice.at) {
-            Some(is_gone) => *is_gone,
-            None => true,
-        };
-        let is_less = match next {
-            Some(best) => choice.share <= best.share,
-            None => false,
-        };
-        if !is_gone && !is_less {
-            next = Some(*choice);
-        }
-    }
-    next
 }
 
 /// Marks the one at this place.

@@ -31,12 +31,15 @@
 //! - `pace`: how prices move from one look to the next
 //! - `rising`: prices that say more and more
 //! - `dive`: rosters of columns
+//! - `own_cost`: what persons of a roster cost
+//! - `choosing`: who is next to get a column
 //! - `gap`: lines that a roster may have which costs little more than a bound
 //! - `lists`: what stands at a place of a list
 //! - `tuning`: the numbers that decide how good a bound is
 #![tactic(auto)]
 
 mod behind;
+mod choosing;
 mod columns;
 mod days_off;
 mod dive;
@@ -47,6 +50,7 @@ mod leading;
 mod lists;
 mod master;
 mod network;
+mod own_cost;
 mod pace;
 mod parts;
 mod persons;

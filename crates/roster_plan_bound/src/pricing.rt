@@ -168,14 +168,14 @@ impl<'a> Pricing<'a> {
         )
     }
 
-    /// The person's columns are renewed at the prices, and nothing is claimed.
+    /// The person's columns are renewed at the prices. What the cheapest one brings: nothing is claimed of it.
     pub(crate) fn renew(
         &self,
         alloc: Global,
         k: usize,
         prices: &[i64],
         columns: &mut Columns,
-    ) -> Result<(), AllocError>
+    ) -> Result<i64, AllocError>
         requires person { k < length self.now.persons }
         requires prices { ArePrices self.now prices.now }
     {

@@ -17,7 +17,7 @@ use crate::pace::Pace;
 use crate::parts::{MOST_PLAN_PRICE, PARTS};
 use crate::persons::{Seen, unseen};
 use crate::pricing::{Priced, Pricing};
-use crate::start::start_prices;
+use crate::start::start_at;
 use crate::tuning::MOST_IDLE;
 use roster_bases::{is_pairing_of, persons_of};
 use roster_lines::TableFault;
@@ -151,7 +151,7 @@ impl<'a> PricedBound<'a> {
     /// Of a roster in which the persons of the base who are free get other pairings, by columns that cost little
     /// for all of them together: whom each pairing is given to. All others keep what the given places give them.
     /// It begins with so many looks, and each time at least so many hundredths of those who are left get theirs.
-    /// It need not be legal. So many threads at most share the persons of a look, and each number of them gives
+    /// It need not be legal. The places are as given if the first looks leave no hope. So many threads at most share the persons of a look, and each number of them gives
     /// the same.
     pub fn dive<R: Threads + Sync>(
         &self,
@@ -175,7 +175,9 @@ impl<'a> PricedBound<'a> {
             }
         }
         let covered = covered_of(alloc, problem, self.base)?;
-        dive.end(rt, alloc, threads, &covered, plan)?;
+        if !dive.end(rt, alloc, threads, &covered, plan)? {
+            return whole(alloc, problem, given);
+        }
         whole(alloc, problem, &dive.places)
     }
 
@@ -223,8 +225,9 @@ impl<'a> PricedBound<'a> {
         ensures raised { self.old.bound ≤ℤ self.new.bound }
     {
         let problem = self.pricing.problem();
-        let wanted = start_prices(alloc, self.pricing, self.base, &self.persons)?;
-        let prices = limited(alloc, problem, &wanted)?;
+        let start = start_at(alloc, self.pricing, self.base, &self.persons)?;
+        begin_with(&mut self.seen, start.worth);
+        let prices = limited(alloc, problem, &start.prices)?;
         self.look(rt, alloc, threads, prices)
     }
 
@@ -305,6 +308,15 @@ impl<'a> PricedBound<'a> {
         self.prices = prices;
         self.leasts = look.leasts;
         self.bound = look.bound;
+    }
+}
+
+/// Tables of these persons begin with this worth of a minute of flight.
+fn begin_with(seen: &mut [Seen], worth: i64)
+    ensures { length seen.new ≡ length seen.old }
+{
+    for k in 0..seen.len() {
+        seen[k].columns.worth = worth;
     }
 }
 

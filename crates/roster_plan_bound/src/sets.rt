@@ -80,8 +80,8 @@ fn add_tables(
     Ok(())
 }
 
-/// The columns get lines of person `k`, whose timeline it is, that cost little at the prices. They stay as they are
-/// without a timeline, or if the fixed flight is too far from the target.
+/// The columns get lines of person `k`, whose timeline it is, that cost little at the prices. What the cheapest one
+/// brings, or nothing without a timeline, or if the fixed flight is too far from the target: then columns stay.
 pub(crate) fn renew_sets(
     alloc: Global,
     problem: &Problem,
@@ -89,21 +89,22 @@ pub(crate) fn renew_sets(
     timeline: &Option<Timeline>,
     prices: &[i64],
     columns: &mut Columns,
-) -> Result<(), AllocError>
+) -> Result<i64, AllocError>
     requires person { k < length problem.now.persons }
     requires timeline { IfSome timeline.now (IsTimeline problem.now k) }
     requires prices { ArePrices problem.now prices.now }
 {
     let Some(timeline) = timeline else {
-        return Ok(());
+        return Ok(0);
     };
     let Some(mut prospect) = Prospect::new(alloc, problem, k, timeline, prices)? else {
-        return Ok(());
+        return Ok(0);
     };
     add_tables(alloc, problem, &mut prospect, columns)?;
     let mut judge = Judge::new(alloc, prospect.problem());
     let labelled = labelled_at(alloc, &prospect, &mut judge, columns)?;
-    renew(alloc, &labelled, prices, columns)
+    renew(alloc, &labelled, prices, columns)?;
+    Ok(labelled.least)
 }
 
 /// What searches show that no line of the person is below, if it is more than `known`: what labels find to be

@@ -1,4 +1,4 @@
-//! The prices that looks begin with: what the flight of each pairing is worth.
+//! What looks begin with: prices of pairings, which are what their flight is worth.
 //!
 //! If the crew lacks flight, nearly everybody ends below the target, and each minute saves the weight; else
 //! nearly everybody ends above it, and each minute costs as much. A pairing whose price is that brings just
@@ -11,13 +11,22 @@ use roster_cost::fixed_flight;
 use roster_problem::Problem;
 use std::alloc::{AllocError, Global};
 
-/// A price for each pairing of the base, its weighed flight, but no more than its penalty; none for others.
-pub(crate) fn start_prices(
+/// What looks begin with.
+#[derive(Drop)]
+pub(crate) struct Start {
+    /// A price for each pairing of the base, its weighed flight, but no more than its penalty; none for others.
+    pub(crate) prices: Vec<i64>,
+    /// What a minute of flight is worth to nearly everybody, in parts of a cost unit.
+    pub(crate) worth: i64,
+}
+
+/// What looks at the base begin with, whose persons these are.
+pub(crate) fn start_at(
     alloc: Global,
     pricing: &Pricing<'_>,
     base: usize,
     persons: &[usize],
-) -> Result<Vec<i64>, AllocError> {
+) -> Result<Start, AllocError> {
     let problem = pricing.problem();
     let flights = flights_of(alloc, pricing, base, persons)?;
     let is_short = minutes_wanted(problem, base) > sum_of(&flights);
@@ -26,7 +35,10 @@ pub(crate) fn start_prices(
         let penalty = i64::from(pairing.penalty).wrapping_mul(PARTS as i64);
         prices.push(start_price(problem, *flight, is_short).min(penalty))?;
     }
-    Ok(prices)
+    Ok(Start {
+        prices,
+        worth: start_price(problem, 1, is_short),
+    })
 }
 
 /// What so many minutes of flight are worth, in parts of a cost unit.
