@@ -1,4 +1,4 @@
-use Rattle.std.proofs.Common.{sym, subst, ◌<◌, length}
+use Rattle.std.proofs.Common.{sym, subst, arith}
 use Rattle.std.specs.Prelude.{slice_index_or}
 use Rattle.std.proofs.lemmas.List.Elements.{All-set}
 use Rattle.roster_plan.specs.Bases.{AreGaps, IsGap}
@@ -10,10 +10,11 @@ loop-i-preserved c problem are =
     let before = c.loop-i.invariant problem are in
     elim c.match-get.branch [
       | in-Some w ↦
-          let old = w.index-gaps-i-in-Some.result in
-          let one : IsGap problem old = ?one w.index-gaps-i-in-Some.is in
+          let seen = w.index-gaps-i-in-Some.result in
+          let old = slice_index_or c.loop-i.gaps c.loop-i.i seen in
+          let one = before c.loop-i.i seen (omega (arith, c.loop-i.auto.gaps, c.loop-i-test.true)) in
           subst (AreGaps problem) (sym w.gaps-is)
-          (All-set (IsGap problem) c.loop-i.gaps c.loop-i.i _
+          (All-set (IsGap problem) c.loop-i.gaps c.loop-i.i (record old { cost = _ })
           (record { base = one.base; same = one.same; of = one.of; found = one.found }) before)
       | in_default w ↦ subst (AreGaps problem) (sym w.gaps-is) before
     ]
