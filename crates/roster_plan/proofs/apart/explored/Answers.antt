@@ -8,3 +8,11 @@ loop-preserved g c = record {
       c.loop.invariant.from c.in_ok-month-2.ensures;
   gaps = c.look_all.ensures;
 }
+
+pub close_all-requires-clause-gaps : goal.close_all-requires-clause-gaps
+close_all-requires-clause-gaps g c κs within = c.renew_costs.ensures c.args.problem.now c.loop.invariant.gaps
+
+pub returns-clause-month : goal.returns-clause-month
+returns-clause-month g c =
+    month_on c.args.problem.now c.args.start.planned.roster c.loop.month c.in_ok-month-3.month
+    c.loop.invariant.from c.in_ok-month-3.ensures
