@@ -27,8 +27,10 @@ use std::thread::{Threads, for_each_mut};
 /// of microseconds. Each effort more doubles them.
 const FEWEST_PAIRS: u64 = 1 << 15;
 
-/// How often prices of a base are looked at, at most, at effort 0.
-const FEWEST_LOOKS: u32 = 4;
+/// How often prices of a base are looked at, at most, at effort 0, and how often more with each effort more.
+const FEWEST_LOOKS: u32 = 8;
+
+const LOOKS_AN_EFFORT: u32 = 12;
 
 /// A base, how many persons it has, what its known roster costs, what prices say of it, and what searches of
 /// its gaps come to.
@@ -285,7 +287,7 @@ fn looks_of(problem: &Problem, parts: &[BasePlan], effort: u32) -> u32 {
     } else {
         MOST_EFFORT
     };
-    let looks = FEWEST_LOOKS + 2 * effort * (effort + 2);
+    let looks = FEWEST_LOOKS + LOOKS_AN_EFFORT * effort;
     let in_time = (FEWEST_PAIRS << effort) / pairs_of(problem, parts).max(1);
     in_time.min(u64::from(looks)) as u32
 }
