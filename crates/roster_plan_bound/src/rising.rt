@@ -151,8 +151,8 @@ impl<'a> PricedBound<'a> {
     /// Of a roster in which the persons of the base who are free get other pairings, by columns that cost little
     /// for all of them together: whom each pairing is given to. All others keep what the given places give them.
     /// It begins with so many looks, and each time at least so many hundredths of those who are left get theirs.
-    /// It need not be legal. The places are as given if the first looks leave no hope. So many threads at most share the persons of a look, and each number of them gives
-    /// the same.
+    /// It need not be legal. The places are as given if the first looks leave no hope. So many threads at most
+    /// share the persons of a look, and each number of them gives the same.
     pub fn dive<R: Threads + Sync>(
         &self,
         rt: &R,

@@ -48,8 +48,9 @@ pub(crate) fn least_set(
     Ok(Some(least))
 }
 
-/// Makes tables at what a minute of flight was worth to the best one before, and at a step less and more. The
-/// steps are half as long from then on if that is the best one again, and else twice as long.
+/// Makes tables at what a minute of flight was worth to the best one before, and at a step less and more: the
+/// weight at first. The steps are half as long from then on if that is the best one again, and else twice as long,
+/// within limits.
 fn add_tables(
     alloc: Global,
     problem: &Problem,
@@ -63,7 +64,7 @@ fn add_tables(
     let step = if columns.step > 0 {
         columns.step
     } else {
-        longest
+        weight
     };
     let worth = columns.worth;
     prospect.add(alloc, worth)?;
