@@ -3,6 +3,7 @@
 import hashlib
 import os
 import shutil
+import subprocess
 
 
 def sum_of(data):
@@ -90,6 +91,23 @@ def changed_receipts(tests, ran, folder):
     write(f"{folder}/large.csv", book)
 
 
+def without_room(tests, ran, folder):
+    """A receipt for which the disk has no room is as it was, and the plan is written."""
+    small = f"{folder}/small"
+    os.mkdir(small)
+    if os.geteuid() != 0 or subprocess.run(["mount", "-t", "tmpfs", "-o", "size=8k", "none", small], capture_output=True, check=False).returncode:
+        print("a receipt without room is skipped: it needs root, and mount")
+        return
+    try:
+        write(f"{small}/r", b"as it was")
+        write(f"{small}/fill", bytes(4096))
+        told = ran("plan", "--receipt", "small/r", "book.csv")
+        ends(tests, "a receipt without room", told, 4, ran("plan", "book.csv").stdout, b"error: small/r can't be written\n")
+        tests.told("a receipt without room is as it was", (read(f"{small}/r") != b"as it was" or len(os.listdir(small)) != 2) and "it isn't")
+    finally:
+        subprocess.run(["umount", small], check=False)
+
+
 def refused_receipts(tests, ran, folder):
     """What no receipt is made of, and what is none."""
     first = read(f"{folder}/book.csv")
@@ -100,12 +118,23 @@ def refused_receipts(tests, ran, folder):
     tests.told("the book that no receipt may be kept in", read(f"{folder}/book.csv") != first and "is another one")
     helped = ran("plan", "--receipt", "r", "--help")
     ends(tests, "help with a receipt", helped, 0, ran("plan", "--help").stdout)
-    ends(tests, "a receipt in no folder", ran("plan", "--receipt", "none/r", "book.csv"), 4, b"")
+    ends(tests, "help with again", ran("again", "--help"), 0, stderr=b"")
+    for place in (".", "none/r"):
+        ends(tests, f"a receipt in {place}", ran("plan", "--receipt", place, "book.csv"), 4, b"", f"error: {place} can't be written\n".encode())
+    shutil.copy(f"{folder}/book.csv", f"{folder}/r.part")
+    ends(tests, "a receipt whose new file is the book", ran("plan", "--receipt", "r", "r.part"), 2, b"")
+    tests.told("the book beside which no receipt may be kept", read(f"{folder}/r.part") != first and "is another one")
+    os.remove(f"{folder}/r.part")
+    without_room(tests, ran, folder)
+    ends(tests, "again of a folder", ran("again", "."), 4, b"", b"error: . can't be opened\n")
     ends(tests, "a receipt of no book", ran("plan", "--receipt", "r", "none.csv"), 4, b"")
     write(f"{folder}/fault.csv", b"period\n")
     ends(tests, "a receipt of a fault", ran("plan", "--receipt", "r", "fault.csv"), 1, b"FAULT 1 3\n")
     tests.told("a receipt of what is no plan", os.path.exists(f"{folder}/r") and "is there")
-    for text in (b"", b"RECEIPT\n", first):
+    good = read(f"{folder}/plan.receipt")
+    # A receipt makes no plan that would write a file, and none of files that it doesn't name.
+    other = good.replace(b"effort       ", b"word         --keep\nword         book.csv\neffort       ", 1), good.replace(b"  large.csv\nplan", b"  book.csv\nplan")
+    for text in (b"", b"RECEIPT\n", first, *other):
         write(f"{folder}/none.receipt", text)
         ends(tests, f"again of {text[:9]}", ran("again", "none.receipt"), 1, b"", b"error: none.receipt is no receipt\n")
     ends(tests, "again of nothing", ran("again", "nothing"), 4, b"", b"error: nothing can't be opened\n")
