@@ -16,6 +16,12 @@ MOST_PERSONS, MOST_PAIRINGS = 128, 512
 FILES = ("report.txt", "chart.html", "table.csv", "persons.csv", "limits.txt", "fault.txt")
 
 
+def need_folder(path):
+    """No path is the folder in which the command is given: a script whose variable has nothing means another one."""
+    if not path:
+        fail("FOLDER wants a path")
+
+
 def books_of(folder):
     """The names of the folder's books, in order."""
     if not os.path.isdir(folder):

@@ -2,6 +2,7 @@
 of the file `names` in their order, and runs `job NAME WORKERS EFFORT` for each in a folder that has the programs and the
 book."""
 
+import argparse
 import os
 import shutil
 import signal
@@ -14,6 +15,15 @@ from programs import fail
 SECONDS = 2
 # As many threads as the programs take.
 MOST_WORKERS = 64
+# More books at a time no host has processors for.
+MOST_JOBS = 10000
+
+
+def jobs(text):
+    """So many books at a time."""
+    if not 1 <= int(text) <= MOST_JOBS:
+        raise argparse.ArgumentTypeError(f"{text} is not from 1 to {MOST_JOBS}")
+    return int(text)
 
 
 class Parallel:
@@ -25,7 +35,7 @@ class Parallel:
         self.env = {"PARALLEL_SSH": "ssh -o ConnectTimeout=20 -o ServerAliveInterval=20", **os.environ}
         if not shutil.which("parallel"):
             fail("there is no GNU parallel: apt-get install parallel", 4)
-        if given.hosts and not os.path.isfile(given.hosts):
+        if given.hosts is not None and not os.path.isfile(given.hosts):
             fail(f"there is no file {given.hosts}")
 
     def workers(self, left):

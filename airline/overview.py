@@ -7,7 +7,7 @@ import os
 import re
 import sys
 
-from books import Result, books_of, penalties_of, place_of, sizes_of
+from books import Result, books_of, need_folder, penalties_of, place_of, sizes_of
 from programs import fail
 from tables import has_tables
 
@@ -97,6 +97,7 @@ def main(words):
     at.add_argument("folder", metavar="FOLDER")
     at.add_argument("--csv", action="store_true", help="a table in place of a page")
     given = at.parse_args(words)
+    need_folder(given.folder)
     folder = os.path.abspath(given.folder)
     if has_tables(folder):
         fail(f"{given.folder} has tables: its books lie in {given.folder}/books/YYYY-MM")

@@ -15,7 +15,7 @@ import tempfile
 import time
 
 import engines
-from books import FILES, Result, books_of, place_of, sizes_of, write_whole
+from books import FILES, Result, books_of, need_folder, place_of, sizes_of, write_whole
 from programs import NAMES, fail, program, sum_of, version, wrong_with
 from tables import has_tables, make_books
 
@@ -35,7 +35,7 @@ def words_of(words):
     at.add_argument("--effort", type=int, choices=range(10), default=5, metavar="N", help="of plans, from 0 to 9 (5)")
     at.add_argument("--engine", choices=("parallel", "slurm"), default="parallel", help="GNU parallel or Slurm (parallel)")
     at.add_argument("--hosts", metavar="FILE", help="a line for each host that GNU parallel reaches by ssh; ':' is this machine")
-    at.add_argument("--jobs", type=int, metavar="N", help="so many books at a time on each host (one for each processor)")
+    at.add_argument("--jobs", type=engines.jobs, metavar="N", help="so many books at a time on each host (one for each processor)")
     at.add_argument("--workers", type=int, metavar="N", help="threads of each book (1, but of the last ones on this machine all)")
     at.add_argument("--quiet", action="store_true", help="tells no progress")
     return at.parse_args(words)
@@ -214,8 +214,9 @@ class Run:
 
 def main(words):
     given = words_of(words)
-    if given.workers not in (None, *range(1, engines.MOST_WORKERS + 1)) or (given.jobs or 1) < 1:
-        fail("--workers is from 1 to 64, and --jobs at least 1")
+    need_folder(given.folder)
+    if given.workers not in (None, *range(1, engines.MOST_WORKERS + 1)):
+        fail(f"--workers is from 1 to {engines.MOST_WORKERS}")
     if (given.month is not None) != has_tables(given.folder) or (given.weight is not None and given.month is None):
         fail("--month is for a folder with bases.csv, crew.csv, pairings.csv and duties.csv, and --weight goes with it")
     has_all = True

@@ -12,6 +12,7 @@ import tempfile
 
 import running
 from books import MOST_PAIRINGS, MOST_PERSONS, write_whole
+from engines import jobs
 from programs import Report, fail
 from tables import records_of
 
@@ -206,7 +207,7 @@ def words_of(words):
     at.add_argument("--into", metavar="FOLDER", help="keeps the rounds, and report.txt after each; for Slurm one that all nodes have")
     at.add_argument("--engine", choices=("parallel", "slurm"), default="parallel")
     at.add_argument("--hosts", metavar="FILE", help="as for run")
-    at.add_argument("--jobs", type=int, metavar="N", help="as for run")
+    at.add_argument("--jobs", type=jobs, metavar="N", help="as for run")
     given = at.parse_args(words)
     if given.rounds < 1 or not 1 <= given.persons <= MOST_PERSONS:
         fail("--rounds is at least 1, and --persons from 1 to 128")
@@ -216,7 +217,7 @@ def words_of(words):
         fail("--base, --rank and --weight go with --month")
     given.words = ["--quiet", "--effort", str(given.effort), "--engine", given.engine]
     for name in ("hosts", "jobs"):
-        if getattr(given, name):
+        if getattr(given, name) is not None:
             given.words += [f"--{name}", str(getattr(given, name))]
     return given
 
