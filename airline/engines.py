@@ -65,11 +65,12 @@ class Parallel:
         return self.process.poll() is None
 
     def stop(self):
-        """Ends what was started. GNU parallel ends what it started on hosts if it is asked to twice."""
-        for each in (signal.SIGTERM, signal.SIGTERM, signal.SIGKILL) if self.process else ():
+        """Ends what was started. GNU parallel ends its jobs, here and on hosts, if it is asked to twice. Then it has time to do
+        so on a busy machine: if it is killed, they go on."""
+        for each, seconds in ((signal.SIGTERM, 2), (signal.SIGTERM, 20), (signal.SIGKILL, 2)) if self.process else ():
             try:
                 os.killpg(self.process.pid, each)
-                self.process.wait(2)
+                self.process.wait(seconds)
             except ProcessLookupError:
                 return
             except subprocess.TimeoutExpired:
