@@ -125,9 +125,11 @@ fn explored<R: Threads + Sync, W: Watcher>(
     // The first look was that of a new bound, at its first prices.
     let mut month = with_bounds(alloc, problem, start, gaps, watcher)?;
     for _ in 1..looks {
-        look_all(rt, alloc, problem, means.workers, gaps);
+        look_all(rt, alloc, problem, means.workers, false, gaps);
         month = with_bounds(alloc, problem, month, gaps, watcher)?;
     }
+    look_all(rt, alloc, problem, means.workers, true, gaps);
+    month = with_bounds(alloc, problem, month, gaps, watcher)?;
     month = improved_by_dives(rt, alloc, problem, month, means, gaps, watcher)?;
     renew_costs(&month.parts, gaps);
     close_all(rt, alloc, problem, means, gaps);
@@ -145,12 +147,13 @@ fn renew_costs(parts: &[BasePlan], gaps: &mut [Gap<'_>])
     }
 }
 
-/// Looks at other prices of each base.
+/// Looks at other prices of each base, or, in the end, shows what looks claim.
 fn look_all<R: Threads + Sync>(
     rt: &R,
     alloc: Global,
     problem: &Problem,
     workers: usize,
+    is_end: bool,
     gaps: &mut [Gap<'_>],
 )
     requires workers { 0 < workers }
@@ -162,7 +165,7 @@ fn look_all<R: Threads + Sync>(
         requires { IsSync R.row × IsGap problem.now gap.old × (0 < each) }
         ensures { IsGap problem.entry.now gap.new }
     {
-        look_on(rt, alloc, problem, each, gap);
+        look_on(rt, alloc, problem, each, is_end, gap);
     };
     for_each_mut(rt, gaps, threads, &look);
 }
@@ -194,12 +197,13 @@ fn shares(workers: usize, gaps: &[Gap<'_>]) -> (usize, usize)
     }
 }
 
-/// Looks at other prices of a base, whose persons so many threads share.
+/// Looks at other prices of a base, whose persons so many threads share, or, in the end, shows what looks claim.
 fn look_on<R: Threads + Sync>(
     rt: &R,
     alloc: Global,
     problem: &Problem,
     threads: usize,
+    is_end: bool,
     gap: &mut Gap<'_>,
 )
     requires threads { 0 < threads }
@@ -207,7 +211,11 @@ fn look_on<R: Threads + Sync>(
     ensures { IsGap problem.now gap.new }
 {
     let (cost, priced) = (gap.cost, &mut gap.priced);
-    gap.raised = priced.raise(rt, alloc, threads, cost, 1);
+    gap.raised = if is_end {
+        priced.settle(rt, alloc, threads)
+    } else {
+        priced.raise(rt, alloc, threads, cost, 1)
+    };
 }
 
 /// The month with what prices say of its bases, where that is more.

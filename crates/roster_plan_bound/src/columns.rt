@@ -2,9 +2,34 @@
 
 use crate::lists::{amount_at, place_at};
 use crate::softness::{share_of, weight_of};
-use crate::tuning::FINE;
+use crate::tuning::{FINE, FIRST_REACH};
 use roster_values::Set;
 use std::alloc::{AllocError, Global};
+
+/// What a look at a person begins with, learned by the ones before.
+#[derive(Clone, Copy)]
+pub(crate) struct Hints {
+    /// How far above the least one sets are to be listed, in parts of a cost unit.
+    pub(crate) reach: i64,
+    /// Whether each label is judged: cheap ones often broke a rule that labels don't know of.
+    pub(crate) is_strict: bool,
+    /// What a minute of flight is worth to the table that last said most, in parts of a cost unit.
+    pub(crate) worth: i64,
+    /// How far the other tables are from it; nothing before the first ones.
+    pub(crate) step: i64,
+}
+
+impl Hints {
+    /// Those of the first look.
+    fn first() -> Hints {
+        Hints {
+            reach: FIRST_REACH,
+            is_strict: false,
+            worth: 0,
+            step: 0,
+        }
+    }
+}
 
 /// The legal sets of one person that are known, one behind another.
 #[derive(Drop)]
@@ -13,24 +38,18 @@ pub(crate) struct Columns {
     costs: Vec<i64>,
     ends: Vec<usize>,
     places: Vec<u16>,
-    /// How far above the least the next ones are to be listed, in parts of a cost unit.
-    pub(crate) reach: i64,
-    /// What a minute of flight is worth to the table that last said most, in parts of a cost unit.
-    pub(crate) worth: i64,
-    /// How far the other tables are from it; nothing before the first ones.
-    pub(crate) step: i64,
+    /// What the next look at the person begins with.
+    pub(crate) hints: Hints,
 }
 
 impl Columns {
     /// None so far.
-    pub(crate) fn new(alloc: Global, reach: i64) -> Columns {
+    pub(crate) fn new(alloc: Global) -> Columns {
         Columns {
             costs: Vec::new(alloc),
             ends: Vec::new(alloc),
             places: Vec::new(alloc),
-            reach,
-            worth: 0,
-            step: 0,
+            hints: Hints::first(),
         }
     }
 
@@ -134,9 +153,8 @@ impl Columns {
         most: usize,
     ) -> Result<Columns, AllocError> {
         let limit = self.value_behind(alloc, prices, most)?;
-        let mut kept = Columns::new(alloc, self.reach);
-        kept.worth = self.worth;
-        kept.step = self.step;
+        let mut kept = Columns::new(alloc);
+        kept.hints = self.hints;
         for i in 0..self.len() {
             if i == 0 || self.value(i, prices) < limit {
                 kept.push(self.places(i), amount_at(&self.costs, i))?;
@@ -204,11 +222,8 @@ impl Columns {
 
     /// The same columns.
     pub(crate) fn copy(&self, alloc: Global) -> Result<Columns, AllocError> {
-        let mut copy = Columns {
-            worth: self.worth,
-            step: self.step,
-            ..Columns::new(alloc, self.reach)
-        };
+        let mut copy = Columns::new(alloc);
+        copy.hints = self.hints;
         copy.costs.extend_from_slice(&self.costs)?;
         copy.ends.extend_from_slice(&self.ends)?;
         copy.places.extend_from_slice(&self.places)?;

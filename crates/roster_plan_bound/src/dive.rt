@@ -12,7 +12,7 @@ use crate::master::{Covered, ascend, ascend_with_shares};
 use crate::own_cost::own_cost;
 use crate::pace::Pace;
 use crate::parts::{MOST_PLAN_PRICE, PARTS};
-use crate::persons::Seen;
+use crate::persons::{Seen, check, renew_all};
 use crate::pricing::Pricing;
 use crate::rising::limited;
 use crate::tuning::{DIVE_PACE, DIVE_SOFTNESS, LEAST_DIVE_SHARE, LOOKS_A_DIVE, ONE, SURE_SHARE};
@@ -173,7 +173,7 @@ impl<'a> Dive<'a> {
                 pace,
             )?;
             let prices = limited(alloc, self.pricing.problem(), &wanted)?;
-            look_at(
+            renew_all(
                 rt,
                 alloc,
                 threads,
@@ -273,55 +273,6 @@ impl<'a> Dive<'a> {
         self.free = free;
         Ok(())
     }
-}
-
-/// Looks at those who are left at the prices, by so many threads at most.
-fn look_at<R: Threads + Sync>(
-    rt: &R,
-    alloc: Global,
-    threads: usize,
-    pricing: &Pricing<'_>,
-    left: &[usize],
-    prices: &[i64],
-    seen: &mut [Seen],
-)
-    requires threads { 0 < threads }
-    requires prices { ArePrices pricing.now prices.now }
-{
-    let look = |i: usize, one: &mut Seen|
-        requires { ArePrices pricing.now prices.now }
-    {
-        if let Some(k) = left.get(i) {
-            one.least = renewed(alloc, pricing, *k, prices, &mut one.columns);
-        }
-    };
-    for_each_mut(rt, seen, threads, &look);
-}
-
-/// Renews the columns of person `k`, if there is such a person. What the cheapest of them brings.
-fn renewed(
-    alloc: Global,
-    pricing: &Pricing<'_>,
-    k: usize,
-    prices: &[i64],
-    columns: &mut Columns,
-) -> Result<i64, AllocError>
-    requires { ArePrices pricing.now prices.now }
-{
-    if k >= pricing.problem().persons().len() {
-        return Ok(0);
-    }
-    pricing.renew(alloc, k, prices, columns)
-}
-
-/// Whether there was memory for all looks.
-fn check(seen: &[Seen]) -> Result<(), AllocError> {
-    for one in seen {
-        if one.least.is_err() {
-            return Err(AllocError);
-        }
-    }
-    Ok(())
 }
 
 /// Marks the one at this place.

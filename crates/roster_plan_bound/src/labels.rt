@@ -1,8 +1,9 @@
 //! Legal sets of a person that bring little, found by labels in order of time. Nothing rests on them.
 //!
-//! A label is a legal set with what is known at its end. Of the labels that end with a pairing only those stay
-//! that promise least, and each of them has another flight, a later class or more days off: of sets that
-//! differ little, one tells prices enough.
+//! A label is a set of which each two pairings are legal together, with what is known at its end. Of the labels that
+//! end with a pairing only those stay that promise least, and each of them has another flight, a later class or more
+//! days off: of sets that differ little, one tells prices enough. Only the cheapest ones are judged in the end, or each
+//! of them if that came too late at the look before.
 
 ghost use Rattle.std.specs.Prelude.{◌≡◌, ◌<◌, All, IfOk, IfSome, true};
 ghost use Rattle.roster_model.specs.Rules.{is_among};
@@ -11,21 +12,26 @@ ghost use Rattle.roster_plan_bound.specs.Seeks.{IsEndWith, IsSpot};
 use crate::columns::Columns;
 use crate::parts::MOST_PLAN_PRICE;
 use crate::prospect::Prospect;
-use crate::seek::{End, Spot, end_with, spot_with, start_of};
-use crate::tuning::{FEWEST_LABELS, MOST_LABELS, MOST_LABELS_AT_ONE, MOST_LISTED};
+use crate::seek::{End, Spot, end_with, is_legal, spot_with, start_of};
+use crate::tuning::{
+    FEWEST_LABELS, MANY_BROKEN, MOST_COLUMNS, MOST_LABELS, MOST_LABELS_AT_ONE, MOST_LISTED,
+};
 use roster_legal::Judge;
 use roster_model::limits::MOST_PAIRINGS;
 use std::alloc::{AllocError, Global};
+use std::collections::BinaryHeap;
 
-/// What labels find of a person at some prices.
-#[derive(Drop)]
+/// What labels know of a person at some prices.
+#[derive(Clone, Copy)]
 pub(crate) struct Labelled {
     /// What the cheapest set brings that is known, in parts of a cost unit.
     pub(crate) least: i64,
     /// How far above it a set may be to be listed.
     pub(crate) reach: i64,
-    /// Those that were so near when they were found, as many as there is room for.
-    pub(crate) found: Columns,
+    /// Whether each label is judged: cheap ones often broke a rule that labels don't know of.
+    pub(crate) is_strict: bool,
+    /// How many labels bring so little that they may be listed.
+    pub(crate) many: usize,
 }
 
 impl Labelled {
@@ -35,20 +41,20 @@ impl Labelled {
     }
 }
 
-/// What a label promises at least that goes on with a pairing, and its place among the labels.
+/// A label, by how much less than nothing it promises to bring.
 #[derive(Clone, Copy, PartialEq, Eq, PartialOrd, Ord)]
 struct Promise {
-    least: i64,
+    saved: i64,
     label: usize,
 }
 
-/// Makes labels, pairing by pairing in order of time, and lists the sets that bring little.
+/// Makes labels, pairing by pairing in order of time. The sets of those that bring least, as far as they are legal.
 pub(crate) fn label_all(
     alloc: Global,
     prospect: &Prospect<'_>,
     judge: &mut Judge<'_>,
     labelled: &mut Labelled,
-) -> Result<(), AllocError>
+) -> Result<Columns, AllocError>
     requires { judge.old ≡ prospect.now.problem }
     ensures { judge.new ≡ prospect.now.problem }
 {
@@ -61,10 +67,10 @@ pub(crate) fn label_all(
         if is_barred(prospect, q) {
             continue;
         }
-        let near = promises(alloc, prospect, &labels, q, labelled)?;
-        add_labels(prospect, judge, &near, q, most, &mut labels, labelled)?;
+        let near = promises(alloc, prospect, &labels, q, labelled.limit())?;
+        add_labels(prospect, judge, near, q, most, &mut labels, labelled)?;
     }
-    Ok(())
+    cheapest(alloc, prospect, judge, &labels, labelled)
 }
 
 /// Whether the price of pairing `q` is such that nobody is to have it.
@@ -80,27 +86,28 @@ fn most_at_one(pairings: usize) -> usize {
     (MOST_LABELS / pairings.max(1)).clamp(FEWEST_LABELS, MOST_LABELS_AT_ONE)
 }
 
-/// The labels that may go on with pairing `q` and promise little, the least first.
+/// The labels that may go on with pairing `q` and promise little.
 fn promises(
     alloc: Global,
     prospect: &Prospect<'_>,
     labels: &[Spot],
     q: usize,
-    labelled: &Labelled,
-) -> Result<Vec<Promise>, AllocError>
+    limit: i64,
+) -> Result<BinaryHeap<Promise>, AllocError>
     requires { All (IsSpot prospect.now) labels.now }
 {
-    let limit = labelled.limit();
     let mut near = Vec::new(alloc);
     for label in 0..labels.len() {
         if let Some((_, least)) = promised(prospect, &labels[label], q) {
             if least <= limit {
-                near.push(Promise { least, label })?;
+                near.push(Promise {
+                    saved: least.wrapping_neg(),
+                    label,
+                })?;
             }
         }
     }
-    near.sort_unstable();
-    Ok(near)
+    Ok(BinaryHeap::from(near))
 }
 
 /// The end of a label with pairing `q` behind, and what it promises at least; none if that isn't legal.
@@ -128,7 +135,7 @@ fn promised(prospect: &Prospect<'_>, spot: &Spot, q: usize) -> Option<(End, i64)
 fn add_labels(
     prospect: &Prospect<'_>,
     judge: &mut Judge<'_>,
-    near: &[Promise],
+    near: BinaryHeap<Promise>,
     q: usize,
     most: usize,
     labels: &mut Vec<Spot>,
@@ -140,13 +147,25 @@ fn add_labels(
     ensures labels { All (IsSpot prospect.now) labels.new.items }
 {
     let first = labels.len();
-    for promise in near {
+    let mut near = near;
+    for _ in 0..near.len() {
+        let Some(promise) = near.pop() else {
+            break;
+        };
         if labels.len().wrapping_sub(first) >= most {
             break;
         }
-        if let Some(next) = next_label(prospect, judge, labels, first, promise.label, q)? {
+        if let Some(next) = next_label(
+            prospect,
+            judge,
+            labels,
+            first,
+            promise.label,
+            q,
+            labelled.is_strict,
+        )? {
+            labelled.least = labelled.least.min(gain_at(prospect, &next));
             labels.push(next)?;
-            keep(prospect, &next, labelled)?;
         }
     }
     Ok(())
@@ -161,6 +180,7 @@ fn next_label(
     first: usize,
     label: usize,
     q: usize,
+    is_strict: bool,
 ) -> Result<Option<Spot>, AllocError>
     requires judge { judge.old ≡ prospect.now.problem }
     requires labels { All (IsSpot prospect.now) labels.now }
@@ -177,7 +197,7 @@ fn next_label(
         return Ok(None);
     }
     let next = spot_with(prospect, spot, q, end);
-    if !judge.is_legal(prospect.person(), &next.set)? {
+    if is_strict && !is_legal(prospect, judge, &next)? {
         return Ok(None);
     }
     Ok(Some(next))
@@ -201,14 +221,66 @@ fn is_as_good(known: &End, end: &End) -> bool {
         && known.need <= end.need
 }
 
-/// Lists the set of a label if it brings little.
-fn keep(prospect: &Prospect<'_>, spot: &Spot, labelled: &mut Labelled) -> Result<(), AllocError>
+/// What the set of a label brings.
+fn gain_at(prospect: &Prospect<'_>, spot: &Spot) -> i64
     requires { IsSpot prospect.now spot.now }
 {
-    let gain = spot.end.value.wrapping_add(prospect.term(spot.end.flight));
-    labelled.least = labelled.least.min(gain);
-    if gain > labelled.limit() || labelled.found.len() >= MOST_LISTED {
-        return Ok(());
+    spot.end.value.wrapping_add(prospect.term(spot.end.flight))
+}
+
+/// The sets of the labels that bring least, as far as they are legal, no more than so many.
+fn cheapest(
+    alloc: Global,
+    prospect: &Prospect<'_>,
+    judge: &mut Judge<'_>,
+    labels: &[Spot],
+    labelled: &mut Labelled,
+) -> Result<Columns, AllocError>
+    requires judge { judge.old ≡ prospect.now.problem }
+    requires labels { All (IsSpot prospect.now) labels.now }
+    ensures judge { judge.new ≡ prospect.now.problem }
+{
+    let mut cheap = within(alloc, prospect, labels, labelled.limit())?;
+    labelled.many = cheap.len();
+    let mut found = Columns::new(alloc);
+    let mut broken: usize = 0;
+    for _ in 0..cheap.len().min(MOST_LISTED) {
+        let Some(promise) = cheap.pop() else {
+            break;
+        };
+        if found.len() >= MOST_COLUMNS || promise.label >= labels.len() {
+            break;
+        }
+        let spot = &labels[promise.label];
+        if is_legal(prospect, judge, spot)? {
+            found.push_gain(&spot.set, promise.saved.wrapping_neg(), prospect.prices())?;
+        } else {
+            broken = broken.wrapping_add(1);
+        }
     }
-    labelled.found.push_gain(&spot.set, gain, prospect.prices())
+    labelled.least = found.least_value(prospect.prices());
+    labelled.is_strict = broken > found.len() / MANY_BROKEN;
+    Ok(found)
+}
+
+/// The labels whose sets bring no more than so much.
+fn within(
+    alloc: Global,
+    prospect: &Prospect<'_>,
+    labels: &[Spot],
+    limit: i64,
+) -> Result<BinaryHeap<Promise>, AllocError>
+    requires { All (IsSpot prospect.now) labels.now }
+{
+    let mut cheap = Vec::new(alloc);
+    for label in 0..labels.len() {
+        let gain = gain_at(prospect, &labels[label]);
+        if gain <= limit {
+            cheap.push(Promise {
+                saved: gain.wrapping_neg(),
+                label,
+            })?;
+        }
+    }
+    Ok(BinaryHeap::from(cheap))
 }

@@ -6,7 +6,6 @@ ghost use Rattle.roster_plan_bound.specs.Reduced.{ArePrices};
 
 use crate::columns::Columns;
 use crate::pricing::Pricing;
-use crate::tuning::FIRST_REACH;
 use std::alloc::{AllocError, Global};
 use std::thread::{Threads, for_each_mut};
 
@@ -27,7 +26,7 @@ pub(crate) fn unseen(alloc: Global, count: usize) -> Result<Vec<Seen>, AllocErro
     seen.resize_with(
         count,
         || Seen {
-            columns: Columns::new(alloc, FIRST_REACH),
+            columns: Columns::new(alloc),
             least: Err(AllocError),
         },
     )?;
@@ -43,6 +42,7 @@ pub(crate) fn look_at_all<R: Threads + Sync>(
     pricing: &Pricing<'_>,
     persons: &[usize],
     prices: &[i64],
+    visits: u32,
     seen: &mut [Seen],
 )
     requires threads { 0 < threads }
@@ -57,7 +57,58 @@ pub(crate) fn look_at_all<R: Threads + Sync>(
         requires prices { ArePrices pricing.now prices.now }
         ensures { IsSeen pricing.entry.now prices.entry.now (slice_index persons.entry.now i) one.new }
     {
-        one.least = pricing.least(alloc, persons[i], prices, &mut one.columns);
+        one.least = pricing.least(alloc, persons[i], prices, visits, &mut one.columns);
     };
     for_each_mut(rt, seen, threads, &look);
+}
+
+/// Renews the columns of each of these persons at the prices, by so many threads at most. What the cheapest one
+/// of each costs then: nothing is claimed of it.
+pub(crate) fn renew_all<R: Threads + Sync>(
+    rt: &R,
+    alloc: Global,
+    threads: usize,
+    pricing: &Pricing<'_>,
+    persons: &[usize],
+    prices: &[i64],
+    seen: &mut [Seen],
+)
+    requires threads { 0 < threads }
+    requires prices { ArePrices pricing.now prices.now }
+    ensures { length seen.new ≡ length seen.old }
+{
+    let renew = |i: usize, one: &mut Seen|
+        requires { ArePrices pricing.now prices.now }
+    {
+        if let Some(k) = persons.get(i) {
+            one.least = renewed(alloc, pricing, *k, prices, &mut one.columns);
+        }
+    };
+    for_each_mut(rt, seen, threads, &renew);
+}
+
+/// Renews the columns of person `k`, if there is such a person. What the cheapest of them brings.
+fn renewed(
+    alloc: Global,
+    pricing: &Pricing<'_>,
+    k: usize,
+    prices: &[i64],
+    columns: &mut Columns,
+) -> Result<i64, AllocError>
+    requires { ArePrices pricing.now prices.now }
+{
+    if k >= pricing.problem().persons().len() {
+        return Ok(0);
+    }
+    pricing.renew(alloc, k, prices, columns)
+}
+
+/// Whether there was memory for all looks.
+pub(crate) fn check(seen: &[Seen]) -> Result<(), AllocError> {
+    for one in seen {
+        if one.least.is_err() {
+            return Err(AllocError);
+        }
+    }
+    Ok(())
 }

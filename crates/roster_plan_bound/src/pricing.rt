@@ -104,8 +104,8 @@ impl<'a> Pricing<'a> {
         self.problem
     }
 
-    /// What the prices say of all rosters of the base, whose persons are given. The columns of these are
-    /// renewed. So many threads at most share them.
+    /// What the prices say of all rosters of the base, whose persons are given. Searches show it, which go on from
+    /// so many sets of a person at most, or only tables. So many threads at most share the persons.
     pub(crate) fn look<R: Threads + Sync>(
         &self,
         rt: &R,
@@ -114,6 +114,7 @@ impl<'a> Pricing<'a> {
         base: usize,
         persons: &[usize],
         prices: &[i64],
+        visits: u32,
         seen: &mut [Seen],
     ) -> Result<Priced, AllocError>
         requires threads { 0 < threads }
@@ -126,7 +127,7 @@ impl<'a> Pricing<'a> {
     {
         priced_shares_add_up();
         shares_add_up();
-        let leasts = self.leasts(rt, alloc, threads, base, persons, prices, seen)?;
+        let leasts = self.leasts(rt, alloc, threads, base, persons, prices, visits, seen)?;
         let terms = sum_of_terms(self.problem, base, prices);
         let parts = leasts.sum + terms;
         let bound = cost_without_pairings(self.problem) + in_units(parts);
@@ -145,12 +146,26 @@ impl<'a> Pricing<'a> {
         &self.networks[k]
     }
 
-    /// No line of person `k` has a lower reduced cost at the prices. The person's columns are renewed.
+    /// What the known columns claim that the prices say of the rosters of a base, in parts of a cost unit above what
+    /// it costs that nobody has a pairing. It is true if the cheapest column of each person is the cheapest set.
+    pub(crate) fn claim(&self, base: usize, prices: &[i64], seen: &[Seen]) -> i64
+        requires { ArePrices self.now prices.now }
+    {
+        let mut sum = sum_of_terms(self.problem, base, prices);
+        for one in seen {
+            sum = sum.wrapping_add(one.columns.least_value(prices));
+        }
+        sum
+    }
+
+    /// No line of person `k` has a lower reduced cost at the prices. The person's columns get what is found, by a
+    /// search that goes on from so many sets at most.
     pub(crate) fn least(
         &self,
         alloc: Global,
         k: usize,
         prices: &[i64],
+        visits: u32,
         columns: &mut Columns,
     ) -> Result<i64, AllocError>
         requires person { k < length self.now.persons }
@@ -164,6 +179,7 @@ impl<'a> Pricing<'a> {
             &self.networks[k],
             &self.timelines[k],
             prices,
+            visits,
             columns,
         )
     }
@@ -212,6 +228,7 @@ impl<'a> Pricing<'a> {
         base: usize,
         persons: &[usize],
         prices: &[i64],
+        visits: u32,
         seen: &mut [Seen],
     ) -> Result<Leasts, AllocError>
         requires threads { 0 < threads }
@@ -224,7 +241,7 @@ impl<'a> Pricing<'a> {
         ensures covers { length seen.new ≡ length seen.old }
     {
         self.problem.is_sound();
-        look_at_all(rt, alloc, threads, self, persons, prices, seen);
+        look_at_all(rt, alloc, threads, self, persons, prices, visits, seen);
         let mut sum = 0;
         let mut each = Vec::new(alloc);
         let mut i = 0;
@@ -251,6 +268,7 @@ fn least_of(
     network: &Network,
     timeline: &Option<Timeline>,
     prices: &[i64],
+    visits: u32,
     columns: &mut Columns,
 ) -> Result<i64, AllocError>
     requires person { k < length problem.now.persons }
@@ -259,7 +277,7 @@ fn least_of(
     requires prices { ArePrices problem.now prices.now }
     ensures { IfOk result (IsLeastOf problem.now prices.now k) }
 {
-    let least = least_set(alloc, problem, k, timeline, prices, columns)?;
+    let least = least_set(alloc, problem, k, timeline, prices, visits, columns)?;
     if let Some(least) = least {
         return Ok(least);
     }

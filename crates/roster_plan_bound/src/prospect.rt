@@ -140,6 +140,33 @@ impl<'a> Prospect<'a> {
         Ok(())
     }
 
+    /// Makes tables at worths nearer and nearer to the one that says most, so often one on either side.
+    pub(crate) fn refine(&mut self, alloc: Global, times: u32) -> Result<(), AllocError>
+        ensures { self.new ≡ self.old }
+    {
+        for _ in 0..times {
+            let best = self.best_worth();
+            let (below, above) = self.neighbours(best);
+            self.add(alloc, best.wrapping_add(below) / 2)?;
+            self.add(alloc, best.wrapping_add(above) / 2)?;
+        }
+        Ok(())
+    }
+
+    /// The nearest worths of tables on either side of this one, or it itself if there is none.
+    fn neighbours(&self, worth: i64) -> (i64, i64) {
+        let (mut below, mut above) = (worth, worth);
+        for table in &self.tables {
+            if table.worth < worth && (below == worth || table.worth > below) {
+                below = table.worth;
+            }
+            if table.worth > worth && (above == worth || table.worth < above) {
+                above = table.worth;
+            }
+        }
+        (below, above)
+    }
+
     /// The table at what a minute of flight costs, or at the nearest worth that may be.
     fn table_at(&self, alloc: Global, worth: i64) -> Result<WorthTable, AllocError>
         ensures { IfOk result

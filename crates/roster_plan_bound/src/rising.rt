@@ -15,10 +15,10 @@ use crate::lists::amount_at;
 use crate::master::{Covered, ascend};
 use crate::pace::Pace;
 use crate::parts::{MOST_PLAN_PRICE, PARTS};
-use crate::persons::{Seen, unseen};
+use crate::persons::{Seen, check, renew_all, unseen};
 use crate::pricing::{Priced, Pricing};
 use crate::start::start_prices;
-use crate::tuning::MOST_IDLE;
+use crate::tuning::{MOST_IDLE, MOST_VISITS, VISITS_A_LOOK};
 use roster_bases::{is_pairing_of, persons_of};
 use roster_lines::TableFault;
 use roster_lines_table::Table;
@@ -42,10 +42,16 @@ pub struct PricedBound<'a> {
     leasts: Vec<i64>,
     bound: i64,
     parts: i64,
-    // How the next prices move from the best ones.
+    // The prices at which known columns claim most, and how much that is, in parts.
+    claimed: Vec<i64>,
+    claim: i64,
+    // How the next prices move from these.
     pace: Pace,
-    // How many looks in a row have said no more in whole cost units.
+    // How many looks in a row have claimed no cost unit more.
     idle: u32,
+    // How many looks at prices there were, and how many of them since searches showed a claim.
+    looks: u32,
+    unshown: u32,
 }
 
 impl<'a> Model for PricedBound<'a> {
@@ -76,6 +82,7 @@ impl<'a> PricedBound<'a> {
     {
         let mut bound = PricedBound::unpriced(rt, alloc, threads, pricing, base)?;
         bound.look_first(rt, alloc, threads)?;
+        bound.show(rt, alloc, threads, VISITS_A_LOOK)?;
         Ok(bound)
     }
 
@@ -93,10 +100,10 @@ impl<'a> PricedBound<'a> {
     }
 
     /// Raises the bound by so many looks at other prices. Each look lists legal sets that cost little, and the
-    /// next prices are the best ones for all that are known: column generation, with prices kept near those of
-    /// the best look. It ends before so many looks if many in a row say no more, or if the bound is what a known
-    /// roster costs. So many threads at most share the persons of a look, and each number of them gives the same
-    /// bound.
+    /// next prices are the best ones for all that are known: column generation, with prices kept near those at
+    /// which most is claimed. Searches show what is claimed, each time after half as many looks as there were before.
+    /// There are fewer looks if many in a row claim no more, or if the bound is what a known roster costs. So many
+    /// threads at most share the persons of a look, and each number of them gives the same bound.
     pub fn raise<R: Threads + Sync>(
         &mut self,
         rt: &R,
@@ -115,13 +122,58 @@ impl<'a> PricedBound<'a> {
                 break;
             }
             self.step(rt, alloc, threads)?;
+            self.show_if_due(rt, alloc, threads, known)?;
         }
         Ok(())
     }
 
-    /// Whether `raise` looks no more: the bound is what a known roster costs, or looks say no more.
+    /// Shows what is claimed at the best prices, by longer searches than those between looks. So many threads at
+    /// most share the persons.
+    pub fn settle<R: Threads + Sync>(
+        &mut self,
+        rt: &R,
+        alloc: Global,
+        threads: usize,
+    ) -> Result<(), AllocError>
+        requires { 0 < threads }
+        ensures problem { self.new.problem ≡ self.old.problem }
+        ensures base { self.new.base ≡ self.old.base }
+        ensures raised { self.old.bound ≤ℤ self.new.bound }
+    {
+        self.show(rt, alloc, threads, MOST_VISITS)
+    }
+
+    /// Shows what is claimed if that is due, or if it is what a known roster costs.
+    fn show_if_due<R: Threads + Sync>(
+        &mut self,
+        rt: &R,
+        alloc: Global,
+        threads: usize,
+        known: i64,
+    ) -> Result<(), AllocError>
+        requires { 0 < threads }
+        ensures problem { self.new.problem ≡ self.old.problem }
+        ensures base { self.new.base ≡ self.old.base }
+        ensures raised { self.old.bound ≤ℤ self.new.bound }
+    {
+        self.looks = self.looks.wrapping_add(1);
+        self.unshown = self.unshown.wrapping_add(1);
+        if self.unshown.wrapping_mul(3) < self.looks && !self.claims(known) {
+            return Ok(());
+        }
+        let visits = self.unshown.saturating_mul(VISITS_A_LOOK);
+        self.show(rt, alloc, threads, visits)
+    }
+
+    /// Whether `raise` looks no more: the bound is what a known roster costs, or looks claim no more.
     pub fn is_done(&self, known: i64) -> bool {
         self.bound >= known || self.idle >= MOST_IDLE
+    }
+
+    /// Whether no roster costs less than a known one, if what is claimed is true.
+    fn claims(&self, known: i64) -> bool {
+        let more = self.claim.saturating_sub(self.parts) / PARTS as i64;
+        self.bound.saturating_add(more) >= known
     }
 
     /// For the rosters in which only persons of the base fly: the lines that each of them may have in a legal
@@ -197,7 +249,8 @@ impl<'a> PricedBound<'a> {
         let persons = persons_of(alloc, problem, base)?;
         let mut seen = unseen(alloc, persons.len())?;
         let prices = no_prices(alloc, problem)?;
-        let look = pricing.look(rt, alloc, threads, base, &persons, &prices, &mut seen)?;
+        let look = pricing.look(rt, alloc, threads, base, &persons, &prices, 0, &mut seen)?;
+        let claimed = no_prices(alloc, problem)?;
         Ok(PricedBound {
             pricing,
             base,
@@ -207,12 +260,16 @@ impl<'a> PricedBound<'a> {
             leasts: look.leasts,
             bound: look.bound,
             parts: look.parts,
+            claimed,
+            claim: i64::MIN,
             pace: Pace::first(),
             idle: 0,
+            looks: 0,
+            unshown: 0,
         })
     }
 
-    /// Looks at the first prices, and takes them if they say more.
+    /// Finds columns at the first prices.
     fn look_first<R: Threads + Sync>(
         &mut self,
         rt: &R,
@@ -220,9 +277,7 @@ impl<'a> PricedBound<'a> {
         threads: usize,
     ) -> Result<(), AllocError>
         requires { 0 < threads }
-        ensures problem { self.new.problem ≡ self.old.problem }
-        ensures base { self.new.base ≡ self.old.base }
-        ensures raised { self.old.bound ≤ℤ self.new.bound }
+        ensures { self.new ≡ self.old }
     {
         let problem = self.pricing.problem();
         let wanted = start_prices(alloc, self.pricing, self.base, &self.persons)?;
@@ -230,7 +285,7 @@ impl<'a> PricedBound<'a> {
         self.look(rt, alloc, threads, prices)
     }
 
-    /// Looks at the next prices, and takes them if they say more.
+    /// Finds columns at the next prices.
     fn step<R: Threads + Sync>(
         &mut self,
         rt: &R,
@@ -238,9 +293,7 @@ impl<'a> PricedBound<'a> {
         threads: usize,
     ) -> Result<(), AllocError>
         requires { 0 < threads }
-        ensures problem { self.new.problem ≡ self.old.problem }
-        ensures base { self.new.base ≡ self.old.base }
-        ensures raised { self.old.bound ≤ℤ self.new.bound }
+        ensures { self.new ≡ self.old }
     {
         let problem = self.pricing.problem();
         let covered = covered_of(alloc, problem, self.base)?;
@@ -249,7 +302,7 @@ impl<'a> PricedBound<'a> {
             alloc,
             threads,
             &self.seen,
-            &self.prices,
+            &self.claimed,
             &covered,
             self.pace,
         )?;
@@ -257,7 +310,7 @@ impl<'a> PricedBound<'a> {
         self.look(rt, alloc, threads, prices)
     }
 
-    /// Looks at the prices, and takes them if they say more.
+    /// Finds columns at the prices, and keeps these if more is claimed at them than at any before.
     fn look<R: Threads + Sync>(
         &mut self,
         rt: &R,
@@ -267,10 +320,51 @@ impl<'a> PricedBound<'a> {
     ) -> Result<(), AllocError>
         requires threads { 0 < threads }
         requires prices { ArePrices self.old.problem prices.items }
+        ensures { self.new ≡ self.old }
+    {
+        renew_all(
+            rt,
+            alloc,
+            threads,
+            self.pricing,
+            &self.persons,
+            &prices,
+            &mut self.seen,
+        );
+        check(&self.seen)?;
+        let claim = self.pricing.claim(self.base, &prices, &self.seen);
+        let gain = claim.saturating_sub(self.claim);
+        self.pace = self.pace.after(gain);
+        self.idle = if gain >= PARTS as i64 {
+            0
+        } else {
+            self.idle.wrapping_add(1)
+        };
+        if gain > 0 {
+            self.claim = claim;
+            self.claimed = prices;
+        }
+        Ok(())
+    }
+
+    /// Shows what is claimed at the best prices, if it is more than what is known, by searches that go on from so
+    /// many sets of a person at most.
+    fn show<R: Threads + Sync>(
+        &mut self,
+        rt: &R,
+        alloc: Global,
+        threads: usize,
+        visits: u32,
+    ) -> Result<(), AllocError>
+        requires { 0 < threads }
         ensures problem { self.new.problem ≡ self.old.problem }
         ensures base { self.new.base ≡ self.old.base }
         ensures raised { self.old.bound ≤ℤ self.new.bound }
     {
+        if self.claim <= self.parts {
+            return Ok(());
+        }
+        let prices = limited(alloc, self.pricing.problem(), &self.claimed)?;
         let look = self.pricing.look(
             rt,
             alloc,
@@ -278,9 +372,23 @@ impl<'a> PricedBound<'a> {
             self.base,
             &self.persons,
             &prices,
+            visits,
             &mut self.seen,
         )?;
+        self.claim = self.pricing.claim(self.base, &prices, &self.seen);
+        self.unshown = 0;
         self.take(prices, look);
+        self.go_back(alloc)
+    }
+
+    /// If the claim was false, so that the prices of the bound say more, the next looks begin at these.
+    fn go_back(&mut self, alloc: Global) -> Result<(), AllocError>
+        ensures { self.new ≡ self.old }
+    {
+        if self.claim < self.parts {
+            self.claimed = limited(alloc, self.pricing.problem(), &self.prices)?;
+            self.claim = self.parts;
+        }
         Ok(())
     }
 
@@ -293,16 +401,9 @@ impl<'a> PricedBound<'a> {
         ensures raised { self.old.bound ≤ℤ self.new.bound }
         ensures taken { look.bound ≤ℤ self.new.bound }
     {
-        self.pace = self.pace.after(look.parts.wrapping_sub(self.parts));
         if look.bound < self.bound || (look.bound == self.bound && look.parts <= self.parts) {
-            self.idle = self.idle.wrapping_add(1);
             return;
         }
-        self.idle = if look.bound > self.bound {
-            0
-        } else {
-            self.idle.wrapping_add(1)
-        };
         self.parts = look.parts;
         self.prices = prices;
         self.leasts = look.leasts;

@@ -3,9 +3,9 @@
 //! A search goes on from a path to each pairing that may stand behind it, unless what the tables say of it is
 //! no less than what is known already.
 
-ghost use Rattle.std.specs.Prelude.{◌≡◌, ◌<◌, ◌≤ℤ◌, ℕ, ℤ, true, length, FitsSigned, IfOk, Some};
+ghost use Rattle.std.specs.Prelude.{◌≡◌, ◌<◌, ◌≤ℤ◌, ℕ, ℤ, true, false, length, FitsSigned, IfOk, Some};
 ghost use Rattle.std.specs.Int.{w64};
-ghost use Rattle.roster_model.specs.Rules.{is_among};
+ghost use Rattle.roster_model.specs.Rules.{is_among, IsLegal};
 ghost use Rattle.roster_plan_bound.specs.Prospects.{IsLeastPath};
 ghost use Rattle.roster_plan_bound.specs.Seeks.{IsClassWith, IsEndWith, IsLeastBelow, IsLeastFrom, IsNeedWith};
 ghost use Rattle.roster_plan_bound.specs.Seeks.{IsNextSpot, IsOnward, IsSpot};
@@ -13,7 +13,7 @@ ghost use Rattle.roster_plan_bound.specs.Seeks.{IsNextSpot, IsOnward, IsSpot};
 use crate::columns::Columns;
 use crate::prospect::Prospect;
 use crate::timeline::Timeline;
-use crate::tuning::MOST_LISTED;
+use crate::tuning::{JUDGED_AT, MOST_LISTED};
 use roster_legal::{Judge, part_of_legal_is_legal};
 use roster_model::limits::MOST_PAIRINGS;
 use roster_values::Set;
@@ -190,10 +190,46 @@ fn onward(
         return Ok(None);
     }
     let next = spot_with(prospect, spot, q, end);
-    if !judge.is_legal(prospect.person(), &next.set)? {
+    if !may_be_legal(prospect, judge, &next, least)? {
         return Ok(None);
     }
     Ok(Some(next))
+}
+
+/// Whether the path may be legal. To judge one takes long, so only those are judged that bring less than `least`, and
+/// of the others those of so many pairings.
+fn may_be_legal(
+    prospect: &Prospect<'_>,
+    judge: &mut Judge<'_>,
+    spot: &Spot,
+    least: i64,
+) -> Result<bool, AllocError>
+    requires judge { judge.old ≡ prospect.now.problem }
+    requires spot { IsSpot prospect.now spot.now }
+    ensures judge { judge.new ≡ prospect.now.problem }
+    ensures no { IfOk result (λ may. may ≡ false
+        → ¬ IsLegal prospect.now.problem prospect.now.person spot.now.set) }
+{
+    let gain = spot.end.value.wrapping_add(prospect.term(spot.end.flight));
+    if gain >= least && spot.room % JUDGED_AT != 0 {
+        return Ok(true);
+    }
+    is_legal(prospect, judge, spot)
+}
+
+/// Whether the path is legal.
+pub(crate) fn is_legal(
+    prospect: &Prospect<'_>,
+    judge: &mut Judge<'_>,
+    spot: &Spot,
+) -> Result<bool, AllocError>
+    requires judge { judge.old ≡ prospect.now.problem }
+    requires spot { IsSpot prospect.now spot.now }
+    ensures judge { judge.new ≡ prospect.now.problem }
+    ensures no { IfOk result (λ is_legal. is_legal ≡ false
+        → ¬ IsLegal prospect.now.problem prospect.now.person spot.now.set) }
+{
+    judge.is_legal(prospect.person(), &spot.set)
 }
 
 /// The end of the path with pairing `q` behind.

@@ -7,28 +7,30 @@ ghost use Rattle.std.specs.Prelude.{◌≡◌, ◌<◌, ◌≤ℤ◌, ◌⊎◌,
 ghost use Rattle.roster_plan_bound.specs.Reduced.{ArePrices, IsLeastOf};
 ghost use Rattle.roster_plan_bound.specs.Timelines.{IsTimeline};
 
-use crate::columns::Columns;
+use crate::columns::{Columns, Hints};
 use crate::labels::{Labelled, label_all};
 use crate::parts::{MOST_LEAST, PARTS};
 use crate::prospect::Prospect;
 use crate::seek::{Listing, seek_all};
 use crate::timeline::Timeline;
 use crate::tuning::{
-    FEWEST_LISTED, FEWEST_WORTH_STEPS, LEAST_REACH, MANY_LISTED, MOST_CLAIMS, MOST_COLUMNS,
-    MOST_KEPT, MOST_KNOWN, MOST_REACH, MOST_VISITS, MOST_WORTH_STEPS,
+    FEWEST_LISTED, FEWEST_WORTH_STEPS, FINER_WORTHS, LEAST_REACH, MANY_LISTED, MOST_CLAIMS,
+    MOST_COLUMNS, MOST_KEPT, MOST_KNOWN, MOST_REACH, MOST_WORTH_STEPS,
 };
 use roster_legal::Judge;
 use roster_problem::Problem;
 use std::alloc::{AllocError, Global};
 
-/// No line of person `k`, whose timeline it is, has a lower reduced cost at the prices. The columns get lines
-/// that cost little. Nothing is known without a timeline, or if the fixed flight is too far from the target.
+/// No line of person `k`, whose timeline it is, has a lower reduced cost at the prices. What the cheapest column
+/// costs is the claim that a search is to show, which goes on from so many sets at most; the columns get what it
+/// finds. Nothing is known without a timeline, or if the fixed flight is too far from the target.
 pub(crate) fn least_set(
     alloc: Global,
     problem: &Problem,
     k: usize,
     timeline: &Option<Timeline>,
     prices: &[i64],
+    visits: u32,
     columns: &mut Columns,
 ) -> Result<Option<i64>, AllocError>
     requires person { k < length problem.now.persons }
@@ -43,8 +45,12 @@ pub(crate) fn least_set(
         return Ok(None);
     };
     add_tables(alloc, problem, &mut prospect, columns)?;
+    prospect.refine(alloc, FINER_WORTHS)?;
     let tabled = prospect.least();
-    let least = least_by_labels(alloc, &prospect, tabled, columns)?;
+    if visits == 0 {
+        return Ok(Some(tabled));
+    }
+    let least = least_shown(alloc, &prospect, tabled, visits, columns)?;
     Ok(Some(least))
 }
 
@@ -61,17 +67,13 @@ fn add_tables(
 {
     let weight = (PARTS as i64).wrapping_mul(i64::from(problem.weight()));
     let longest = weight / FEWEST_WORTH_STEPS;
-    let step = if columns.step > 0 {
-        columns.step
-    } else {
-        weight
-    };
-    let worth = columns.worth;
+    let Hints { worth, step, .. } = columns.hints;
+    let step = if step > 0 { step } else { weight };
     prospect.add(alloc, worth)?;
     prospect.add(alloc, worth.wrapping_sub(step))?;
     prospect.add(alloc, worth.wrapping_add(step))?;
-    columns.worth = prospect.best_worth();
-    columns.step = if columns.worth == worth {
+    columns.hints.worth = prospect.best_worth();
+    columns.hints.step = if columns.hints.worth == worth {
         step / 2
     } else {
         step.wrapping_mul(2).min(longest)
@@ -103,55 +105,44 @@ pub(crate) fn renew_sets(
     };
     add_tables(alloc, problem, &mut prospect, columns)?;
     let mut judge = Judge::new(alloc, prospect.problem());
-    let labelled = labelled_at(alloc, &prospect, &mut judge, columns)?;
-    renew(alloc, &labelled, prices, columns)?;
-    Ok(labelled.least)
+    let mut labelled = Labelled {
+        least: columns.least_value(prices),
+        reach: columns.hints.reach.clamp(LEAST_REACH, MOST_REACH),
+        is_strict: columns.hints.is_strict,
+        many: 0,
+    };
+    let found = label_all(alloc, &prospect, &mut judge, &mut labelled)?;
+    renew(alloc, found, labelled, prices, columns)?;
+    Ok(columns.least_value(prices))
 }
 
-/// What searches show that no line of the person is below, if it is more than `known`: what labels find to be
-/// the least, or something between. The columns get what labels find.
-fn least_by_labels(
+/// What searches show that no line of the person is below, if it is more than `known`: what the cheapest column
+/// costs, or something between. The columns get what the first search finds.
+fn least_shown(
     alloc: Global,
     prospect: &Prospect<'_>,
     known: i64,
+    visits: u32,
     columns: &mut Columns,
 ) -> Result<i64, AllocError>
     requires { IsLeastOf prospect.now.problem prospect.now.prices prospect.now.person known }
     ensures { IfOk result (IsLeastOf prospect.now.problem prospect.now.prices prospect.now.person) }
 {
     let mut judge = Judge::new(alloc, prospect.problem());
-    let mut labelled = labelled_at(alloc, prospect, &mut judge, columns)?;
-    let mut listing = listing_of(alloc);
-    let found = shown(prospect, &mut judge, labelled.least, &mut listing)?;
-    labelled.found.join(&listing.found)?;
-    let claim = labelled
-        .least
-        .min(listing.found.least_value(prospect.prices()));
-    renew(alloc, &labelled, prospect.prices(), columns)?;
+    let mut listing = listing_of(alloc, visits);
+    let claim = columns.least_value(prospect.prices());
+    let found = shown(prospect, &mut judge, claim, &mut listing)?;
+    columns.join(&listing.found)?;
     match found {
         Some(_) => Ok(better(known, found)),
-        None => least_claimed(alloc, prospect, known, claim),
+        None => least_claimed(
+            alloc,
+            prospect,
+            known,
+            columns.least_value(prospect.prices()),
+            visits,
+        ),
     }
-}
-
-/// What labels find, who know these columns.
-fn labelled_at(
-    alloc: Global,
-    prospect: &Prospect<'_>,
-    judge: &mut Judge<'_>,
-    columns: &Columns,
-) -> Result<Labelled, AllocError>
-    requires { judge.old ≡ prospect.now.problem }
-    ensures { judge.new ≡ prospect.now.problem }
-{
-    let reach = columns.reach.clamp(LEAST_REACH, MOST_REACH);
-    let mut labelled = Labelled {
-        least: columns.least_value(prospect.prices()),
-        reach,
-        found: Columns::new(alloc, reach),
-    };
-    label_all(alloc, prospect, judge, &mut labelled)?;
-    Ok(labelled)
 }
 
 /// What is claimed between `known` and what some line costs, if a search shows it: half of the way, or half of
@@ -161,6 +152,7 @@ fn least_claimed(
     prospect: &Prospect<'_>,
     known: i64,
     line: i64,
+    visits: u32,
 ) -> Result<i64, AllocError>
     requires { IsLeastOf prospect.now.problem prospect.now.prices prospect.now.person known }
     ensures { IfOk result (IsLeastOf prospect.now.problem prospect.now.prices prospect.now.person) }
@@ -172,7 +164,7 @@ fn least_claimed(
         if open <= 0 {
             break;
         }
-        let mut listing = listing_of(alloc);
+        let mut listing = listing_of(alloc, visits);
         let found = shown(prospect, &mut judge, known.wrapping_add(open), &mut listing)?;
         if found.is_some() {
             return Ok(better(known, found));
@@ -182,10 +174,10 @@ fn least_claimed(
 }
 
 /// Nothing is found so far.
-fn listing_of(alloc: Global) -> Listing {
+fn listing_of(alloc: Global, visits: u32) -> Listing {
     Listing {
-        left: MOST_VISITS,
-        found: Columns::new(alloc, 0),
+        left: visits,
+        found: Columns::new(alloc),
     }
 }
 
@@ -227,16 +219,17 @@ fn better(least: i64, found: Option<i64>) -> i64
 /// The columns become the sets that were found, and those known before: the cheapest ones, if they are many.
 fn renew(
     alloc: Global,
-    labelled: &Labelled,
+    found: Columns,
+    labelled: Labelled,
     prices: &[i64],
     columns: &mut Columns,
 ) -> Result<(), AllocError> {
-    let near = labelled.found.cheapest(alloc, prices, MOST_COLUMNS)?;
-    let many = near.within(prices, labelled.limit());
-    let mut known = near;
-    known.reach = next_reach(labelled.reach, many);
-    known.worth = columns.worth;
-    known.step = columns.step;
+    let mut known = found;
+    known.hints = Hints {
+        reach: next_reach(labelled.reach, labelled.many),
+        is_strict: labelled.is_strict,
+        ..columns.hints
+    };
     known.join(columns)?;
     *columns = if known.len() > MOST_KNOWN {
         known.cheapest(alloc, prices, MOST_KEPT)?

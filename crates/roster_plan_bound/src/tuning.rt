@@ -6,7 +6,7 @@ use crate::pace::Pace;
 /// One, in shares.
 pub(crate) const ONE: i64 = 1 << 16;
 
-/// How many of the sets that labels list at one look become columns, at most.
+/// How many labels of one look become columns, at most.
 pub(crate) const MOST_COLUMNS: usize = 200;
 
 /// How far above the least one a set is listed at first, at least and at most, in parts of a cost unit.
@@ -49,8 +49,14 @@ pub(crate) const MOST_STRIDE: i64 = 600 * 64;
 /// After so many looks in a row that say no more in whole cost units the bound is as good as it gets.
 pub(crate) const MOST_IDLE: u32 = 12;
 
-/// From how many sets a search goes on that shows the least, at most.
-pub(crate) const MOST_VISITS: u32 = 16_000;
+/// From how many sets a search goes on that shows the least, at most, for each look that claims before it, and in the
+/// end.
+pub(crate) const VISITS_A_LOOK: u32 = 4_000;
+
+pub(crate) const MOST_VISITS: u32 = 100_000;
+
+/// How often tables at nearer worths of a minute of flight are made before such a search.
+pub(crate) const FINER_WORTHS: u32 = 2;
 
 /// How many lines of a person are known, at most, and how many of them stay if there are more.
 pub(crate) const MOST_KNOWN: usize = 500;
@@ -73,10 +79,13 @@ pub(crate) const FEWEST_LABELS: usize = 8;
 
 pub(crate) const MOST_LABELS_AT_ONE: usize = 40;
 
-/// How many sets labels list at one look, at most.
+/// How many sets are judged at most for so many columns, and how many a search lists.
 pub(crate) const MOST_LISTED: usize = 800;
 
-/// Labels reach further or less far at the next look if they list less than so many sets, or more.
+/// Each label is judged from the next look on if more of the cheapest ones break a rule than one of so many.
+pub(crate) const MANY_BROKEN: usize = 4;
+
+/// Labels reach further or less far at the next look if less than so many of them are that cheap, or more.
 pub(crate) const FEWEST_LISTED: usize = 60;
 
 pub(crate) const MANY_LISTED: usize = 200;
@@ -99,3 +108,6 @@ pub(crate) const SURE_SHARE: i64 = ONE * 17 / 20;
 
 /// Who has less gets no column as long as others have more.
 pub(crate) const LEAST_DIVE_SHARE: i64 = ONE * 3 / 10;
+
+/// A path that isn't yet cheap enough to count is judged if this divides how many pairings it has room for.
+pub(crate) const JUDGED_AT: usize = 3;

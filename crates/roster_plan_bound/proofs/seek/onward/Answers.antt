@@ -1,8 +1,5 @@
-use Rattle.std.specs.Prelude.{All}
-use Rattle.std.proofs.Common.{◌≡◌, ℕ, ◌<◌, length, get_or, List, sym, subst, ap, ◌∙◌, arith, rules, w64, FitsSigned, to_z, of_z}
-use Rattle.std.proofs.lemmas.Bool.{both_ways}
+use Rattle.std.proofs.Common.{◌≡◌, ◌<◌, length, get_or, sym, subst, ap, ◌∙◌, arith, rules, w64, FitsSigned, to_z, of_z}
 use Rattle.std.proofs.lemmas.Int.{ints, to_z-of_z}
-use Rattle.roster_model.specs.Rules.{IsLegal}
 use Rattle.roster_plan_bound.specs.Prospects.{IsAhead}
 use Rattle.roster_plan_bound.proofs.SeekLemmas.{ahead-of, in-time, index-any, legal-with, parts-of, value-within}
 use Rattle.roster_plan_bound.proofs.seek.onward.Goals as goal
@@ -38,18 +35,11 @@ returns-then-ahead-least-clause-next c =
     c.end_with-end.ensures
     (subst (λ v. IsAhead o.problem o.person o.timeline o.units v end.flight c.args.q end.class end.need c.ahead.result) told c.ahead.ensures) (omega (arith, ints, least_told, ahead_told, more))
 
-pub is_legal-requires-clause-places : goal.is_legal-requires-clause-places
-is_legal-requires-clause-places c =
-    subst (λ p. All (λ q. q < length p.pairings) c.spot_with-next.result.set) (sym c.requires.judge) c.spot_with-next.ensures.is.set
-
 pub returns-then-not-branch-clause-next : goal.returns-then-not-branch-clause-next
 returns-then-not-branch-clause-next c before rest start =
     let o = c.args.prospect.now in
-    let set : List ℕ = c.spot_with-next.result.set in
     let parts =
     parts-of c.part_of_legal_is_legal.ensures c.problem.result.now o.problem o.person c.problem.ensures
     c.is_sound.ensures.ordered c.is_sound.ensures.timed in
     let legal = legal-with o c.timeline.ensures.is parts c.args.spot.now c.args.q c.spot_with-next.result c.spot_with-next.ensures before rest start in
-    let judged : IsLegal c.args.judge.now c.person.result set =
-    subst (λ k. IsLegal c.args.judge.now k set) (sym c.person.ensures.value) (subst (λ p. IsLegal p o.person set) (sym c.requires.judge) legal) in
-    absurd (both_ways c.in_ok-is_legal.field-0 c.if-not-branch.true (c.in_ok-is_legal.ensures.value.1 judged))
+    absurd (c.in_ok-may_be_legal.ensures.no c.if-not-branch.true legal)

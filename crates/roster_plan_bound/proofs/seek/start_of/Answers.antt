@@ -1,4 +1,4 @@
-use Rattle.std.proofs.Common.{◌≡◌, ap}
+use Rattle.std.proofs.Common.{ap}
 use Rattle.roster_model.specs.declared.limits.TheConstants.{MOST_PAIRINGS}
 use Rattle.roster_plan_bound.proofs.SeekLemmas.{least-of-all, parts-of}
 use Rattle.roster_plan_bound.proofs.seek.start_of.Goals as goal

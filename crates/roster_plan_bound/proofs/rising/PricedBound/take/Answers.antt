@@ -5,8 +5,8 @@ use Rattle.roster_plan_bound.specs.Looks.{IsLook}
 use Rattle.roster_plan_bound.specs.Reduced.{ArePrices}
 use Rattle.roster_plan_bound.proofs.rising.PricedBound.take.Goals as goal
 
-pub invariant_of-self-2 : goal.invariant_of-self-2
-invariant_of-self-2 c =
+pub invariant_of-self : goal.invariant_of-self
+invariant_of-self c =
     let inner = c.self.inside in
     let problem : inner.pricing.now ≡ c.args.self.now.problem = ap (λ v. v.problem) c.self.view_is in
     let base : inner.base ≡ c.args.self.now.base = ap (λ v. v.base) c.self.view_is in

@@ -1,7 +1,6 @@
-use Rattle.std.proofs.Common.{sym, subst, w64, to_z, of_z}
-use Rattle.std.specs.Prelude.{Some}
+use Rattle.std.proofs.Common.{w64, to_z, of_z}
 use Rattle.roster_plan_bound.proofs.LeastLemmas.{least_word, one_of_two}
-use Rattle.roster_plan_bound.proofs.sets.least_by_labels.Goals as goal
+use Rattle.roster_plan_bound.proofs.sets.least_shown.Goals as goal
 
 pub returns-in-Some : goal.returns-in-Some
 returns-in-Some c =
