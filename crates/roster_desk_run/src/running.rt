@@ -83,6 +83,9 @@ pub fn run<T: Threads + Sync, R: Read, W: Write, P: Watcher + Starter>(
     ensures start_wrong { IsStartRefused result
         → OfTold (IsStartFault (option_map (λ bytes. bytes.now) report.entry) result)
         (R.remaining (inner_of reader.old)) }
+
+    // It is for others to say that a reader has stopped.
+    ensures others { result ≢ Status.Closed }
 {
     match read_book(alloc, reader, Command::Check) {
         Ok(book) => answer(rt, alloc, means, report, &book, writer, watcher),
@@ -103,7 +106,7 @@ fn refuse<W: Write>(alloc: Global, row: usize, code: u8, writer: &mut Watched<W>
     ensures flushed { result ≡ Status.Refused → is_flushed writer.new ≡ true }
     ensures memory { result ≡ Status.Memory → writer.new ≡ writer.old }
     ensures start_refused { ¬ IsStartRefused result }
-    ensures others { (result ≢ Status.Answered) × (result ≢ Status.ReadFailed) }
+    ensures others { (result ≢ Status.Answered) × (result ≢ Status.ReadFailed) × (result ≢ Status.Closed) }
 {
     match write_fault(alloc, row, code, writer) {
         Ok(()) => Status::Refused,
@@ -169,7 +172,7 @@ fn answer<T: Threads + Sync, W: Write, P: Watcher + Starter>(
     ensures start_refused { IsStartRefused result → writer.new ≡ writer.old }
     ensures start_wrong { IsStartRefused result
         → RefusesStart book.now.problem (option_map (λ bytes. bytes.now) report.entry) result }
-    ensures others { (result ≢ Status.Refused) × (result ≢ Status.ReadFailed) }
+    ensures others { (result ≢ Status.Refused) × (result ≢ Status.ReadFailed) × (result ≢ Status.Closed) }
 {
     let problem = &book.problem;
     let Some(report) = report else {
@@ -205,7 +208,7 @@ fn answer_from<T: Threads + Sync, W: Write, P: Watcher>(
     ensures flushed { result ≡ Status.Answered → is_flushed writer.new ≡ true }
     ensures memory { result ≡ Status.Memory → writer.new ≡ writer.old }
     ensures start_refused { ¬ IsStartRefused result }
-    ensures others { (result ≢ Status.Refused) × (result ≢ Status.ReadFailed) }
+    ensures others { (result ≢ Status.Refused) × (result ≢ Status.ReadFailed) × (result ≢ Status.Closed) }
 {
     let Ok(planned) = plan(rt, alloc, problem, start, means, watcher) else {
         return Status::Memory;
