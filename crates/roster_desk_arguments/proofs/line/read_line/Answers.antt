@@ -1,10 +1,12 @@
 use Rattle.std.proofs.Common.{◌≡◌, ◌∙◌, ◌∷◌, ℕ, List, [], Option, Some, None, option_map, true, ap, codes, map, refl, string_bytes, subst, sym}
 use Rattle.std.specs.Prelude.{option_and_then, IfSome}
-use Rattle.clap.specs.Words.{fault_of, is_simple, is_simple_and_free, one_of, subcommand_of, subcommand_rows_of, HasKind, HasMatchesOf, Row}
+use Rattle.clap.specs.Words.{fault_of, is_simple, is_simple_and_free, one_of, subcommand_of, subcommand_rows_of, HasKind, HasMatchesOf, Kinds, Row}
 use Rattle.clap.specs.declared.parser.matches.ArgMatches.{ArgMatches}
-use Rattle.roster_desk_arguments.specs.Line.{spelling, AsksIn}
+use Rattle.roster_desk_arguments.specs.Line.{spelling, AsksIn, TellsKind}
+use Rattle.roster_desk_arguments.specs.declared.line.LineFault.{LineFault}
+use Rattle.roster_desk_arguments.specs.declared.line.LineFault.TheVariants as faults
 use Rattle.roster_desk_arguments.specs.declared.line.Line.{Line}
-use Rattle.clap.specs.declared.error.kind.ErrorKind.TheVariants.{MissingRequiredArgument, ValueValidation}
+use Rattle.clap.specs.declared.error.kind.ErrorKind.TheVariants.{InvalidSubcommand, MissingRequiredArgument, ValueValidation}
 use Rattle.clap.proofs.OnLiterals.{clap_on_literals}
 use Rattle.roster_desk_arguments.specs.Commands.{desk_app}
 use Rattle.roster_desk_arguments.proofs.line.read_line.Goals.{In-Ok}
@@ -24,6 +26,18 @@ returns-in-Err-clause-kind c =
     λ _. c.refusal.ensures.kept (fault_of desk_app (map string_bytes c.args.words.now))
     (subst (λ app. HasKind (fault_of app (map string_bytes c.args.words.now)) c.in-Err.error) c.in_ok-command.ensures.app
     (c.in-Err.ensures.kinds (ap is_simple_and_free c.in_ok-command.ensures.app ∙ is_free)))
+
+-- what isn't refused for any reason is told as want of memory
+only_memory : (kinds : Kinds) (fault : LineFault) → TellsKind [] fault → TellsKind kinds fault
+only_memory kinds (faults.Refused error) told = absurd told
+only_memory kinds faults.Memory told = told
+
+pub returns-in-Err-clause-taken : goal.returns-in-Err-clause-taken
+returns-in-Err-clause-taken c = λ none.
+    only_memory (InvalidSubcommand ∷ []) c.refusal.result (subst (λ kinds. TellsKind kinds c.refusal.result) none
+    (c.refusal.ensures.kept (fault_of desk_app (map string_bytes c.args.words.now))
+    (subst (λ app. HasKind (fault_of app (map string_bytes c.args.words.now)) c.in-Err.error) c.in_ok-command.ensures.app
+    (c.in-Err.ensures.kinds (ap is_simple_and_free c.in_ok-command.ensures.app ∙ is_free)))))
 
 -- what clap gives matches of has no fault
 faultless : (c : In-Ok) → fault_of desk_app (map string_bytes c.args.words.now) ≡ []
