@@ -18,7 +18,7 @@ use crate::parts::{MOST_PLAN_PRICE, PARTS};
 use crate::persons::{Seen, check, renew_all, unseen};
 use crate::pricing::{Priced, Pricing};
 use crate::start::start_prices;
-use crate::tuning::{MOST_IDLE, MOST_VISITS, VISITS_A_LOOK};
+use crate::tuning::{MOST_IDLE, MOST_TRUST, MOST_VISITS, VISITS_A_LOOK};
 use roster_bases::{is_pairing_of, persons_of};
 use roster_lines::TableFault;
 use roster_lines_table::Table;
@@ -49,9 +49,10 @@ pub struct PricedBound<'a> {
     pace: Pace,
     // How many looks in a row have claimed no cost unit more.
     idle: u32,
-    // How many looks at prices there were, and how many of them since searches showed a claim.
-    looks: u32,
+    // How many looks there were since searches showed a claim, and how many there are before they do again: twice
+    // as many each time that about so much was true.
     unshown: u32,
+    trust: u32,
 }
 
 impl<'a> Model for PricedBound<'a> {
@@ -101,9 +102,9 @@ impl<'a> PricedBound<'a> {
 
     /// Raises the bound by so many looks at other prices. Each look lists legal sets that cost little, and the
     /// next prices are the best ones for all that are known: column generation, with prices kept near those at
-    /// which most is claimed. Searches show what is claimed, each time after half as many looks as there were before.
-    /// There are fewer looks if many in a row claim no more, or if the bound is what a known roster costs. So many
-    /// threads at most share the persons of a look, and each number of them gives the same bound.
+    /// which most is claimed. Now and then searches show what is claimed, less often as long as about so much is
+    /// true. There are fewer looks if many in a row claim no more, or if the bound is what a known roster costs. So
+    /// many threads at most share the persons of a look, and each number of them gives the same bound.
     pub fn raise<R: Threads + Sync>(
         &mut self,
         rt: &R,
@@ -156,9 +157,8 @@ impl<'a> PricedBound<'a> {
         ensures base { self.new.base ≡ self.old.base }
         ensures raised { self.old.bound ≤ℤ self.new.bound }
     {
-        self.looks = self.looks.wrapping_add(1);
         self.unshown = self.unshown.wrapping_add(1);
-        if self.unshown.wrapping_mul(3) < self.looks && !self.claims(known) {
+        if self.unshown < self.trust && !self.claims(known) {
             return Ok(());
         }
         let visits = self.unshown.saturating_mul(VISITS_A_LOOK);
@@ -264,8 +264,8 @@ impl<'a> PricedBound<'a> {
             claim: i64::MIN,
             pace: Pace::first(),
             idle: 0,
-            looks: 0,
             unshown: 0,
+            trust: 1,
         })
     }
 
@@ -375,10 +375,24 @@ impl<'a> PricedBound<'a> {
             visits,
             &mut self.seen,
         )?;
-        self.claim = self.pricing.claim(self.base, &prices, &self.seen);
-        self.unshown = 0;
+        let claim = self.pricing.claim(self.base, &prices, &self.seen);
+        self.trust_after(claim);
+        self.claim = claim;
         self.take(prices, look);
         self.go_back(alloc)
+    }
+
+    /// Searches wait longer if most of what was claimed beyond the bound is true, as it stands now.
+    fn trust_after(&mut self, claim: i64)
+        ensures { self.new ≡ self.old }
+    {
+        let is_false = self.claim.saturating_sub(claim) > claim.saturating_sub(self.parts);
+        self.trust = if is_false {
+            1
+        } else {
+            self.trust.saturating_mul(2).min(MOST_TRUST)
+        };
+        self.unshown = 0;
     }
 
     /// If the claim was false, so that the prices of the bound say more, the next looks begin at these.

@@ -55,6 +55,9 @@ pub(crate) const VISITS_A_LOOK: u32 = 4_000;
 
 pub(crate) const MOST_VISITS: u32 = 100_000;
 
+/// How many looks there are at most before what they claim is shown.
+pub(crate) const MOST_TRUST: u32 = 16;
+
 /// How often tables at nearer worths of a minute of flight are made before such a search.
 pub(crate) const FINER_WORTHS: u32 = 2;
 
