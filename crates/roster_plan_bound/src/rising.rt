@@ -50,7 +50,7 @@ pub struct PricedBound<'a> {
     // How many looks in a row have claimed no cost unit more.
     idle: u32,
     // How many looks there were since searches showed a claim, and how many there are before they do again: twice
-    // as many each time that about so much was true.
+    // as many each time that it was true.
     unshown: u32,
     trust: u32,
 }
@@ -102,9 +102,9 @@ impl<'a> PricedBound<'a> {
 
     /// Raises the bound by so many looks at other prices. Each look lists legal sets that cost little, and the
     /// next prices are the best ones for all that are known: column generation, with prices kept near those at
-    /// which most is claimed. Now and then searches show what is claimed, less often as long as about so much is
-    /// true. There are fewer looks if many in a row claim no more, or if the bound is what a known roster costs. So
-    /// many threads at most share the persons of a look, and each number of them gives the same bound.
+    /// which most is claimed. Now and then searches show what is claimed, less often as long as it is true. There
+    /// are fewer looks if many in a row claim no more, or if the bound is what a known roster costs. So many threads
+    /// at most share the persons of a look, and each number of them gives the same bound.
     pub fn raise<R: Threads + Sync>(
         &mut self,
         rt: &R,
@@ -382,12 +382,11 @@ impl<'a> PricedBound<'a> {
         self.go_back(alloc)
     }
 
-    /// Searches wait longer if most of what was claimed beyond the bound is true, as it stands now.
+    /// Searches wait longer if all that was claimed is true, as far as they came.
     fn trust_after(&mut self, claim: i64)
         ensures { self.new ≡ self.old }
     {
-        let is_false = self.claim.saturating_sub(claim) > claim.saturating_sub(self.parts);
-        self.trust = if is_false {
+        self.trust = if claim < self.claim {
             1
         } else {
             self.trust.saturating_mul(2).min(MOST_TRUST)
