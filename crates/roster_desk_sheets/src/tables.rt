@@ -94,8 +94,6 @@ pub enum Column {
     Rows,
     /// None: a cell behind the last one.
     Outside,
-    /// Whichever the last cell in quotes is of.
-    Quoted,
 }
 
 impl Table {
@@ -236,7 +234,6 @@ impl Column {
             Column::Eleven => "ELEVEN",
             Column::Name => "NAME",
             Column::Outside => "behind the last column",
-            Column::Quoted => "a cell in quotes",
             _ => "its rows",
         }
     }
