@@ -469,6 +469,8 @@ def april_into_tables(tests, run, desk, folder):
         kept != wrong and "a table that isn't as it was",
         any(name.endswith(".part") for name in os.listdir(tables)) and "a file that isn't whole",
     )
+    ended = run(desk, "carry", book, report, "--into", "")
+    tests.told("into no folder", ended.returncode != 2 and f"status {ended.returncode}", ended.stderr != b"error: --into wants the path of a folder\n" and f"told {ended.stderr}")
     ended = run(desk, "carry", book, report, "--into", f"{tables}/not")
     tests.told(
         "into a folder that isn't there",

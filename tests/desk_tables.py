@@ -385,6 +385,19 @@ HEADS = [
     ("flown", "", "FLIGHT", "", "a column of this name in the header row"),
     ("leave", "\0\1\xff", "PERSON", "", "a column of this name in the header row"),
 ]
+# The last cell isn't closed: it would have all rows below. A quote within a cell, and what follows a closing one, is data.
+UNCLOSED = [
+    ('PERSON,FROM,TO,NOTE\nANA,2024-06-24,2024-06-26,"of\nANA,2024-07-01,2024-07-02,\n', 2, r"of\nANA,2024-07-01,2024-07-02,\n"),
+    ('PERSON,FROM,TO\nANA,2024-06-24,2024-06-26\nANA,2024-07-01,"2024-07-02', 3, "2024-07-02"),
+    ('PERSON;FROM;TO\nANA;2024-06-24;2024-06-26;"', 2, ""),
+    ('\ufeff"PERSON', 1, "PERSON"),
+]
+CLOSED = [
+    'PERSON,FROM,TO,NOTE\nANA,2024-06-24,2024-06-26,12" and "more\n',
+    'PERSON,FROM,TO,NOTE\nANA,2024-06-24,2024-06-26,"of" the "crew\n',
+    'PERSON,FROM,TO,NOTE\nANA,2024-06-24,2024-06-26,"a ""quote\nof two lines"\n',
+    '\ufeff"PERSON","FROM","TO"\n"ANA","2024-06-24","2024-06-26"',
+]
 
 
 def tiny(folder, **changed):
@@ -453,6 +466,7 @@ def mistakes(tests, run, desk):
         book = made(run, desk, tiny(folder, **{table: with_cell(table, column, cell)}), "2024-06")
         begin = f"error: {folder}/{table}.csv, line 2, ".encode()
         tests.told(f"{cell!r} in {column} of {table}", untold(book), not book.stderr.startswith(begin) and f"told {book.stderr}")
+    quotes(tests, run, desk, folder)
     not_asked(tests, run, desk, folder)
     ranks(tests, run, desk, folder)
     far_dates(tests, run, desk, folder)
@@ -460,6 +474,22 @@ def mistakes(tests, run, desk):
     leavers(tests, run, desk, folder)
     too_many(tests, run, desk, folder)
     no_files(tests, run, desk, folder)
+
+
+def quotes(tests, run, desk, folder):
+    """Cells in quotes that aren't closed, and a table that is no UTF-8."""
+    for text, line, cell in UNCLOSED:
+        book = made(run, desk, tiny(folder, leave=text), "2024-06")
+        tests.told(f"the leave {text!r}", untold(book, sentence(folder, "leave", line, "a cell in quotes", cell, "a double quote at its end")))
+    wanted = made(run, desk, tiny(folder), "2024-06").stdout
+    for text in CLOSED:
+        book = made(run, desk, tiny(folder, leave=text), "2024-06")
+        tests.told(f"the leave {text!r}", book.returncode != 0 and f"status {book.returncode}: {book.stderr}", book.stdout != wanted and "another book")
+    for code in ("utf-16", "utf-16-be"):
+        with open(f"{tiny(folder)}/crew.csv", "wb") as file:
+            file.write(("\ufeff" if code != "utf-16" else "").encode(code) + TINY["crew"].encode(code))
+        told = sentence(folder, "crew", 1, "BASE", "", "a column of this name in the header row, as UTF-8 text: the file is UTF-16")
+        tests.told(f"a table in {code}", untold(made(run, desk, folder, "2024-06"), told))
 
 
 def not_asked(tests, run, desk, folder):
@@ -564,6 +594,15 @@ def no_files(tests, run, desk, folder):
     os.mkdir(f"{tiny(folder, leave=None)}/leave.csv")
     book = made(run, desk, folder, "2024-06")
     tests.told("a folder in place of a table", book.returncode != 4 and f"status {book.returncode}", book.stderr != f"error: {folder}/leave.csv can't be read\n".encode() and f"told {book.stderr}")
+    os.symlink("/nowhere", f"{tiny(folder, leave=None)}/leave.csv")
+    book = made(run, desk, folder, "2024-06")
+    tests.told("a link that leads nowhere", book.returncode != 4 and f"status {book.returncode}", book.stderr != f"error: {folder}/leave.csv can't be opened\n".encode() and f"told {book.stderr}")
+    # Whoever gave a table another name is told.
+    for name in ("Leave.csv", "a b.CSV", "line\nend.csv", "notes.txt"):
+        with open(f"{tiny(folder) if name == 'Leave.csv' else folder}/{name}", "w", encoding="utf-8") as file:
+            file.write(TINY["leave"])
+    told = b"".join(f"{name}: passed over, since no table has this name\n".encode() for name in ("Leave.csv", "a b.CSV", r"line\nend.csv"))
+    tests.told("other files", wrong_book(run, desk, folder, "2024-06", (), None, told))
     book = made(run, desk, f"{folder}/none", "2024-06")
     told = "".join(f"error: {folder}/none/{table}.csv can't be opened\n" for table in needed).encode()
     tests.told("no folder", book.returncode != 4 and f"status {book.returncode}", book.stderr != told and f"told {book.stderr}")

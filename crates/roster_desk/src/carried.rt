@@ -30,6 +30,11 @@ pub(crate) fn carry_shares_input(line: &CarryLine<'_>) -> bool {
     book && (report || flown) || report && flown
 }
 
+/// Whether the line names a folder that has no name: the root of all files would be meant.
+pub(crate) fn is_into_nothing(line: &CarryLine<'_>) -> bool {
+    line.into == Some("")
+}
+
 /// The tables of the folder that were carried before; none if one can't be read, as standard error was told.
 fn read_old(rt: &HostRuntime, folder: &str) -> Result<Option<Vec<TableFile>>, AllocError> {
     let mut old = Vec::new(rt.alloc());

@@ -1,6 +1,6 @@
 //! How a run ends: what standard error is told, and the exit status.
 
-use crate::inputs::InputFault;
+use crate::inputs::{InputFault, STANDARD_INPUT};
 use roster_desk_answers::Untold;
 use roster_desk_given::Unknown;
 use roster_desk_run::Status;
@@ -51,7 +51,7 @@ pub(crate) fn unread_input(rt: &HostRuntime, fault: InputFault<'_>) -> ExitCode 
             let _ = eprintln!(rt; "error: {path} is too long for a report");
             Status::Refused.exit_code()
         }
-        InputFault::Device => ended(rt, Status::ReadFailed),
+        InputFault::Unread(path) => unreadable(rt, path),
         InputFault::Memory => ended(rt, Status::Memory),
     }
 }
@@ -59,6 +59,15 @@ pub(crate) fn unread_input(rt: &HostRuntime, fault: InputFault<'_>) -> ExitCode 
 /// Tells that the file at the path can't be opened.
 pub(crate) fn unopened(rt: &HostRuntime, path: &str) -> ExitCode {
     let _ = eprintln!(rt; "error: {path} can't be opened");
+    Status::ReadFailed.exit_code()
+}
+
+/// Tells that the file at the path, or standard input, can't be read.
+pub(crate) fn unreadable(rt: &HostRuntime, path: &str) -> ExitCode {
+    if path == STANDARD_INPUT {
+        return ended(rt, Status::ReadFailed);
+    }
+    let _ = eprintln!(rt; "error: {path} can't be read");
     Status::ReadFailed.exit_code()
 }
 

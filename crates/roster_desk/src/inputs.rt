@@ -20,39 +20,40 @@ pub(crate) enum InputFault<'a> {
     Unopened(&'a str),
     /// The file at the path is too long for a report.
     TooLong(&'a str),
-    /// The device failed.
-    Device,
+    /// The file at the path can't be read, as a folder.
+    Unread(&'a str),
     /// Memory ran out.
     Memory,
 }
 
-/// The fault for an error of a device.
-fn failed(error: &io::Error) -> InputFault<'static> {
+/// The fault for an error of the device at the path.
+fn failed<'a>(error: &io::Error, path: &'a str) -> InputFault<'a> {
     match error.kind() {
         io::ErrorKind::OutOfMemory => InputFault::Memory,
-        _ => InputFault::Device,
+        _ => InputFault::Unread(path),
     }
 }
 
-/// The bytes of the reader up to its end.
+/// The bytes of the reader up to its end, which is of the path.
 pub(crate) fn all_of<R: Read + Drop>(
     alloc: Global,
     mut reader: R,
-) -> Result<Vec<u8>, InputFault<'static>> {
+    path: &str,
+) -> Result<Vec<u8>, InputFault<'_>> {
     let mut bytes = Vec::new(alloc);
     match reader.read_to_end(&mut bytes) {
         Ok(_) => Ok(bytes),
-        Err(error) => Err(failed(&error)),
+        Err(error) => Err(failed(&error, path)),
     }
 }
 
 /// The first bytes at the path, so many at most.
 fn read_path<'a>(rt: &HostRuntime, path: &'a str, most: u64) -> Result<Vec<u8>, InputFault<'a>> {
     if path == STANDARD_INPUT {
-        return all_of(rt.alloc(), rt.reader().take(most));
+        return all_of(rt.alloc(), rt.reader().take(most), path);
     }
     match File::open(rt, path) {
-        Ok(file) => all_of(rt.alloc(), file.take(most)),
+        Ok(file) => all_of(rt.alloc(), file.take(most), path),
         Err(error) if error.kind() == io::ErrorKind::OutOfMemory => Err(InputFault::Memory),
         Err(_) => Err(InputFault::Unopened(path)),
     }

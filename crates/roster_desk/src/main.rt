@@ -24,7 +24,7 @@ ghost use Rattle.roster_watched.specs.Watch.{has_failed};
 
 use ending::{
     LINE_REFUSED, ended, inputs_shared, tell_text, told, unopened, unread, unread_input,
-    untold_ended,
+    unreadable, untold_ended,
 };
 use inputs::{STANDARD_INPUT, read_book_at, read_inputs, read_report_at, shares_input};
 use months::{answer_book, answer_carry, answer_repair};
@@ -34,12 +34,13 @@ use roster_desk_run::{Status, run};
 use roster_model::limits::MOST_WORKERS;
 use roster_plan::Means;
 use roster_watched::Watched;
+use std::alloc::AllocError;
 use std::fs::File;
 use std::io::{IsTerminal, Read};
 use std::process::ExitCode;
 use std::thread::Threads;
 use std::{env, io, thread};
-use watching::Companion;
+use watching::{Companion, takes_book};
 
 fn main(rt: HostRuntime) -> ExitCode {
     let words = match words(&rt) {
@@ -71,11 +72,26 @@ fn answer<T: Threads + Sync>(rt: &HostRuntime, threads: &T, line: &Line<'_>) -> 
     }
 }
 
+/// Whether the path at which the plan is to be kept, if there is one, is standard input or the book's.
+fn cannot_keep(rt: &HostRuntime, line: &PlanLine<'_>) -> Result<bool, AllocError> {
+    let Some(path) = line.keep else {
+        return Ok(false);
+    };
+    if path == STANDARD_INPUT || path == line.book {
+        return Ok(true);
+    }
+    takes_book(rt, path, line.book)
+}
+
 /// Plans the book, from the roster of a report if the line names one.
 fn answer_plan<T: Threads + Sync>(rt: &HostRuntime, threads: &T, line: &PlanLine<'_>) -> ExitCode {
-    if line.keep == Some(STANDARD_INPUT) || line.keep == Some(line.book) {
-        let _ = eprintln!(rt; "error: a plan can't be kept in its book or in -");
-        return ExitCode::from(LINE_REFUSED);
+    match cannot_keep(rt, line) {
+        Ok(false) => {}
+        Ok(true) => {
+            let _ = eprintln!(rt; "error: a plan can't be kept in its book or in -");
+            return ExitCode::from(LINE_REFUSED);
+        }
+        Err(AllocError) => return ended(rt, Status::Memory),
     }
     let Some(path) = line.start else {
         return plan_from(rt, threads, line, None);
@@ -133,10 +149,11 @@ fn plan<T: Threads + Sync, R: Read>(
     if let (Some(path), Status::StartRefused { line, wrong }) = (line.start, status) {
         let _ = eprintln!(rt; "error: {path}, line {line}: {wrong}");
     }
-    if status == Status::Answered && companion.has_failed() {
-        return Status::WriteFailed.exit_code();
+    match status {
+        Status::Answered if companion.has_failed() => Status::WriteFailed.exit_code(),
+        Status::ReadFailed => unreadable(rt, line.book),
+        _ => ended(rt, status),
     }
-    ended(rt, status)
 }
 
 /// How many processors there are for this run, so far as the machine says it and workers may be as many.

@@ -1,7 +1,7 @@
 //! The commands that write a book, or tables of one.
 
-use crate::carried::{carry_shares_input, put_files, read_carry_files};
-use crate::ending::{ended, inputs_shared, tell_text, unread_input, untold_ended};
+use crate::carried::{carry_shares_input, is_into_nothing, put_files, read_carry_files};
+use crate::ending::{LINE_REFUSED, ended, inputs_shared, tell_text, unread_input, untold_ended};
 use crate::inputs::{STANDARD_INPUT, read_book_at, read_report_at};
 use crate::tables::read_files;
 use roster_desk_answers::{CarryFiles, carry_on, mend, write_book};
@@ -72,6 +72,10 @@ pub(crate) fn answer_book(rt: &HostRuntime, line: &BookLine<'_>) -> ExitCode {
 pub(crate) fn answer_carry(rt: &HostRuntime, line: &CarryLine<'_>) -> ExitCode {
     if carry_shares_input(line) {
         return inputs_shared(rt);
+    }
+    if is_into_nothing(line) {
+        let _ = eprintln!(rt; "error: --into wants the path of a folder");
+        return ExitCode::from(LINE_REFUSED);
     }
     let book = match read_book_at(rt, line.book) {
         Ok(book) => book,

@@ -9,6 +9,7 @@ use roster_problem::{Problem, open_number};
 use roster_watched::Watched;
 use std::alloc::{AllocError, Global};
 use std::fs::File;
+use std::os::unix::fs::MetadataExt;
 use std::time::Instant;
 use std::{fs, str};
 
@@ -155,14 +156,41 @@ fn name_of(problem: &Problem, base: usize) -> Option<&str> {
     str::from_utf8(problem.home(k).id.as_bytes()).ok()
 }
 
+/// The path of the new file beside the one at the path.
+fn part_of(rt: &HostRuntime, path: &str) -> Result<String, AllocError> {
+    format!(in rt.alloc(); "{path}.part")
+}
+
+/// Whether both paths lead to one file.
+fn is_one_file(rt: &HostRuntime, one: &str, other: &str) -> bool {
+    match (fs::metadata(rt, one), fs::metadata(rt, other)) {
+        (Ok(one), Ok(other)) => one.dev() == other.dev() && one.ino() == other.ino(),
+        _ => false,
+    }
+}
+
+/// Whether a plan that is kept at the path would take the place of the book.
+pub(crate) fn takes_book(rt: &HostRuntime, path: &str, book: &str) -> Result<bool, AllocError> {
+    let part = part_of(rt, path)?;
+    Ok(is_one_file(rt, path, book) || is_one_file(rt, part.as_str(), book))
+}
+
+/// Whether there is a file at the path, or nothing at all.
+fn is_free(rt: &HostRuntime, path: &str) -> bool {
+    fs::metadata(rt, path).map_or(true, |it| it.is_file())
+}
+
 /// Writes the plan to a new file beside the one at the path, and puts it in its place. Whether that could be
-/// done; if not, the file at the path is as it was.
+/// done; if not, what is at the path is as it was.
 fn keep(rt: &HostRuntime, path: &str, problem: &Problem, planned: &Planned) -> bool
     requires { IsKnown problem.now planned.now }
 {
-    let Ok(part) = format!(in rt.alloc(); "{path}.part") else {
+    let Ok(part) = part_of(rt, path) else {
         return false;
     };
+    if !is_free(rt, path) {
+        return false;
+    }
     let Ok(file) = File::create(rt, part.as_str()) else {
         return false;
     };

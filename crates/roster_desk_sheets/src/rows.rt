@@ -103,6 +103,45 @@ fn push_rows(
     Ok(())
 }
 
+/// What a byte order mark is in UTF-8.
+const MARK: &[u8] = b"\xef\xbb\xbf";
+
+/// Where in a field a reader is.
+#[derive(Clone, Copy, PartialEq, Eq)]
+enum Within {
+    /// At its first byte.
+    Begin,
+    /// In one that has no quotes, or behind the closing one.
+    Plain,
+    /// Behind its opening quote.
+    Quoted,
+    /// Behind a quote that closes it, unless another quote follows.
+    Closed,
+}
+
+/// Where the reader is behind the next byte.
+fn behind(within: Within, byte: u8, separator: u8) -> Within {
+    let is_quote = byte == b'"';
+    match within {
+        Within::Quoted if is_quote => Within::Closed,
+        Within::Quoted => Within::Quoted,
+        Within::Closed if is_quote => Within::Quoted,
+        _ if byte == separator || byte == b'\n' || byte == b'\r' => Within::Begin,
+        Within::Begin if is_quote => Within::Quoted,
+        _ => Within::Plain,
+    }
+}
+
+/// Whether the last field of the text is in quotes of which the closing one is missing: it then has all that
+/// stands below.
+pub(crate) fn is_unclosed(bytes: &[u8], separator: u8) -> bool {
+    let mut within = Within::Begin;
+    for byte in bytes.strip_prefix(MARK).unwrap_or(bytes) {
+        within = behind(within, *byte, separator);
+    }
+    within == Within::Quoted
+}
+
 /// The records of the text, whose fields are parted by the separator.
 pub fn read_rows(alloc: Global, bytes: &[u8], separator: u8) -> Result<Vec<Row>, AllocError> {
     let mut reader = ReaderBuilder::new()

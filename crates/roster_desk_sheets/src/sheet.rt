@@ -3,7 +3,7 @@
 ghost use Rattle.std.specs.Prelude.{◌<◌, ◌≤◌, OnOk};
 
 use crate::mistakes::{Mistakes, Place};
-use crate::rows::{Row, read_rows};
+use crate::rows::{Row, is_unclosed, read_rows};
 use crate::shown::push_field;
 use crate::tables::{Column, Table};
 use std::alloc::{AllocError, Global};
@@ -117,11 +117,23 @@ fn found_in(
     Ok(columns)
 }
 
-/// Tells each column that the table lacks.
+/// What is wanted of a table that lacks a column.
+const COLUMN: &str = "a column of this name in the header row";
+
+/// What is wanted of a table that is no text.
+const TEXT: &str = "a column of this name in the header row, as UTF-8 text: the file is UTF-16";
+
+/// Whether the bytes begin as UTF-16 does, which some spreadsheets write.
+fn is_wide(bytes: &[u8]) -> bool {
+    bytes.starts_with(b"\xff\xfe") || bytes.starts_with(b"\xfe\xff")
+}
+
+/// Tells each column that the table lacks, and what is wanted.
 fn tell_lacking(
     alloc: Global,
     table: Table,
     columns: &[Found],
+    wanted: &str,
     mistakes: &mut Mistakes,
 ) -> Result<(), AllocError> {
     for column in table.needed() {
@@ -131,10 +143,29 @@ fn tell_lacking(
                 line: 1,
                 column: *column,
             };
-            mistakes.push(alloc, at, b"", "a column of this name in the header row")?;
+            mistakes.push(alloc, at, b"", wanted)?;
         }
     }
     Ok(())
+}
+
+/// Tells that the last cell of the last row has no quote at its end.
+fn tell_unclosed(
+    alloc: Global,
+    table: Table,
+    rows: &[Row],
+    mistakes: &mut Mistakes,
+) -> Result<(), AllocError> {
+    let Some(row) = rows.last() else {
+        return Ok(());
+    };
+    let at = Place {
+        table,
+        line: row.line(),
+        column: Column::Quoted,
+    };
+    let cell = row.field(row.len().saturating_sub(1));
+    mistakes.push(alloc, at, cell, "a double quote at its end")
 }
 
 /// Tells each cell that stands under no column.
@@ -172,15 +203,23 @@ pub fn read_sheet(
     bytes: &[u8],
     mistakes: &mut Mistakes,
 ) -> Result<Sheet, AllocError> {
-    let rows = read_rows(alloc, bytes, separator_of(bytes))?;
+    if is_wide(bytes) {
+        tell_lacking(alloc, table, &[], TEXT, mistakes)?;
+        return Ok(Sheet::none(alloc, table));
+    }
+    let separator = separator_of(bytes);
+    let rows = read_rows(alloc, bytes, separator)?;
     let Some(header) = rows.first() else {
-        tell_lacking(alloc, table, &[], mistakes)?;
+        tell_lacking(alloc, table, &[], COLUMN, mistakes)?;
         return Ok(Sheet::none(alloc, table));
     };
     let columns = found_in(alloc, table, header, mistakes)?;
-    tell_lacking(alloc, table, columns.as_slice(), mistakes)?;
+    tell_lacking(alloc, table, columns.as_slice(), COLUMN, mistakes)?;
     for row in &rows {
         tell_outside(alloc, table, header.len(), row, mistakes)?;
+    }
+    if is_unclosed(bytes, separator) {
+        tell_unclosed(alloc, table, rows.as_slice(), mistakes)?;
     }
     Ok(Sheet {
         table,

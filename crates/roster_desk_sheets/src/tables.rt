@@ -94,6 +94,8 @@ pub enum Column {
     Rows,
     /// None: a cell behind the last one.
     Outside,
+    /// Whichever the last cell in quotes is of.
+    Quoted,
 }
 
 impl Table {
@@ -234,6 +236,7 @@ impl Column {
             Column::Eleven => "ELEVEN",
             Column::Name => "NAME",
             Column::Outside => "behind the last column",
+            Column::Quoted => "a cell in quotes",
             _ => "its rows",
         }
     }
