@@ -1,19 +1,15 @@
-//! What is told and kept of a plan while it is made.
-
-ghost use Rattle.roster_plan.specs.Planned.{IsKnown};
+//! What is told of a plan while it is made.
 
 use crate::ending::tell_text;
-use roster_desk_run::{Starter, write_known};
+use roster_desk_program::Keeping;
+use roster_desk_run::Starter;
 use roster_plan::{Phase, Planned, Watcher};
 use roster_problem::{Problem, open_number};
-use roster_watched::Watched;
 use std::alloc::{AllocError, Global};
-use std::fs::File;
-use std::os::unix::fs::MetadataExt;
+use std::str;
 use std::time::Instant;
-use std::{fs, str};
 
-/// Tells standard error what is known of a plan, and keeps it in a file, as far as that is wanted.
+/// Tells standard error what is known of a plan, as far as that is wanted.
 #[derive(Drop)]
 pub(crate) struct Companion<'a> {
     rt: &'a HostRuntime,
@@ -26,14 +22,11 @@ pub(crate) struct Companion<'a> {
     told: Option<(i64, u64)>,
     // The line that isn't told yet, if one isn't.
     waiting: Option<String>,
-    // The path of the file, as long as it can be written.
-    keep: Option<&'a str>,
-    has_failed: bool,
 }
 
 impl<'a> Companion<'a> {
     /// Of a plan of which nothing is known so far.
-    pub(crate) fn new(rt: &'a HostRuntime, is_told: bool, keep: Option<&'a str>) -> Companion<'a> {
+    pub(crate) fn new(rt: &'a HostRuntime, is_told: bool) -> Companion<'a> {
         Companion {
             rt,
             is_told,
@@ -41,14 +34,7 @@ impl<'a> Companion<'a> {
             known: None,
             told: None,
             waiting: None,
-            keep,
-            has_failed: false,
         }
-    }
-
-    /// Whether the file couldn't be written.
-    pub(crate) fn has_failed(&self) -> bool {
-        self.has_failed
     }
 
     // The whole seconds since the plan was begun.
@@ -68,12 +54,12 @@ impl<'a> Companion<'a> {
         self.waiting = Some(text);
         if self.told != Some((cost, seconds)) {
             self.told = Some((cost, seconds));
-            self.finish();
+            self.tell_waiting();
         }
     }
 
-    /// Tells the line that isn't told yet, if one isn't.
-    pub(crate) fn finish(&mut self) {
+    // Tells the line that isn't told yet, if one isn't.
+    fn tell_waiting(&mut self) {
         if let Some(text) = self.waiting.take() {
             let rt = self.rt;
             let _ = eprintln!(rt; "{text}");
@@ -109,21 +95,12 @@ fn line_of(
 
 impl<'a> Watcher for Companion<'a> {
     fn tell(&mut self, problem: &Problem, base: Option<usize>, step: Phase, planned: &Planned) {
-        if self.is_told {
-            let seconds = self.seconds();
-            let text = line_of(self.rt.alloc(), problem, base, step, planned, seconds);
-            if let Ok(text) = text {
-                self.line(text, seconds, planned.roster.cost, planned.bound);
-            }
-        }
-        let Some(path) = self.keep else {
+        if !self.is_told {
             return;
-        };
-        let rt = self.rt;
-        if !keep(rt, path, problem, planned) {
-            let _ = eprintln!(rt; "error: {path} can't be written");
-            self.keep = None;
-            self.has_failed = true;
+        }
+        let seconds = self.seconds();
+        if let Ok(text) = line_of(self.rt.alloc(), problem, base, step, planned, seconds) {
+            self.line(text, seconds, planned.roster.cost, planned.bound);
         }
     }
 
@@ -147,6 +124,17 @@ impl<'a> Starter for Companion<'a> {
     }
 }
 
+impl<'a> Keeping for Companion<'a> {
+    fn unkept(&mut self, path: &str) {
+        let rt = self.rt;
+        let _ = eprintln!(rt; "error: {path} can't be written");
+    }
+
+    fn finish(&mut self) {
+        self.tell_waiting();
+    }
+}
+
 /// The name of the base at the place, if somebody is of it.
 fn name_of(problem: &Problem, base: usize) -> Option<&str> {
     let k = problem
@@ -154,51 +142,4 @@ fn name_of(problem: &Problem, base: usize) -> Option<&str> {
         .iter()
         .position(|person| person.base == base)?;
     str::from_utf8(problem.home(k).id.as_bytes()).ok()
-}
-
-/// The path of the new file beside the one at the path.
-fn part_of(rt: &HostRuntime, path: &str) -> Result<String, AllocError> {
-    format!(in rt.alloc(); "{path}.part")
-}
-
-/// Whether both paths lead to one file.
-fn is_one_file(rt: &HostRuntime, one: &str, other: &str) -> bool {
-    match (fs::metadata(rt, one), fs::metadata(rt, other)) {
-        (Ok(one), Ok(other)) => one.dev() == other.dev() && one.ino() == other.ino(),
-        _ => false,
-    }
-}
-
-/// Whether a plan that is kept at the path would take the place of the book.
-pub(crate) fn takes_book(rt: &HostRuntime, path: &str, book: &str) -> Result<bool, AllocError> {
-    let part = part_of(rt, path)?;
-    Ok(is_one_file(rt, path, book) || is_one_file(rt, part.as_str(), book))
-}
-
-/// Whether there is a file at the path, or nothing at all.
-fn is_free(rt: &HostRuntime, path: &str) -> bool {
-    fs::metadata(rt, path).map_or(true, |it| it.is_file())
-}
-
-/// Writes the plan to a new file beside the one at the path, and puts it in its place. Whether that could be
-/// done; if not, what is at the path is as it was.
-fn keep(rt: &HostRuntime, path: &str, problem: &Problem, planned: &Planned) -> bool
-    requires { IsKnown problem.now planned.now }
-{
-    let Ok(part) = part_of(rt, path) else {
-        return false;
-    };
-    if !is_free(rt, path) {
-        return false;
-    }
-    let Ok(file) = File::create(rt, part.as_str()) else {
-        return false;
-    };
-    let mut writer = Watched::new(file);
-    let is_written = write_known(rt.alloc(), problem, planned, &mut writer).is_ok();
-    if is_written && fs::rename(rt, part.as_str(), path).is_ok() {
-        return true;
-    }
-    let _ = fs::remove_file(rt, part.as_str());
-    false
 }

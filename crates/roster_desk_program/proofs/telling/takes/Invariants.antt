@@ -1,0 +1,14 @@
+use Rattle.std.proofs.Common.{◌≡◌, ◌≤◌, ◌-◌, length, take, false}
+use Rattle.std.specs.Io.KnownBytes.{Appends}
+use Rattle.roster_desk_program.proofs.telling.takes.Given as goal
+
+abbrev pub invariant-loop-taken : goal.invariant-loop-taken
+invariant-loop-taken g l = record {
+  within : l.taken ≤ length l.text;
+  going : l.errors.failed ≡ false;
+  so_far : Appends (g.E.Write.contents l.fn.errors.inner) (g.E.Write.contents l.errors.inner)
+      (take l.taken l.text);
+}
+
+abbrev pub decreases-loop-taken : goal.decreases-loop-taken
+decreases-loop-taken g l = length l.text - l.taken
