@@ -45,6 +45,8 @@ impl Shelf for Disk<'_> {
 
     ghost may_take = { λ _ _ _. ⊤ };
 
+    ghost must_take = { λ _ _ _. ⊥ };
+
     fn open(&self, path: &str) -> io::Result<Opened> {
         if path == STANDARD_INPUT {
             return Ok(Opened::Standard(self.rt.reader()));

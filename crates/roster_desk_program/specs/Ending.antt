@@ -1,5 +1,5 @@
 -- How a plan ends: the exit status, and what is said of what was read and written.
-use Rattle.std.specs.Prelude.{◌≡◌, ◌≢◌, ◌↔◌, ◌⊎◌, ◌≤◌, ◌++◌, ◌∷◌, [], ⊤, ℕ, List, Option, Some, None, codes, length, true, false, IfSome, option_map}
+use Rattle.std.specs.Prelude.{◌≡◌, ◌≢◌, ◌↔◌, ◌⊎◌, ◌≤◌, ◌++◌, ◌∷◌, [], ⊤, ℕ, List, Option, Some, None, codes, length, true, false, IfSome, IsSomeAnd, option_map}
 use Rattle.roster_model.specs.Answer.{IsRefusal}
 use Rattle.roster_model.specs.Record.{Check}
 use Rattle.roster_book.specs.Reading.{OfTold}
@@ -115,8 +115,12 @@ start_of line = option_map (λ path. path.now) line.start
 
 -- the line would have the plan kept in standard input, in its book, or where that may take the book's place
 abbrev pub KeepsInPlace : (List ℕ → List ℕ → Type 0) → PlanLine → Type 0
-KeepsInPlace may_take line = IfSome (option_map (λ path. path.now) line.keep)
+KeepsInPlace may_take line = IsSomeAnd (option_map (λ path. path.now) line.keep)
     (λ path. (path ≡ standard_input) ⊎ (path ≡ line.book.now) ⊎ may_take path line.book.now)
+
+-- book and report are both standard input
+abbrev pub SharesInput : PlanLine → Type 0
+SharesInput line = (line.book.now ≡ standard_input) × (start_of line ≡ Some standard_input)
 
 -- the report is longer than a report may be, if its bytes are known
 abbrev pub IsLongStart : (List ℕ → Option (List ℕ)) → PlanLine → Type 0
@@ -126,8 +130,7 @@ IsLongStart bytes_at line = IfSome (start_of line)
 -- why the line asks for no plan
 abbrev pub IsWrongLine : (List ℕ → List ℕ → Type 0) → PlanLine → Ending → Type 0
 IsWrongLine may_take line endings.InPlace = KeepsInPlace may_take line
-IsWrongLine may_take line endings.Shared =
-    (line.book.now ≡ standard_input) × (start_of line ≡ Some standard_input)
+IsWrongLine may_take line endings.Shared = SharesInput line
 IsWrongLine may_take line _ = ⊤
 
 -- the file that is told is the line's

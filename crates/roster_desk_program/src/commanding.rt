@@ -7,7 +7,7 @@ ghost use Rattle.roster_watched.specs.Watch.{has_failed, inner_of, is_flushed};
 ghost use Rattle.roster_report.specs.Writing.{Writes};
 ghost use Rattle.roster_desk_run.specs.Run.{IsPlanOfBook};
 ghost use Rattle.roster_desk_program.specs.Ending.{IsEnding, IsMissed, IsWrongLine, OfReport, TellsPath};
-ghost use Rattle.roster_desk_program.specs.Ending.{start_of};
+ghost use Rattle.roster_desk_program.specs.Ending.{KeepsInPlace, SharesInput, start_of};
 ghost use Rattle.roster_desk_program.specs.Files.{has_missed, shelf_of};
 ghost use Rattle.roster_desk_program.specs.Program.{EndsAs, TellsEnding};
 
@@ -56,6 +56,10 @@ pub fn program<T: Threads + Sync, S: Shelf, W: Write, E: Write, P: Watcher + Sta
     ensures flushed { exit_status result ≡ 0 → is_flushed writer.new ≡ true }
     // For a line that is refused nothing was read.
     ensures unasked { exit_status result ≡ 2 → (files.new ≡ files.old) × (writer.new ≡ writer.old) }
+    // A line that names one file twice is refused. Memory may run out first.
+    ensures in_place { KeepsInPlace (S.must_take (shelf_of files.old)) line.now
+        → (exit_status result ≡ 2) ⊎ (exit_status result ≡ 3) }
+    ensures shared { SharesInput line.now → (exit_status result ≡ 2) ⊎ (exit_status result ≡ 3) }
     ensures memory { exit_status result ≡ 3 → writer.new ≡ writer.old }
     // A failure is told if it happened, and only then.
     ensures failed { (exit_status result ≡ 4)

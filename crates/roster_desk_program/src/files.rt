@@ -25,13 +25,17 @@ pub trait Shelf {
     // Whether a file that is put at a path may take the place of the one at another.
     ghost may_take: { Self → List ℕ → List ℕ → Type 0 };
 
+    // Whether it is known to take it.
+    ghost must_take: { Self → List ℕ → List ℕ → Type 0 };
+
     /// The file at the path, or standard input at `-`, from its first byte.
     fn open(&self, path: &str) -> io::Result<Self::Input>
         ensures { IfOk result (λ input. Self.Input.remaining input ≡ bytes_at self.now path.now) };
 
     /// Whether a file that is put at the path would take the place of the one at the other path.
     fn takes(&self, path: &str, other: &str) -> Result<bool, AllocError>
-        ensures { IfOk result (λ yes. yes ≡ true → may_take self.now path.now other.now) };
+        ensures yes { IfOk result (λ yes. yes ≡ true → may_take self.now path.now other.now) }
+        ensures no { IfOk result (λ yes. yes ≡ false → ¬ must_take self.now path.now other.now) };
 
     /// Puts a file with these bytes at the path, in place of the one that is there. Whether that could be
     /// done; if not, what is there stays.
@@ -150,7 +154,10 @@ impl<S: Shelf> Files<S> {
 
     /// Whether a file that is put at the path would take the place of the one at the other path.
     pub(crate) fn takes(&self, path: &str, other: &str) -> Result<bool, AllocError>
-        ensures { IfOk result (λ yes. yes ≡ true → S.may_take (shelf_of self.now) path.now other.now) }
+        ensures yes { IfOk result (λ yes. yes ≡ true
+            → S.may_take (shelf_of self.now) path.now other.now) }
+        ensures no { IfOk result (λ yes. yes ≡ false
+            → ¬ S.must_take (shelf_of self.now) path.now other.now) }
     {
         self.shelf.takes(path, other)
     }

@@ -3,7 +3,7 @@
 ghost use Rattle.std.specs.Prelude.{◌≡◌, ◌≢◌, ◌⊎◌, IfOk, option_map, true, false};
 ghost use Rattle.roster_watched.specs.Watch.{has_failed};
 ghost use Rattle.roster_desk_program.specs.Ending.{EndsRun, IsEnding, IsMissed, IsOfBook, IsUnread};
-ghost use Rattle.roster_desk_program.specs.Ending.{IsWrongLine, KeepsInPlace, OfReport, TellsPath, start_of};
+ghost use Rattle.roster_desk_program.specs.Ending.{IsWrongLine, KeepsInPlace, OfReport, SharesInput, TellsPath, start_of};
 ghost use Rattle.roster_desk_program.specs.Files.{has_missed, shelf_of};
 
 use crate::ending::Ending;
@@ -39,6 +39,11 @@ pub fn plan_line<'a, T: Threads + Sync, S: Shelf, W: Write, P: Watcher + Starter
     ensures wrong { IsWrongLine (S.may_take (shelf_of files.old)) line.now result }
     ensures unopened { (result ≡ Ending.InPlace → files.new ≡ files.old)
         × (result ≡ Ending.Shared → files.new ≡ files.old) }
+    // A line that names one file twice is refused. Memory may run out first.
+    ensures in_place { KeepsInPlace (S.must_take (shelf_of files.old)) line.now
+        → (result ≡ Ending.InPlace) ⊎ (result ≡ Ending.Memory) }
+    ensures shared { SharesInput line.now
+        → (result ≡ Ending.InPlace) ⊎ (result ≡ Ending.Shared) ⊎ (result ≡ Ending.Memory) }
     // Which file is told, and that it is too long.
     ensures path { TellsPath (S.bytes_at (shelf_of files.old)) line.now result }
     // A file's failure is told if it happened, and only then; but a writer's is told first.
@@ -76,7 +81,10 @@ pub fn plan_line<'a, T: Threads + Sync, S: Shelf, W: Write, P: Watcher + Starter
 
 /// Whether the file that is to keep the plan, if there is one, is standard input or takes the book's place.
 fn keeps_in_place<S: Shelf>(line: &PlanLine<'_>, files: &Files<S>) -> Result<bool, AllocError>
-    ensures { IfOk result (λ yes. yes ≡ true → KeepsInPlace (S.may_take (shelf_of files.now)) line.now) }
+    ensures yes { IfOk result (λ yes. yes ≡ true
+        → KeepsInPlace (S.may_take (shelf_of files.now)) line.now) }
+    ensures no { IfOk result (λ yes. yes ≡ false
+        → ¬ KeepsInPlace (S.must_take (shelf_of files.now)) line.now) }
 {
     let Some(path) = line.keep else {
         return Ok(false);

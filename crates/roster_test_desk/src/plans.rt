@@ -40,6 +40,8 @@ impl<'a> Shelf for One<'a> {
 
     ghost may_take = { λ _ _ _. ⊤ };
 
+    ghost must_take = { λ _ _ _. ⊥ };
+
     fn open(&self, _path: &str) -> io::Result<&'a [u8]> {
         Ok(self.bytes)
     }
@@ -91,6 +93,8 @@ impl<'a> Shelf for Pages<'a> {
     ghost bytes_at = { λ _ _. None };
 
     ghost may_take = { λ _ _ _. ⊤ };
+
+    ghost must_take = { λ _ _ _. ⊥ };
 
     fn open(&self, path: &str) -> io::Result<Page<'a>> {
         let bytes = match path {
