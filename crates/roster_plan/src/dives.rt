@@ -29,6 +29,9 @@ const LEAST_EFFORT: u32 = 3;
 /// At each dive of a base at least so many hundredths of those who are left get a column each time.
 const HUNDREDTHS: [usize; 2] = [15, 5];
 
+/// A dive of a base may look at so much less than looks at prices may.
+const DIVES_A_LOOK: u64 = 2;
+
 /// So many dives of a few persons begin with the same roster. What a plan comes to hangs on this number, and not on
 /// how many threads share them.
 const DIVES_AT_ONCE: usize = 4;
@@ -71,7 +74,7 @@ pub(crate) fn improved_by_dives<R: Threads + Sync, W: Watcher>(
     for gap in gaps {
         month = of_base(rt, alloc, problem, month, means, &gap.priced, watcher)?;
     }
-    let mut neighbourhoods = neighbourhoods_of(alloc, problem, &month.parts)?;
+    let mut neighbourhoods = neighbourhoods_of(alloc, problem, &month)?;
     for _ in 0..means.effort.saturating_mul(ROUNDS_AN_EFFORT) {
         month = of_few(
             rt,
@@ -110,6 +113,7 @@ fn of_base<R: Threads + Sync, W: Watcher>(
         let plan = DivePlan {
             looks: 0,
             hundredths,
+            pairs: means.pairs() / DIVES_A_LOOK,
         };
         let roster = found_by(rt, alloc, means.workers, problem, priced, &open, &all, plan)?;
         month = month.renewed(alloc, problem, &roster, Phase::Columns, watcher)?;
@@ -238,6 +242,7 @@ fn found_among<R: Threads + Sync>(
     let plan = DivePlan {
         looks: FEW_LOOKS,
         hundredths: 1,
+        pairs: u64::MAX,
     };
     for gap in gaps {
         if has_free(problem, gap.base, free) {
