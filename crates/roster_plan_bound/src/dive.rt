@@ -85,11 +85,7 @@ impl<'a> Dive<'a> {
         let nobody = open_number(self.pricing.problem());
         let cost = own_cost(self.pricing, k, &self.places);
         self.known = self.known.wrapping_add(cost);
-        for p in 0..self.places.len() {
-            if usize::from(self.places[p]) == k {
-                self.places[p] = nobody;
-            }
-        }
+        give_up(&mut self.places, k, nobody);
         let mut known = columns.copy(alloc)?;
         known.hints.wanted = FEW_COLUMNS;
         self.left.push(k)?;
@@ -294,6 +290,15 @@ impl<'a> Dive<'a> {
         }
         self.free = free;
         Ok(())
+    }
+}
+
+/// Whatever person `k` has nobody has.
+fn give_up(places: &mut [u16], k: usize, nobody: u16) {
+    for p in 0..places.len() {
+        if usize::from(places[p]) == k {
+            places[p] = nobody;
+        }
     }
 }
 

@@ -157,7 +157,8 @@ fn row_of(
 {
     let timeline = valued.timeline;
     // A later class than the pairing's own is never asked for.
-    let mut row = BehindRow::of(alloc, base, timeline.classes[p] + 1)?;
+    let last = timeline.classes[p];
+    let mut row = BehindRow::of(alloc, base, last + 1)?;
     for s in rank_behind(valued, p)..until {
         let q = timeline.order[s];
         if timeline.unrested[p].has(q) {
