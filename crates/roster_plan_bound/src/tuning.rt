@@ -9,7 +9,7 @@ pub(crate) const ONE: i64 = 1 << 16;
 /// How many labels of one look become columns, at most, and in a dive.
 pub(crate) const MOST_COLUMNS: usize = 200;
 
-pub(crate) const FEW_COLUMNS: usize = 60;
+pub(crate) const FEW_COLUMNS: usize = 120;
 
 /// How far above the least one a set is listed at first, at least and at most, in parts of a cost unit.
 pub(crate) const FIRST_REACH: i64 = 200 * 64;
