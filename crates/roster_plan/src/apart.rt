@@ -23,10 +23,6 @@ use roster_problem::Problem;
 use std::alloc::{AllocError, Global};
 use std::thread::{Threads, for_each_mut};
 
-/// How many pairs of a person and a pairing looks at prices go through at effort 0, about; each takes some hundreds
-/// of microseconds. Each effort more doubles them.
-const FEWEST_PAIRS: u64 = 1 << 15;
-
 /// How often prices of a base are looked at, at most, at effort 0, and how often more with each effort more.
 const FEWEST_LOOKS: u32 = 8;
 
@@ -62,7 +58,7 @@ pub(crate) fn bounded<R: Threads + Sync, W: Watcher>(
     ensures { IfOk result (IsMonthFrom problem.now start.planned.roster) }
 {
     keys_are_in_order();
-    let looks = looks_of(problem, &start.parts, means.effort);
+    let looks = looks_of(problem, &start.parts, means);
     if looks == 0 {
         return Ok(start);
     }
@@ -289,14 +285,14 @@ fn closed<W: Watcher>(
 
 /// How often an effort looks at the prices of each base that isn't settled: more often the greater it is, if
 /// there is time for so many pairs.
-fn looks_of(problem: &Problem, parts: &[BasePlan], effort: u32) -> u32 {
-    let effort = if effort < MOST_EFFORT {
-        effort
+fn looks_of(problem: &Problem, parts: &[BasePlan], means: &Means) -> u32 {
+    let effort = if means.effort < MOST_EFFORT {
+        means.effort
     } else {
         MOST_EFFORT
     };
     let looks = FEWEST_LOOKS + LOOKS_AN_EFFORT * effort;
-    let in_time = (FEWEST_PAIRS << effort) / pairs_of(problem, parts).max(1);
+    let in_time = means.pairs() / pairs_of(problem, parts).max(1);
     in_time.min(u64::from(looks)) as u32
 }
 

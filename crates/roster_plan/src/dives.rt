@@ -29,12 +29,17 @@ const LEAST_EFFORT: u32 = 3;
 /// At each dive of a base at least so many hundredths of those who are left get a column each time.
 const HUNDREDTHS: [usize; 2] = [15, 5];
 
+/// A dive of a base may look at so much less than looks at prices may.
+const DIVES_A_LOOK: u64 = 2;
+
 /// So many dives of a few persons begin with the same roster. What a plan comes to hangs on this number, and not on
 /// how many threads share them.
 const DIVES_AT_ONCE: usize = 4;
 
-/// How often there are so many with each effort more.
+/// How often there are so many with each effort more, at most, and how many in a row that find nothing are enough.
 const ROUNDS_AN_EFFORT: u32 = 8;
+
+const IDLE_ROUNDS: u32 = 12;
 
 /// How many persons such a dive has, and how often prices are looked at first.
 const FEW: usize = 7;
@@ -67,12 +72,58 @@ pub(crate) fn improved_by_dives<R: Threads + Sync, W: Watcher>(
     if means.effort < LEAST_EFFORT {
         return Ok(start);
     }
+    let dived = of_bases(rt, alloc, problem, start, means, gaps, watcher)?;
+    let month = of_groups(rt, alloc, problem, dived, means, gaps, watcher)?;
+    Ok(month)
+}
+
+/// The month with what dives of each of these bases find.
+fn of_bases<R: Threads + Sync, W: Watcher>(
+    rt: &R,
+    alloc: Global,
+    problem: &Problem,
+    start: Month,
+    means: &Means,
+    gaps: &[Gap<'_>],
+    watcher: &mut W,
+) -> Result<Month, AllocError>
+    requires month { IsMonth problem.now start }
+    requires workers { 0 < means.now.workers }
+    requires gaps { AreGaps problem.now gaps.now }
+    ensures { IfOk result (IsMonthFrom problem.now start.planned.roster) }
+{
+    keys_are_in_order();
     let mut month = start;
     for gap in gaps {
         month = of_base(rt, alloc, problem, month, means, &gap.priced, watcher)?;
     }
-    let mut neighbourhoods = neighbourhoods_of(alloc, problem, &month.parts)?;
+    Ok(month)
+}
+
+/// The month with what dives of a few persons at a time find, until they find nothing for long.
+fn of_groups<R: Threads + Sync, W: Watcher>(
+    rt: &R,
+    alloc: Global,
+    problem: &Problem,
+    start: Month,
+    means: &Means,
+    gaps: &[Gap<'_>],
+    watcher: &mut W,
+) -> Result<Month, AllocError>
+    requires month { IsMonth problem.now start }
+    requires workers { 0 < means.now.workers }
+    requires gaps { AreGaps problem.now gaps.now }
+    ensures { IfOk result (IsMonthFrom problem.now start.planned.roster) }
+{
+    keys_are_in_order();
+    let mut neighbourhoods = neighbourhoods_of(alloc, problem, &start)?;
+    let mut month = start;
+    let mut idle: u32 = 0;
     for _ in 0..means.effort.saturating_mul(ROUNDS_AN_EFFORT) {
+        if idle >= IDLE_ROUNDS {
+            break;
+        }
+        let cost = month.planned.roster.cost;
         month = of_few(
             rt,
             alloc,
@@ -83,6 +134,11 @@ pub(crate) fn improved_by_dives<R: Threads + Sync, W: Watcher>(
             &mut neighbourhoods,
             watcher,
         )?;
+        idle = if month.planned.roster.cost < cost {
+            0
+        } else {
+            idle.wrapping_add(1)
+        };
     }
     Ok(month)
 }
@@ -110,6 +166,7 @@ fn of_base<R: Threads + Sync, W: Watcher>(
         let plan = DivePlan {
             looks: 0,
             hundredths,
+            pairs: means.pairs() / DIVES_A_LOOK,
         };
         let roster = found_by(rt, alloc, means.workers, problem, priced, &open, &all, plan)?;
         month = month.renewed(alloc, problem, &roster, Phase::Columns, watcher)?;
@@ -238,6 +295,7 @@ fn found_among<R: Threads + Sync>(
     let plan = DivePlan {
         looks: FEW_LOOKS,
         hundredths: 1,
+        pairs: u64::MAX,
     };
     for gap in gaps {
         if has_free(problem, gap.base, free) {

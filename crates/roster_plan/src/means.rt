@@ -22,11 +22,15 @@ const LINES_IN_A_GAP: usize = 6_000_000;
 /// How many lines nodes may have to look at in one search at effort 0. Each effort more doubles them.
 const FEWEST_WORK: u64 = 1 << 19;
 
+/// How many pairs of a person and a pairing looks at prices go through at effort 0, about; each takes some hundreds
+/// of microseconds. Each effort more doubles them.
+const FEWEST_PAIRS: u64 = 1 << 15;
+
 /// What a plan may take. It is the same plan for any number of workers.
 #[derive(Clone, Copy)]
 pub struct Means {
-    /// How much is tried, from 0 to 9: each one more doubles the changes of a run and what a search of a
-    /// base or of gaps may look at, and adds neighbourhoods and looks at prices. What is more counts as 9.
+    /// How much is tried, from 0 to 9: each one more doubles what a search of a base or of gaps may look at, and adds
+    /// changes of a run, neighbourhoods and looks at prices. What is more counts as 9.
     pub effort: u32,
     /// So many threads at most, and one at least, share what is done for
     /// each person, runs of changes, and searches.
@@ -86,6 +90,11 @@ impl Means {
         ensures { (0 < result) × (result ≤ MOST_LINES) }
     {
         self.most_sets.clamp(1, LINES_NEARBY)
+    }
+
+    /// How many pairs of a person and a pairing looks at prices go through.
+    pub(crate) fn pairs(&self) -> u64 {
+        FEWEST_PAIRS << self.effort.min(MOST_EFFORT)
     }
 
     /// How many lines nodes may have to look at in one search of all lines of a base, or of those of the gaps

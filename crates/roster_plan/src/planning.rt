@@ -110,7 +110,7 @@ fn tried<R: Threads + Sync, W: Watcher>(
     ensures { IfOk result (IsMonthFrom problem.now start.planned.roster) }
 {
     keys_are_in_order();
-    let mut neighbourhoods = neighbourhoods_of(alloc, problem, &start.parts)?;
+    let mut neighbourhoods = neighbourhoods_of(alloc, problem, &start)?;
     let mut month = start;
     for effort in 0..means.efforts() {
         let means = means.at(effort);

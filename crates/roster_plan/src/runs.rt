@@ -24,7 +24,7 @@ const RUNS: u64 = 4;
 /// Where the chances of the first run begin. Those of each other run begin at the next number.
 const SEED: u64 = 20_240_301;
 
-/// How many changes a run tries at effort 0. Each effort more doubles them.
+/// How many changes a run tries at effort 0. Each effort more adds as many.
 const FEWEST_TRIES: u32 = 80_000;
 
 /// A run of changes, and the places that it came to.
@@ -143,9 +143,5 @@ fn run_all<R: Threads + Sync>(
 
 /// How many changes an effort tries.
 fn tries_of(effort: u32) -> u32 {
-    if effort < MOST_EFFORT {
-        FEWEST_TRIES << effort
-    } else {
-        FEWEST_TRIES << MOST_EFFORT
-    }
+    FEWEST_TRIES * (effort.min(MOST_EFFORT) + 1)
 }

@@ -13,7 +13,7 @@ use crate::known::{Planned, cheaper, costed, places_of, so_far};
 use crate::means::Means;
 use crate::months::Month;
 use crate::nearby::{Nearby, search_nearby};
-use crate::parts::{BasePlan, open_bases};
+use crate::parts::open_bases;
 use crate::watching::{Phase, Watcher};
 use roster_cost::{comes_before, keys_are_in_order};
 use roster_lines::Pairs;
@@ -84,14 +84,14 @@ pub(crate) fn improved_nearby<R: Threads + Sync, W: Watcher>(
     )
 }
 
-/// The neighbourhoods in bases whose best roster isn't known.
+/// The neighbourhoods in bases whose best roster isn't known, near the month's roster if it is more than nothing.
 pub(crate) fn neighbourhoods_of(
     alloc: Global,
     problem: &Problem,
-    parts: &[BasePlan],
+    month: &Month,
 ) -> Result<Neighbourhoods, AllocError> {
-    let sought = open_bases(alloc, parts)?;
-    Neighbourhoods::new(alloc, problem, &sought)
+    let sought = open_bases(alloc, &month.parts)?;
+    Neighbourhoods::new(alloc, problem, &sought, places_of(&month.planned.roster))
 }
 
 /// The next neighbourhoods of a roster, not yet searched.

@@ -2,7 +2,7 @@
 
 use crate::lists::{amount_at, place_at};
 use crate::softness::{share_of, weight_of};
-use crate::tuning::{FINE, FIRST_REACH};
+use crate::tuning::{FINE, FIRST_REACH, MOST_COLUMNS};
 use roster_values::Set;
 use std::alloc::{AllocError, Global};
 
@@ -17,6 +17,8 @@ pub(crate) struct Hints {
     pub(crate) worth: i64,
     /// How far the other tables are from it; nothing before the first ones.
     pub(crate) step: i64,
+    /// How many sets are to be listed, at most.
+    pub(crate) wanted: usize,
 }
 
 impl Hints {
@@ -27,6 +29,7 @@ impl Hints {
             is_strict: false,
             worth: 0,
             step: 0,
+            wanted: MOST_COLUMNS,
         }
     }
 }
@@ -161,6 +164,24 @@ impl Columns {
             }
         }
         Ok(kept)
+    }
+
+    /// Those that cost no more than so much above the least at the prices; both are in finer steps than parts.
+    pub(crate) fn near(
+        &self,
+        alloc: Global,
+        prices: &[i64],
+        within: i64,
+    ) -> Result<Columns, AllocError> {
+        let mut values = Vec::new(alloc);
+        let most = self.values(&mut values, prices)?.saturating_add(within);
+        let mut near = Columns::new(alloc);
+        for i in 0..self.len() {
+            if amount_at(&values, i) <= most {
+                near.push(self.places(i), amount_at(&self.costs, i))?;
+            }
+        }
+        Ok(near)
     }
 
     // What the one costs behind so many that cost less.

@@ -8,14 +8,16 @@ ghost use Rattle.roster_plan_bound.specs.Reduced.{ArePrices};
 use crate::choosing::{Choice, greatest, next_of, sums_of};
 use crate::columns::Columns;
 use crate::lists::amount_at;
-use crate::master::{Covered, ascend, ascend_with_shares};
+use crate::master::{Covered, ascend, ascend_with_shares, counts_of};
 use crate::own_cost::own_cost;
 use crate::pace::Pace;
 use crate::parts::{MOST_PLAN_PRICE, PARTS};
 use crate::persons::{Seen, check, renew_all};
 use crate::pricing::Pricing;
 use crate::rising::limited;
-use crate::tuning::{DIVE_PACE, DIVE_SOFTNESS, LEAST_DIVE_SHARE, LOOKS_A_DIVE, ONE, SURE_SHARE};
+use crate::tuning::{
+    DIVE_PACE, DIVE_SOFTNESS, FEW_COLUMNS, LEAST_DIVE_SHARE, LOOKS_A_DIVE, ONE, SURE_SHARE,
+};
 use roster_problem::{Problem, open_number};
 use std::alloc::{AllocError, Global};
 use std::thread::{Threads, for_each_mut};
@@ -32,6 +34,8 @@ pub(crate) struct Dive<'a> {
     pub(crate) places: Vec<u16>,
     // What those who are left cost with what they had, and open pairings beside them, in parts of a cost unit.
     known: i64,
+    // How many pairs looks may still go through.
+    pairs: u64,
 }
 
 /// How a roster of columns is made.
@@ -42,6 +46,9 @@ pub struct DivePlan {
     /// Each time at least so many hundredths of those who are left get a column, if any is fair, and one does
     /// in any case.
     pub hundredths: usize,
+    /// How many pairs of a person who is left and a pairing that is free looks go through in all, at most. Then
+    /// known columns are given without a look.
+    pub pairs: u64,
 }
 
 impl<'a> Dive<'a> {
@@ -64,6 +71,7 @@ impl<'a> Dive<'a> {
             free: Vec::new(alloc),
             places: known,
             known: 0,
+            pairs: 0,
         })
     }
 
@@ -77,14 +85,12 @@ impl<'a> Dive<'a> {
         let nobody = open_number(self.pricing.problem());
         let cost = own_cost(self.pricing, k, &self.places);
         self.known = self.known.wrapping_add(cost);
-        for p in 0..self.places.len() {
-            if usize::from(self.places[p]) == k {
-                self.places[p] = nobody;
-            }
-        }
+        give_up(&mut self.places, k, nobody);
+        let mut known = columns.copy(alloc)?;
+        known.hints.wanted = FEW_COLUMNS;
         self.left.push(k)?;
         self.seen.push(Seen {
-            columns: columns.copy(alloc)?,
+            columns: known,
             least: Err(AllocError),
         })?;
         Ok(())
@@ -103,6 +109,7 @@ impl<'a> Dive<'a> {
         requires { 0 < threads }
     {
         self.begin(covered)?;
+        self.pairs = plan.pairs;
         self.look(rt, alloc, threads, plan.looks)?;
         if plan.looks > 0 && !self.has_hope() {
             return Ok(false);
@@ -160,7 +167,7 @@ impl<'a> Dive<'a> {
     {
         let mut pace = DIVE_PACE;
         for _ in 0..looks {
-            if self.left.is_empty() {
+            if self.left.is_empty() || !self.pays() {
                 break;
             }
             let wanted = ascend(
@@ -189,6 +196,16 @@ impl<'a> Dive<'a> {
         Ok(())
     }
 
+    /// Whether there may be one more look, which is then counted.
+    fn pays(&mut self) -> bool {
+        let pairs = (self.left.len() as u64).saturating_mul(self.free.len() as u64);
+        if pairs > self.pairs {
+            return false;
+        }
+        self.pairs = self.pairs.saturating_sub(pairs);
+        true
+    }
+
     /// Of each who is left the column of the greatest share, at the next prices.
     fn choices<R: Threads + Sync>(
         &mut self,
@@ -213,9 +230,10 @@ impl<'a> Dive<'a> {
             pace,
             &mut sums,
         )?;
+        let counts = i64::from(counts_of(pace.steps));
         let mut choices = Vec::new(alloc);
         for at in 0..sums.len() {
-            choices.push(greatest(at, &sums[at], i64::from(pace.steps - pace.steps / 2)))?;
+            choices.push(greatest(at, &sums[at], counts))?;
         }
         Ok(choices)
     }
@@ -272,6 +290,15 @@ impl<'a> Dive<'a> {
         }
         self.free = free;
         Ok(())
+    }
+}
+
+/// Whatever person `k` has nobody has.
+fn give_up(places: &mut [u16], k: usize, nobody: u16) {
+    for p in 0..places.len() {
+        if usize::from(places[p]) == k {
+            places[p] = nobody;
+        }
     }
 }
 

@@ -13,9 +13,7 @@ use crate::columns::Columns;
 use crate::parts::MOST_PLAN_PRICE;
 use crate::prospect::Prospect;
 use crate::seek::{End, Spot, end_with, is_legal, spot_with, start_of};
-use crate::tuning::{
-    FEWEST_LABELS, MANY_BROKEN, MOST_COLUMNS, MOST_LABELS, MOST_LABELS_AT_ONE, MOST_LISTED,
-};
+use crate::tuning::{FEWEST_LABELS, LISTED_A_COLUMN, MANY_BROKEN, MOST_LABELS, MOST_LABELS_AT_ONE};
 use roster_legal::Judge;
 use roster_model::limits::MOST_PAIRINGS;
 use std::alloc::{AllocError, Global};
@@ -32,12 +30,24 @@ pub(crate) struct Labelled {
     pub(crate) is_strict: bool,
     /// How many labels bring so little that they may be listed.
     pub(crate) many: usize,
+    /// Without tables: what a minute of flight is worth, by which labels are told apart.
+    pub(crate) worth: Option<i64>,
+    /// How many sets are wanted, at most.
+    pub(crate) most: usize,
 }
 
 impl Labelled {
     /// What a set may bring at most to be listed.
     pub(crate) fn limit(&self) -> i64 {
         self.least.saturating_add(self.reach)
+    }
+
+    /// What a label may promise at most to be kept: anything, if there are no tables.
+    fn promise_limit(&self) -> i64 {
+        match self.worth {
+            Some(_) => i64::MAX,
+            None => self.limit(),
+        }
     }
 }
 
@@ -67,14 +77,14 @@ pub(crate) fn label_all(
         if is_barred(prospect, q) {
             continue;
         }
-        let near = promises(alloc, prospect, &labels, q, labelled.limit())?;
+        let near = promises(alloc, prospect, &labels, q, labelled)?;
         add_labels(prospect, judge, near, q, most, &mut labels, labelled)?;
     }
     cheapest(alloc, prospect, judge, &labels, labelled)
 }
 
 /// Whether the price of pairing `q` is such that nobody is to have it.
-fn is_barred(prospect: &Prospect<'_>, q: usize) -> bool {
+pub(crate) fn is_barred(prospect: &Prospect<'_>, q: usize) -> bool {
     match prospect.prices().get(q) {
         Some(price) => *price <= -(MOST_PLAN_PRICE as i64),
         None => true,
@@ -92,13 +102,14 @@ fn promises(
     prospect: &Prospect<'_>,
     labels: &[Spot],
     q: usize,
-    limit: i64,
+    labelled: &Labelled,
 ) -> Result<BinaryHeap<Promise>, AllocError>
     requires { All (IsSpot prospect.now) labels.now }
 {
+    let limit = labelled.promise_limit();
     let mut near = Vec::new(alloc);
     for label in 0..labels.len() {
-        if let Some((_, least)) = promised(prospect, &labels[label], q) {
+        if let Some((_, least)) = promised(prospect, &labels[label], q, labelled.worth) {
             if least <= limit {
                 near.push(Promise {
                     saved: least.wrapping_neg(),
@@ -110,8 +121,14 @@ fn promises(
     Ok(BinaryHeap::from(near))
 }
 
-/// The end of a label with pairing `q` behind, and what it promises at least; none if that isn't legal.
-fn promised(prospect: &Prospect<'_>, spot: &Spot, q: usize) -> Option<(End, i64)>
+/// The end of a label with pairing `q` behind, and what it promises at least, or, with a worth of a minute of
+/// flight, what it brings so far; none if that isn't legal.
+fn promised(
+    prospect: &Prospect<'_>,
+    spot: &Spot,
+    q: usize,
+    worth: Option<i64>,
+) -> Option<(End, i64)>
     requires { IsSpot prospect.now spot.now }
     ensures room { IfSome result (λ found. 0 < spot.now.room) }
     ensures may { IfSome result (λ found. is_among spot.now.may q ≡ true) }
@@ -124,7 +141,12 @@ fn promised(prospect: &Prospect<'_>, spot: &Spot, q: usize) -> Option<(End, i64)
     let end = end_with(prospect, spot, q);
     match prospect.timeline().lows.get(q) {
         Some(low) if end.class >= *low => {
-            let least = prospect.ahead(end.value, end.flight, q, end.class, end.need);
+            let least = match worth {
+                Some(worth) => end
+                    .value
+                    .wrapping_add(worth.wrapping_mul(end.flight as i64)),
+                None => prospect.ahead(end.value, end.flight, q, end.class, end.need),
+            };
             Some((end, least))
         }
         _ => None,
@@ -162,7 +184,7 @@ fn add_labels(
             first,
             promise.label,
             q,
-            labelled.is_strict,
+            labelled,
         )? {
             labelled.least = labelled.least.min(gain_at(prospect, &next));
             labels.push(next)?;
@@ -180,7 +202,7 @@ fn next_label(
     first: usize,
     label: usize,
     q: usize,
-    is_strict: bool,
+    labelled: &Labelled,
 ) -> Result<Option<Spot>, AllocError>
     requires judge { judge.old ≡ prospect.now.problem }
     requires labels { All (IsSpot prospect.now) labels.now }
@@ -190,14 +212,14 @@ fn next_label(
     let Some(spot) = labels.get(label) else {
         return Ok(None);
     };
-    let Some((end, _)) = promised(prospect, spot, q) else {
+    let Some((end, _)) = promised(prospect, spot, q, labelled.worth) else {
         return Ok(None);
     };
     if is_covered(labels, first, &end) {
         return Ok(None);
     }
     let next = spot_with(prospect, spot, q, end);
-    if is_strict && !is_legal(prospect, judge, &next)? {
+    if labelled.is_strict && !is_legal(prospect, judge, &next)? {
         return Ok(None);
     }
     Ok(Some(next))
@@ -244,11 +266,14 @@ fn cheapest(
     labelled.many = cheap.len();
     let mut found = Columns::new(alloc);
     let mut broken: usize = 0;
-    for _ in 0..cheap.len().min(MOST_LISTED) {
+    for _ in 0..cheap
+        .len()
+        .min(labelled.most.saturating_mul(LISTED_A_COLUMN))
+    {
         let Some(promise) = cheap.pop() else {
             break;
         };
-        if found.len() >= MOST_COLUMNS || promise.label >= labels.len() {
+        if found.len() >= labelled.most || promise.label >= labels.len() {
             break;
         }
         let spot = &labels[promise.label];

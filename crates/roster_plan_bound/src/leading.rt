@@ -156,7 +156,9 @@ fn row_of(
         (λ row. IsLed valued.now.timeline.now valued.now.values.now behind.now p need until base row) }
 {
     let timeline = valued.timeline;
-    let mut row = BehindRow::of(alloc, base, timeline.order.len())?;
+    // A later class than the pairing's own is never asked for.
+    let last = timeline.classes[p];
+    let mut row = BehindRow::of(alloc, base, last + 1)?;
     for s in rank_behind(valued, p)..until {
         let q = timeline.order[s];
         if timeline.unrested[p].has(q) {

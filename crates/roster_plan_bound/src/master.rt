@@ -3,11 +3,15 @@
 
 ghost use Rattle.std.specs.Prelude.{◌<◌};
 
+use crate::columns::Columns;
 use crate::lists::amount_at;
 use crate::pace::Pace;
 use crate::persons::Seen;
 use crate::softness::logarithm;
-use crate::tuning::{COLUMNS_FOR_A_THREAD, FINE, LEAST_SOFTNESS, ONE, PATIENCE};
+use crate::tuning::{
+    COLUMNS_FOR_A_THREAD, FINE, LEAST_NEAR, LEAST_SOFTNESS, MOST_NEAR_STRIDE, NEAR_SOFTNESSES, ONE,
+    PATIENCE, STEPS_A_CHOICE, STEPS_A_COUNT,
+};
 use std::alloc::{AllocError, Global};
 use std::thread::{Threads, for_each_mut};
 
@@ -28,6 +32,12 @@ struct Way {
     softness: i64,
     misses: u32,
     turns: i64,
+}
+
+/// The columns of a person that cost little enough to have a share in the next steps.
+#[derive(Drop)]
+struct Near {
+    columns: Result<Columns, AllocError>,
 }
 
 /// The columns of some persons at some prices.
@@ -59,7 +69,7 @@ pub(crate) fn ascend<R: Threads + Sync>(
     ascend_with_shares(rt, alloc, threads, seen, center, covered, pace, &mut [])
 }
 
-/// `ascend`, for which the shares of columns are counted: those in the second half of the steps are added to the
+/// `ascend`, for which the shares of columns are counted: those of some steps in the second half are added to the
 /// sums, one for each column of each person who has sums.
 pub(crate) fn ascend_with_shares<R: Threads + Sync>(
     rt: &R,
@@ -77,15 +87,72 @@ pub(crate) fn ascend_with_shares<R: Threads + Sync>(
     let covered = fine_covered(alloc, covered)?;
     let stride = pace.stride.wrapping_mul(FINE);
     let mut way = start(alloc, &center, pace.softness.wrapping_mul(FINE))?;
-    let mut portions = portions_of(alloc, threads, seen, center.len())?;
+    let mut near = Vec::new(alloc);
+    let mut portions = Vec::new(alloc);
     for nth in 0..pace.steps {
-        if nth >= pace.steps / 2 {
+        if nth % STEPS_A_CHOICE == 0 {
+            near = chosen(rt, alloc, threads, seen, &way, stride)?;
+            portions = portions_of(alloc, threads, &near, center.len())?;
+        }
+        if is_counted(nth, pace.steps) {
             add_shares(alloc, seen, &way, sums)?;
         }
-        cover_all(rt, threads, seen, &way, &mut portions);
+        cover_all(rt, threads, &near, &way, &mut portions);
         step(alloc, &mut way, &portions, &center, &covered, stride)?;
     }
     in_parts(alloc, &way.best)
+}
+
+/// Whether shares are counted at this one of so many steps: at some of the second half.
+fn is_counted(nth: u32, steps: u32) -> bool {
+    nth >= steps / 2 && nth % STEPS_A_COUNT == 0
+}
+
+/// At how many of so many steps shares are counted.
+pub(crate) fn counts_of(steps: u32) -> u32 {
+    let mut counts: u32 = 0;
+    for nth in 0..steps {
+        if is_counted(nth, steps) {
+            counts = counts.wrapping_add(1);
+        }
+    }
+    counts
+}
+
+/// Of each person the columns that are near the least: others have no share until prices have moved far.
+fn chosen<R: Threads + Sync>(
+    rt: &R,
+    alloc: Global,
+    threads: usize,
+    seen: &[Seen],
+    way: &Way,
+    stride: i64,
+) -> Result<Vec<Near>, AllocError>
+    requires { 0 < threads }
+{
+    let within = reach_of(way.softness, stride);
+    let mut near = Vec::new(alloc);
+    near.resize_with(
+        seen.len(),
+        || Near {
+            columns: Ok(Columns::new(alloc)),
+        },
+    )?;
+    let choose = |k: usize, one: &mut Near| {
+        if let Some(known) = seen.get(k) {
+            one.columns = known.columns.near(alloc, &way.prices, within);
+        }
+    };
+    for_each_mut(rt, &mut near, threads, &choose);
+    Ok(near)
+}
+
+/// How far above the least a column is near: where it has a share, or gets one if prices move by a stride.
+fn reach_of(softness: i64, stride: i64) -> i64 {
+    softness
+        .saturating_mul(NEAR_SOFTNESSES)
+        .max(LEAST_NEAR.wrapping_mul(FINE))
+        .saturating_add(stride.min(MOST_NEAR_STRIDE.wrapping_mul(FINE)))
 }
 
 /// Adds the shares of the columns of each person who has sums.
@@ -158,12 +225,14 @@ fn step(
 fn portions_of(
     alloc: Global,
     threads: usize,
-    seen: &[Seen],
+    near: &[Near],
     pairings: usize,
 ) -> Result<Vec<Portion>, AllocError> {
     let mut columns: usize = 0;
-    for one in seen {
-        columns = columns.saturating_add(one.columns.len());
+    for one in near {
+        if let Ok(known) = &one.columns {
+            columns = columns.saturating_add(known.len());
+        }
     }
     let mut portions = Vec::new(alloc);
     for _ in 0..threads.min(columns / COLUMNS_FOR_A_THREAD).max(1) {
@@ -176,7 +245,7 @@ fn portions_of(
 fn cover_all<R: Threads + Sync>(
     rt: &R,
     threads: usize,
-    seen: &[Seen],
+    near: &[Near],
     way: &Way,
     portions: &mut [Portion],
 )
@@ -186,7 +255,7 @@ fn cover_all<R: Threads + Sync>(
     let cover = |nth: usize, portion: &mut Portion|
         requires { 0 < count }
     {
-        portion.cost = portion.cover(seen, way, nth, count);
+        portion.cost = portion.cover(near, way, nth, count);
     };
     for_each_mut(rt, portions, threads, &cover);
 }
@@ -205,7 +274,7 @@ impl Portion {
     /// Covers with the columns of one person of each so many, from the `nth` on. What they cost.
     fn cover(
         &mut self,
-        seen: &[Seen],
+        near: &[Near],
         way: &Way,
         nth: usize,
         count: usize,
@@ -216,18 +285,25 @@ impl Portion {
             self.covers[i] = 0;
         }
         let mut sum: i64 = 0;
-        for (k, one) in seen.iter().enumerate() {
+        for (k, one) in near.iter().enumerate() {
             if k % count == nth {
-                let least = one.columns.cover(
-                    &mut self.values,
-                    &way.prices,
-                    way.softness,
-                    &mut self.covers,
-                )?;
-                sum = sum.wrapping_add(least);
+                sum = sum.wrapping_add(self.cover_with(one, way)?);
             }
         }
         Ok(sum)
+    }
+
+    /// Covers with the columns of one person. What they cost.
+    fn cover_with(&mut self, one: &Near, way: &Way) -> Result<i64, AllocError> {
+        match &one.columns {
+            Ok(columns) => columns.cover(
+                &mut self.values,
+                &way.prices,
+                way.softness,
+                &mut self.covers,
+            ),
+            Err(_) => Err(AllocError),
+        }
     }
 }
 

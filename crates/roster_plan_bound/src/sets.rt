@@ -8,14 +8,14 @@ ghost use Rattle.roster_plan_bound.specs.Reduced.{ArePrices, IsLeastOf};
 ghost use Rattle.roster_plan_bound.specs.Timelines.{IsTimeline};
 
 use crate::columns::{Columns, Hints};
-use crate::labels::{Labelled, label_all};
+use crate::labels::{Labelled, is_barred, label_all};
 use crate::parts::{MOST_LEAST, PARTS};
 use crate::prospect::Prospect;
 use crate::seek::{Listing, seek_all};
 use crate::timeline::Timeline;
 use crate::tuning::{
-    FEWEST_LISTED, FEWEST_WORTH_STEPS, FINER_WORTHS, LEAST_REACH, MANY_LISTED, MOST_CLAIMS,
-    MOST_COLUMNS, MOST_KEPT, MOST_KNOWN, MOST_REACH, MOST_WORTH_STEPS,
+    FEWEST_LISTED, FEWEST_WORTH_STEPS, FINER_WORTHS, LEAST_REACH, MANY_BARRED, MANY_LISTED,
+    MOST_CLAIMS, MOST_KEPT, MOST_KNOWN, MOST_REACH, MOST_WORTH_STEPS,
 };
 use roster_legal::Judge;
 use roster_problem::Problem;
@@ -103,17 +103,38 @@ pub(crate) fn renew_sets(
     let Some(mut prospect) = Prospect::new(alloc, problem, k, timeline, prices)? else {
         return Ok(0);
     };
-    add_tables(alloc, problem, &mut prospect, columns)?;
+    let is_small = is_mostly_barred(&prospect);
+    if !is_small {
+        add_tables(alloc, problem, &mut prospect, columns)?;
+    }
     let mut judge = Judge::new(alloc, prospect.problem());
-    let mut labelled = Labelled {
+    let mut labelled = labelled_of(columns, prices, is_small);
+    let found = label_all(alloc, &prospect, &mut judge, &mut labelled)?;
+    renew(alloc, found, labelled, prices, columns)?;
+    Ok(columns.least_value(prices))
+}
+
+/// What labels begin with: if few pairings may be had, no tables tell what may stand behind.
+fn labelled_of(columns: &Columns, prices: &[i64], is_small: bool) -> Labelled {
+    Labelled {
         least: columns.least_value(prices),
         reach: columns.hints.reach.clamp(LEAST_REACH, MOST_REACH),
         is_strict: columns.hints.is_strict,
         many: 0,
-    };
-    let found = label_all(alloc, &prospect, &mut judge, &mut labelled)?;
-    renew(alloc, found, labelled, prices, columns)?;
-    Ok(columns.least_value(prices))
+        worth: if is_small {
+            Some(columns.hints.worth)
+        } else {
+            None
+        },
+        most: columns.hints.wanted,
+    }
+}
+
+/// Whether prices let the person have but few of all pairings.
+fn is_mostly_barred(prospect: &Prospect<'_>) -> bool {
+    let order = &prospect.timeline().order;
+    let free = order.iter().filter(|q| !is_barred(prospect, **q)).count();
+    free.saturating_mul(MANY_BARRED) <= order.len()
 }
 
 /// What searches show that no line of the person is below, if it is more than `known`: what the cheapest column

@@ -6,8 +6,10 @@ use crate::pace::Pace;
 /// One, in shares.
 pub(crate) const ONE: i64 = 1 << 16;
 
-/// How many labels of one look become columns, at most.
+/// How many labels of one look become columns, at most, and in a dive.
 pub(crate) const MOST_COLUMNS: usize = 200;
+
+pub(crate) const FEW_COLUMNS: usize = 120;
 
 /// How far above the least one a set is listed at first, at least and at most, in parts of a cost unit.
 pub(crate) const FIRST_REACH: i64 = 200 * 64;
@@ -28,6 +30,20 @@ pub(crate) const COLUMNS_FOR_A_THREAD: usize = 2000;
 pub(crate) const FEWEST_STEPS: u32 = 300;
 
 pub(crate) const MOST_STEPS: u32 = 1600;
+
+/// How often columns are chosen anew that are near enough to the least to move prices.
+pub(crate) const STEPS_A_CHOICE: u32 = 30;
+
+/// They are no further above it than so many times the softness, past which weights are nothing, but so far at
+/// least, and beside that the stride, but no more of it than so much; in parts of a cost unit.
+pub(crate) const NEAR_SOFTNESSES: i64 = 24;
+
+pub(crate) const LEAST_NEAR: i64 = 40 * 64;
+
+pub(crate) const MOST_NEAR_STRIDE: i64 = 60 * 64;
+
+/// Where shares of columns are counted, they are at one of so many steps.
+pub(crate) const STEPS_A_COUNT: u32 = 5;
 
 /// Softness at first, where looks have long said little, at least, and how many steps it stays that say no
 /// more, in parts of a cost unit.
@@ -82,8 +98,13 @@ pub(crate) const FEWEST_LABELS: usize = 8;
 
 pub(crate) const MOST_LABELS_AT_ONE: usize = 40;
 
-/// How many sets are judged at most for so many columns, and how many a search lists.
+/// How many sets are judged at most for each column that is wanted, and how many a search lists.
+pub(crate) const LISTED_A_COLUMN: usize = 4;
+
 pub(crate) const MOST_LISTED: usize = 800;
+
+/// If prices let a person have no more than one of so many pairings, labels need no tables.
+pub(crate) const MANY_BARRED: usize = 4;
 
 /// Each label is judged from the next look on if more of the cheapest ones break a rule than one of so many.
 pub(crate) const MANY_BROKEN: usize = 4;

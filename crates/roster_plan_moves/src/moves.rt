@@ -100,14 +100,10 @@ impl<'a> Search<'a> {
             if !self.tables.able(k).has(p) || had.meets(&rivals) {
                 continue;
             }
-            let with = had.or(&only(p));
-            let extra = self
-                .tables
-                .line(k, &with)
-                .wrapping_sub(self.tables.line(k, &had));
+            let extra = self.tables.more(k, self.flight(k), p);
             if extra < least {
                 least = extra;
-                best = Some((k, with));
+                best = Some((k, had.or(&only(p))));
             }
         }
         if let Some((k, with)) = best {
@@ -167,8 +163,14 @@ fn with_hindered(
     let mut from_first = *from_first;
     let mut from_second = *from_second;
     for _ in 0..MOST_EXCHANGES {
+        let (first_before, second_before) = (from_first, from_second);
         from_second = from_second.or(&tables.meeting(second, &from_first));
         from_first = from_first.or(&tables.meeting(first, &from_second));
+        if without(&from_first, &first_before).is_empty()
+            && without(&from_second, &second_before).is_empty()
+        {
+            break;
+        }
     }
     (from_first, from_second)
 }

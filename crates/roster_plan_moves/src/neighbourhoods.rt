@@ -28,6 +28,14 @@ const PARTS: u32 = 4;
 /// days.
 const FIRST_SIZES: [u32; 3] = [3 * PARTS, 12 * PARTS, 8 * PARTS];
 
+/// The kind of those round a wish, and how large they are at first: of eight days. The others have come before.
+const WISHES: usize = FIRST_SIZES.len();
+
+const FIRST_SIZE_OF_WISHES: u32 = 8 * PARTS;
+
+/// How many persons are free there beside who has the pairing and who would fly it.
+const OTHERS: usize = 4;
+
 /// How large a neighbourhood may become: of more days than a month has.
 const GREATEST_SIZE: u32 = 40 * PARTS;
 
@@ -40,7 +48,8 @@ const GROWS_BY: u32 = 1;
 /// How much smaller the next one of a kind is if the search of one is given up.
 const SHRINKS_BY: u32 = PARTS;
 
-/// Neighbourhoods of some persons, and of some days. They grow as long as searches of them end, and
+/// Neighbourhoods of some persons, of some days, and, if there is a roster to stay near, round what somebody would
+/// fly for fewer units. They grow as long as searches of them end, and
 /// shrink if one is given up.
 #[derive(Drop)]
 pub struct Neighbourhoods {
@@ -62,17 +71,26 @@ pub struct Neighbourhood {
     kind: usize,
 }
 
+/// A pairing, who has it, and somebody who would fly it for fewer units.
+#[derive(Clone, Copy)]
+struct Wish {
+    pairing: usize,
+    holder: usize,
+    taker: usize,
+}
+
 impl Neighbourhoods {
     /// Those of a problem, in bases that are sought. `sought` says of each base, by its number, whether it is;
-    /// one past the list is.
+    /// one past the list is. If these places give somebody a pairing there, they are of a roster to stay near.
     pub fn new(
         alloc: Global,
         problem: &Problem,
         sought: &[bool],
+        places: &[u16],
     ) -> Result<Neighbourhoods, AllocError> {
         let persons = persons_sought(alloc, problem, sought)?;
         let begins = times(alloc, problem, false)?;
-        let sizes = first_sizes(alloc)?;
+        let sizes = first_sizes(alloc, has_some(places, &persons))?;
         Ok(Neighbourhoods {
             random: Random::new(SEED),
             persons,
@@ -92,8 +110,12 @@ impl Neighbourhoods {
         ensures { IfOk result (λ next. length next.wanted.items ≡ length problem.now.persons) }
     {
         self.kind = self.random.below(self.sizes.len());
-        let persons = self.persons(alloc, problem)?;
-        let free = self.free(problem, places, &persons);
+        let wish = self.wish(problem, places);
+        let persons = match wish {
+            Some(wish) => self.round(alloc, problem, wish)?,
+            None => self.persons(alloc, problem)?,
+        };
+        let free = self.free(problem, places, &persons, wish);
         let wanted = wanted_of(alloc, problem, places, &persons, &free)?;
         Ok(Neighbourhood {
             wanted,
@@ -142,6 +164,64 @@ impl Neighbourhoods {
         self.chosen(alloc, &mut left, count)
     }
 
+    // In a neighbourhood round a wish: the first one from a pairing by chance on.
+    fn wish(&mut self, problem: &Problem, places: &[u16]) -> Option<Wish> {
+        if self.kind != WISHES {
+            return None;
+        }
+        let first = self.random.below(places.len());
+        let mate = self.random.below(self.persons.len());
+        for step in 0..places.len() {
+            let pairing = first.wrapping_add(step) % places.len();
+            let holder = places.get(pairing).map_or(0, |number| usize::from(*number));
+            if let Some(taker) = self.taker(problem, pairing, holder, mate) {
+                return Some(Wish {
+                    pairing,
+                    holder,
+                    taker,
+                });
+            }
+        }
+        None
+    }
+
+    // The first of those sought, from one of them on, who would fly the pairing for fewer units than who has it.
+    fn taker(
+        &self,
+        problem: &Problem,
+        pairing: usize,
+        holder: usize,
+        first: usize,
+    ) -> Option<usize> {
+        let base = base_of(problem, holder)?;
+        if !is_of_base(problem, pairing, base) || !self.persons.contains(&holder) {
+            return None;
+        }
+        let least = problem.units(holder, pairing);
+        for step in 0..self.persons.len() {
+            let i = first.wrapping_add(step) % self.persons.len();
+            let k = self.persons.get(i).copied().unwrap_or(holder);
+            if base_of(problem, k) == Some(base) && problem.units(k, pairing) < least {
+                return Some(k);
+            }
+        }
+        None
+    }
+
+    // Who has the pairing of a wish, who would fly it, and some others of the base by chance.
+    fn round(
+        &mut self,
+        alloc: Global,
+        problem: &Problem,
+        wish: Wish,
+    ) -> Result<Vec<usize>, AllocError> {
+        let mut left = mates_of(alloc, problem, wish.holder)?;
+        let mut persons = self.chosen(alloc, &mut left, OTHERS)?;
+        persons.push(wish.holder)?;
+        persons.push(wish.taker)?;
+        Ok(persons)
+    }
+
     // All persons of one base, which is that of a person by chance.
     fn mates(&mut self, alloc: Global, problem: &Problem) -> Result<Vec<usize>, AllocError> {
         let i = self.random.below(self.persons.len());
@@ -167,7 +247,13 @@ impl Neighbourhoods {
     }
 
     // The pairings that these persons have or that are open, all of them or those of some days.
-    fn free(&mut self, problem: &Problem, places: &[u16], persons: &[usize]) -> Set {
+    fn free(
+        &mut self,
+        problem: &Problem,
+        places: &[u16],
+        persons: &[usize],
+        wish: Option<Wish>,
+    ) -> Set {
         let mut free = Set::empty();
         let Some(k) = persons.first() else {
             return free;
@@ -175,7 +261,7 @@ impl Neighbourhoods {
         let Some(base) = base_of(problem, *k) else {
             return free;
         };
-        let (first, last) = self.days();
+        let (first, last) = self.days(wish);
         let nobody = usize::from(open_number(problem));
         let open = open_of(problem, places, base);
         for (p, place) in places.iter().enumerate() {
@@ -193,12 +279,15 @@ impl Neighbourhoods {
         free
     }
 
-    // From when to when the pairings begin.
-    fn days(&mut self) -> (i64, i64) {
+    // From when to when the pairings begin: some days by chance, or those round a wish.
+    fn days(&mut self, wish: Option<Wish>) -> (i64, i64) {
         if self.kind == 0 || self.begins.is_empty() {
             return (i64::MIN, i64::MAX);
         }
-        let p = self.random.below(self.begins.len());
+        let p = match wish {
+            Some(wish) => wish.pairing,
+            None => self.random.below(self.begins.len()),
+        };
         let middle = amount_at(&self.begins, p);
         // Half of so many parts of a day lie on each side of the middle.
         let minutes = i64::from(self.size()).wrapping_mul(DAY / i64::from(2 * PARTS));
@@ -221,11 +310,21 @@ fn persons_sought(
     Ok(persons)
 }
 
-// How large the kinds of neighbourhoods are at first.
-fn first_sizes(alloc: Global) -> Result<Vec<u32>, AllocError> {
+// Whether the places give somebody of these a pairing.
+fn has_some(places: &[u16], persons: &[usize]) -> bool {
+    places
+        .iter()
+        .any(|number| persons.contains(&usize::from(*number)))
+}
+
+// How large the kinds of neighbourhoods are at first, those round a wish too if there is a roster to stay near.
+fn first_sizes(alloc: Global, is_near: bool) -> Result<Vec<u32>, AllocError> {
     let mut sizes = Vec::new(alloc);
     for size in FIRST_SIZES {
         sizes.push(size)?;
+    }
+    if is_near {
+        sizes.push(FIRST_SIZE_OF_WISHES)?;
     }
     Ok(sizes)
 }

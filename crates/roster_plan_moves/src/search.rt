@@ -15,9 +15,10 @@ pub(crate) struct Search<'a> {
     pub(crate) tables: Tables<'a>,
     pub(crate) random: Random,
     pub(crate) changes: Changes,
-    // By person: the set, and what it costs.
+    // By person: the set, what it costs, and the flight with it.
     sets: Vec<Set>,
     lines: Vec<i64>,
+    flights: Vec<i64>,
     // The pairings of bases that are sought, and which of them are open.
     pairings: Vec<usize>,
     open: Set,
@@ -39,6 +40,7 @@ impl<'a> Search<'a> {
         let tables = Tables::new(alloc, problem)?;
         let sets = sets_of(alloc, places, tables.persons())?;
         let lines = lines_of(alloc, &tables, &sets)?;
+        let flights = flights_of(alloc, &tables, &sets)?;
         let open = open_of(problem, places, &pairings);
         Ok(Search {
             tables,
@@ -46,6 +48,7 @@ impl<'a> Search<'a> {
             changes: Changes::new(alloc),
             sets,
             lines,
+            flights,
             pairings,
             open,
             saved: 0,
@@ -82,6 +85,14 @@ impl<'a> Search<'a> {
         }
     }
 
+    /// The minutes of flight of person `k` after the changes.
+    pub(crate) fn flight(&self, k: usize) -> i64 {
+        match self.changes.of(k) {
+            Some(set) => self.tables.flight(k, &set),
+            None => amount_at(&self.flights, k),
+        }
+    }
+
     /// What the changed persons lose, and what they gain.
     fn traded(&self) -> (Set, Set) {
         let mut old = Set::empty();
@@ -112,9 +123,10 @@ impl<'a> Search<'a> {
         self.open = without(&self.open.or(&lost), &gained);
         for change in self.changes.as_slice() {
             let k = change.person;
-            if k < self.sets.len() && k < self.lines.len() {
+            if k < self.sets.len() && k < self.lines.len() && k < self.flights.len() {
                 self.sets[k] = change.set;
                 self.lines[k] = self.tables.line(k, &change.set);
+                self.flights[k] = self.tables.flight(k, &change.set);
             }
         }
         self.saved = self.saved.wrapping_sub(extra);
@@ -153,6 +165,15 @@ fn lines_of(alloc: Global, tables: &Tables<'_>, sets: &[Set]) -> Result<Vec<i64>
         lines.push(tables.line(k, set))?;
     }
     Ok(lines)
+}
+
+/// The flight of each person with the set.
+fn flights_of(alloc: Global, tables: &Tables<'_>, sets: &[Set]) -> Result<Vec<i64>, AllocError> {
+    let mut flights = Vec::new(alloc);
+    for (k, set) in sets.iter().enumerate() {
+        flights.push(tables.flight(k, set))?;
+    }
+    Ok(flights)
 }
 
 /// The pairings of bases that are sought.

@@ -128,17 +128,38 @@ impl<'a> Tables<'a> {
     /// What the set costs with person `k`.
     pub(crate) fn line(&self, k: usize, set: &Set) -> i64 {
         let mut units: i64 = 0;
-        let mut flight = amount_at(&self.crew.fixed, k);
         let mut from = 0;
         while let Some(p) = set.first_from(from) {
             units = units.wrapping_add(self.problem.units(k, p));
+            from = p + 1;
+        }
+        units.wrapping_add(self.missed(k, self.flight(k, set)))
+    }
+
+    /// The minutes of flight of person `k` with the set, those of fixed duties among them.
+    pub(crate) fn flight(&self, k: usize, set: &Set) -> i64 {
+        let mut flight = amount_at(&self.crew.fixed, k);
+        let mut from = 0;
+        while let Some(p) = set.first_from(from) {
             flight = flight.wrapping_add(amount_at(&self.flights.minutes, p));
             from = p + 1;
         }
-        let missed = flight
+        flight
+    }
+
+    /// What it costs more that person `k`, who flies so much, has the pairing at place `p` too.
+    pub(crate) fn more(&self, k: usize, flight: i64, p: usize) -> i64 {
+        let with = flight.wrapping_add(amount_at(&self.flights.minutes, p));
+        let missed = self.missed(k, with).wrapping_sub(self.missed(k, flight));
+        missed.wrapping_add(self.problem.units(k, p))
+    }
+
+    // What it costs that person `k` flies so much.
+    fn missed(&self, k: usize, flight: i64) -> i64 {
+        flight
             .wrapping_sub(amount_at(&self.crew.targets, k))
-            .wrapping_abs();
-        units.wrapping_add(missed.wrapping_mul(i64::from(self.problem.weight())))
+            .wrapping_abs()
+            .wrapping_mul(i64::from(self.problem.weight()))
     }
 
     /// Those of a set that can't be flown with some of another one.

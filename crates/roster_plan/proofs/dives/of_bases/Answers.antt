@@ -1,5 +1,5 @@
 use Rattle.roster_plan.proofs.MonthLemmas.{month_on, month_same}
-use Rattle.roster_plan.proofs.dives.improved_by_dives.Goals as goal
+use Rattle.roster_plan.proofs.dives.of_bases.Goals as goal
 
 pub loop-gap-init : goal.loop-gap-init
 loop-gap-init g c = month_same c.args.problem.now c.args.start c.requires.month
@@ -8,8 +8,3 @@ pub loop-gap-preserved : goal.loop-gap-preserved
 loop-gap-preserved g c =
     month_on c.args.problem.now c.args.start.planned.roster c.loop-gap.month c.in_ok-month.month
     c.loop-gap.invariant c.in_ok-month.ensures
-
-pub loop-preserved : goal.loop-preserved
-loop-preserved g c =
-    month_on c.args.problem.now c.args.start.planned.roster c.loop.month c.in_ok-month-2.month
-    c.loop.invariant c.in_ok-month-2.ensures
