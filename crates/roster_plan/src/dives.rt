@@ -39,7 +39,7 @@ const DIVES_AT_ONCE: usize = 4;
 /// How often there are so many with each effort more, at most, and how many in a row that find nothing are enough.
 const ROUNDS_AN_EFFORT: u32 = 8;
 
-const IDLE_ROUNDS: u32 = 12;
+const IDLE_ROUNDS: u32 = 20;
 
 /// How many persons such a dive has, and how often prices are looked at first.
 const FEW: usize = 7;
