@@ -1,7 +1,6 @@
 -- What a writer holds that was told a text and then more.
 use Rattle.std.proofs.Common.{Bool, true, false, ℕ, ◌+◌, List, ◌++◌, length, take, min, Option, refl, sym, ◌∙◌, ◌≡◌, subst, arith}
 use Rattle.std.proofs.Math.Seq.{take-append-add}
-use Rattle.std.proofs.lemmas.Bool.{false≢true}
 use Rattle.std.proofs.lemmas.List.{take-append-le, take_min}
 use Rattle.std.specs.Io.KnownBytes.{Appends}
 use Rattle.roster_report.proofs.Appends.{Appends-then}

@@ -1,5 +1,5 @@
 -- How a plan ends: the exit status, and what is said of what was read and written.
-use Rattle.std.specs.Prelude.{◌≡◌, ◌≢◌, ◌↔◌, ◌⊎◌, ◌≤◌, ◌++◌, ◌∷◌, [], ⊤, ℕ, List, Option, Some, None, codes, length, true, false, IfSome, IsSomeAnd, option_map}
+use Rattle.std.specs.Prelude.{◌≡◌, ◌↔◌, ◌⊎◌, ◌≤◌, ◌++◌, ⊤, ℕ, List, Option, Some, None, codes, length, true, IfSome, IsSomeAnd, option_map}
 use Rattle.roster_model.specs.Answer.{IsRefusal}
 use Rattle.roster_model.specs.Record.{Check}
 use Rattle.roster_book.specs.Reading.{OfTold}

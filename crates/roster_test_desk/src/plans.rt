@@ -1,6 +1,6 @@
 //! The command `plan` over files in memory.
 
-ghost use Rattle.std.specs.Prelude.{⊤, IfOk, IfSome, None, Some};
+ghost use Rattle.std.specs.Prelude.{◌≡◌, ⊤, IfOk, IfSome, None, Some};
 ghost use Rattle.roster_model.specs.Answer.{records_of};
 ghost use Rattle.roster_model.specs.Plans.{IsPlanned};
 
@@ -167,7 +167,9 @@ impl Write for Full {
 }
 
 /// A line that names this book and nothing else.
-fn line_of(book: &str) -> PlanLine<'_> {
+fn line_of(book: &str) -> PlanLine<'_>
+    ensures { result.start ≡ None }
+{
     PlanLine {
         book,
         effort: 1,

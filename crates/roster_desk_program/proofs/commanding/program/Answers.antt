@@ -1,4 +1,4 @@
-use Rattle.std.proofs.Common.{◌≡◌, Option, List, ℕ, sym, ◌∙◌, subst}
+use Rattle.std.proofs.Common.{sym, ◌∙◌}
 use Rattle.roster_book.specs.Reading.{OfTold}
 use Rattle.roster_watched.specs.Watch.{inner_of}
 use Rattle.roster_report.specs.Writing.{Writes}
