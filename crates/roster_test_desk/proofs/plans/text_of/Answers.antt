@@ -1,4 +1,4 @@
-use Rattle.std.proofs.Common.{◌≡◌, rules, Some, [], subst}
+use Rattle.std.proofs.Common.{◌≡◌, rules, Some, subst}
 use Rattle.std.specs.Process.{exit_status}
 use Rattle.roster_model.specs.Answer.{records_of}
 use Rattle.roster_model.specs.Plans.{IsPlanned}
