@@ -517,6 +517,17 @@ def wrong_row(row):
     )
 
 
+def wrong_meters(text):
+    """What is wrong with the meters of a page: each is as high as its title says of the minutes that are used."""
+    meters = re.findall(r'<span tabindex="-1"(?: class="o")? title="([^"]*)"><em style="height:(\d+)%">', text)
+    for title, height in meters:
+        *used, most, _ = (60 * int(hours) + int(minutes) for hours, minutes in re.findall(r"(\d+):(\d\d)", title))
+        wanted = min(100, 100 * sum(used) // most) if most else 100
+        if int(height) != wanted:
+            return f"{height} of a hundred where {wanted} are told: {title}"
+    return not meters and "no meter is drawn"
+
+
 def made(root, *words):
     return subprocess.run([f"{root}/bench/{words[0]}", *words[1:]], capture_output=True, check=True).stdout
 
@@ -533,6 +544,7 @@ def charts(root, desk, check, tests):
         names = [line.split(b",")[1].decode() for line in book.splitlines() if line.startswith(b"crew,")]
         missing = [name for name in names if f">{name}" not in text]
         tests.told(f"chart of {path}", told.returncode != 0 and f"status {told.returncode}", wrong_page(text), missing and f"without {missing}")
+        tests.told(f"meters of {path}", names and wrong_meters(text))
         rows = Rows()
         rows.feed(text)
         # Only in a legal roster duties don't overlap.

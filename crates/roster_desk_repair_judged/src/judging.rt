@@ -6,7 +6,7 @@ ghost use Rattle.roster_desk_repair_terms.specs.Repaired.{IsRepair, IsSamePerson
 ghost use Rattle.roster_desk_repair_judged.specs.Terms as asked;
 
 use crate::duties::are_kept;
-use crate::persons::is_same_person;
+use crate::persons::{are_same_leaves, have_same_names, is_same_person};
 use crate::terms::Terms;
 use crate::units::are_units_from;
 use roster_model::limits::MOST_PAIRINGS;
@@ -76,6 +76,8 @@ pub fn is_repair(
     prove!(book.pairings().len() <= MOST_PAIRINGS);
     repaired.weight() == book.weight()
         && are_same_persons(book, repaired)
+        && have_same_names(book.persons(), repaired.persons())
+        && are_same_leaves(book.leaves(), repaired.leaves())
         && are_staying(fixed, book.pairings(), repaired.pairings())
         && are_kept(open_number(book), fixed, book.duties(), repaired.duties())
         && are_units_from(book, repaired, terms, published, fixed, 0, 0)

@@ -3,7 +3,7 @@
 //! - `terms`: what a planner says of a repair, and what it costs that a pairing moves
 //! - `fixed`: the pairings that stay, and the rest
 //! - `duties`: whether the duties are those of the book, with the fixed ones
-//! - `persons`: whether the persons are the same
+//! - `persons`: whether the persons are the same, and their leave
 //! - `units`: whether each pairing costs its owner so much less
 //! - `judging`: whether a book is a repair
 #![tactic(auto)]

@@ -4,6 +4,7 @@ use Rattle.roster_model.specs.Problem.{Problem, home_of, target_of, units_of, we
 use Rattle.roster_model.specs.Costs.{cost_of}
 use Rattle.roster_model.specs.Places.{open_number, set_of}
 use Rattle.roster_model.specs.Rules.{duty_list}
+use Rattle.roster_model.specs.records.Crew.{Person}
 use Rattle.roster_desk_repair_terms.specs.Fixed.{kept_duties, plain, staying, unnumbered, unrowed, whole}
 use Rattle.roster_desk_repair_terms.specs.Moves.{less_for, moves}
 
@@ -25,6 +26,10 @@ AreUnitsFrom book repaired price p r (x ∷ published) (Some n ∷ fixed) =
 AreUnitsFrom book repaired price p r (x ∷ published) (None ∷ fixed) =
     AreUnitsAt book repaired (price p) x p r × AreUnitsFrom book repaired price (p + 1) (r + 1) published fixed
 
+-- the name of the person
+abbrev pub name_of : Person → List ℕ
+name_of person = person.id
+
 -- Person k is the same in both books.
 pub record IsSamePerson (book repaired : Problem) (k : ℕ) : Type 0 where
   pub home : home_of repaired k ≡ home_of book k
@@ -32,13 +37,15 @@ pub record IsSamePerson (book repaired : Problem) (k : ℕ) : Type 0 where
   pub year : year_of repaired k ≡ year_of book k
   pub eleven : eleven_of repaired k ≡ eleven_of book k
 
--- The repaired book is the book without the pairings that are fixed, whose duties are those of who flew them,
--- and in which each other pairing costs its owner so much less.
+-- The repaired book is the book, with its persons and their leave, without the pairings that are fixed, whose
+-- duties are those of who flew them, and in which each other pairing costs its owner so much less.
 pub record IsRepair (book : Problem) (published : List ℕ) (fixed : List (Option ℕ)) (price : ℕ → ℕ)
     (repaired : Problem) : Type 0 where
   pub weight : weight_of repaired ≡ weight_of book
   pub persons : length repaired.persons ≡ length book.persons
+  pub names : map name_of repaired.persons ≡ map name_of book.persons
   pub same : (k : ℕ) → k < length book.persons → IsSamePerson book repaired k
+  pub leaves : repaired.leaves ≡ book.leaves
   pub pairings : map unnumbered repaired.pairings ≡ staying fixed (map unnumbered book.pairings)
   pub duties : map unrowed repaired.duties ≡ kept_duties (open_number book) fixed book.duties
   pub units : AreUnitsFrom book repaired price 0 0 published fixed

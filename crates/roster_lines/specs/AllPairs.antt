@@ -1,12 +1,12 @@
 -- What threads find of each person.
-use Rattle.std.specs.Prelude.{◌≡◌, ℕ, ◌<◌, List, IfOk, length, slice_index_or}
+use Rattle.std.specs.Prelude.{◌≡◌, ℕ, ◌<◌, List, IfOk, IsSomeAnd, length, slice_index_or}
 use Rattle.roster_model.specs.Problem.{Problem}
 use Rattle.roster_lines.specs.Listing.{ArePairs}
 use Rattle.roster_lines.specs.declared.pairs_by_threads.Judged.{Judged}
 
--- of person k the pairs were found, or memory ran out
+-- a thread looked for the pairs of person k: they were found, or memory ran out
 abbrev pub IsJudged : Problem → ℕ → Judged → Type 0
-IsJudged problem k judged = IfOk judged.pairs (ArePairs problem k)
+IsJudged problem k judged = IsSomeAnd judged.pairs (λ found. IfOk found (ArePairs problem k))
 
 -- of each person
 pub record AreJudged (problem : Problem) (all : List Judged) : Type 0 where

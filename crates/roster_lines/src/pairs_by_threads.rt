@@ -1,6 +1,6 @@
 //! The pairs of all persons, by several threads.
 
-ghost use Rattle.std.specs.Prelude.{◌≡◌, ◌<◌, IfOk, length, vec_len};
+ghost use Rattle.std.specs.Prelude.{◌≡◌, ◌<◌, IfOk, IsSome, Some, length, vec_len};
 ghost use Rattle.roster_lines.specs.Listing.{AreAllPairs, ArePairs};
 ghost use Rattle.roster_lines.specs.AllPairs.{AreJudged, IsJudged};
 
@@ -14,8 +14,8 @@ use std::thread::{Threads, for_each_mut};
 /// What a thread finds of a person.
 #[derive(Drop)]
 pub(crate) struct Judged {
-    /// The pairs, once they are found.
-    pub(crate) pairs: Result<Pairs, AllocError>,
+    /// The pairs, once a thread has looked for them.
+    pub(crate) pairs: Option<Result<Pairs, AllocError>>,
 }
 
 /// The pairs of all persons, in book order, found by so many threads at most. They are the same for every
@@ -40,12 +40,7 @@ fn unjudged(alloc: Global, count: usize) -> Result<Vec<Judged>, AllocError>
     ensures { IfOk result (λ judged. vec_len judged ≡ count) }
 {
     let mut judged = Vec::new(alloc);
-    judged.resize_with(
-        count,
-        || Judged {
-            pairs: Err(AllocError),
-        },
-    )?;
+    judged.resize_with(count, || Judged { pairs: None })?;
     Ok(judged)
 }
 
@@ -65,7 +60,7 @@ fn judge_all<R: Threads + Sync>(
         requires { k < length problem.now.persons }
         ensures { IsJudged problem.entry.now k one.new }
     {
-        one.pairs = pairs_at(alloc, problem, k);
+        one.pairs = Some(pairs_at(alloc, problem, k));
     };
     for_each_mut(rt, judged, workers, &judge);
 }
@@ -88,7 +83,15 @@ fn pairs_in(alloc: Global, problem: &Problem, judged: Vec<Judged>) -> Result<Vec
 {
     let mut all = Vec::new(alloc);
     for one in judged {
-        all.push(one.pairs?)?;
+        all.push(found(one)?)?;
     }
     Ok(all)
+}
+
+/// What a thread found of a person, once it has looked.
+fn found(judged: Judged) -> Result<Pairs, AllocError>
+    requires { IsSome judged.pairs }
+    ensures { judged.pairs ≡ Some result }
+{
+    judged.pairs.unwrap()
 }

@@ -1,5 +1,5 @@
 use Rattle.std.proofs.Common.{length, sym, ◌∙◌, subst, arith, rules}
-use Rattle.std.specs.Prelude.{IfOk}
+use Rattle.std.specs.Prelude.{IfOk, IsSomeAnd}
 use Rattle.std.proofs.lemmas.Iterator.Adapters.{YieldsList-from_vec}
 use Rattle.std.proofs.lemmas.Iterator.Consumers.{YieldsList-turn, YieldsList-end}
 use Rattle.std.proofs.lemmas.List.{length_push}
@@ -17,9 +17,11 @@ loop-one-preserved c =
     let here : IsJudged c.args.problem.now k c.in-Some.one =
     subst (IsJudged c.args.problem.now k) (sym turn.1)
     (c.requires.each k c.in-Some.one (omega (arith, turn.0, c.requires.long))) in
-    let found : ArePairs c.args.problem.now k c.in_ok-one.field-0 =
-    subst (λ found. IfOk found (ArePairs c.args.problem.now k)) c.in_ok-one.was here in
-    let next = each-next (ArePairs c.args.problem.now) k c.loop-one.all.items c.push.new.self.items c.in_ok-one.field-0 c.in_ok-push.ensures.items so_far.long so_far.each found in
+    let asked : IfOk c.found.result (ArePairs c.args.problem.now k) =
+    subst (λ one. IsSomeAnd one (λ found. IfOk found (ArePairs c.args.problem.now k))) c.found.ensures here in
+    let found : ArePairs c.args.problem.now k c.in_ok-found.field-0 =
+    subst (λ found. IfOk found (ArePairs c.args.problem.now k)) c.in_ok-found.was asked in
+    let next = each-next (ArePairs c.args.problem.now) k c.loop-one.all.items c.push.new.self.items c.in_ok-found.field-0 c.in_ok-push.ensures.items so_far.long so_far.each found in
     record { long = next.0 ∙ sym (length_push c.loop-one.yielded c.in-Some.one); each = next.1 }
 
 pub returns : goal.returns
