@@ -45,7 +45,7 @@ class Result:
 
     def __init__(self, folder, name):
         self.name, self.manifest, self.report = name, None, None
-        at = place_of(folder, name)
+        self.at = at = place_of(folder, name)
         try:
             with open(f"{at}/manifest.json", encoding="utf-8") as it:
                 manifest = json.load(it)
@@ -56,6 +56,13 @@ class Result:
                         self.report = Report(it.read())
         except (OSError, ValueError, KeyError, TypeError):
             self.manifest = None
+
+    def why(self):
+        """Why a book has no roster: what failed, or the first fault of one that is refused."""
+        if self.manifest["outcome"] != "refused":
+            return self.manifest["why"]
+        with open(f"{self.at}/fault.txt", encoding="utf-8", errors="replace") as it:
+            return it.readline().strip()
 
     def is_of(self, book, programs, effort):
         """Whether it is whole and came of this book, by these programs and with this effort."""

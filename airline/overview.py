@@ -20,25 +20,27 @@ tr.refused td { background: #fdf3d2; } tfoot td { font-weight: bold; border-top:
 """
 
 
+# How many limits are told of a book.
+NEAREST = 3
+
+
 def nearest(folder, name):
-    """The limit of which somebody has used most, as `limits` tells it, or nothing."""
+    """The limits of which somebody has used most, as `limits` tells them, or nothing."""
     try:
         with open(f"{place_of(folder, name)}/limits.txt", encoding="utf-8") as it:
             lines = it.read().splitlines()
     except OSError:
         return ""
-    used = [(share_of(line), line.split(":")[0]) for line in lines]
-    best, what = max(((share, what) for share, what in used if share is not None), default=(0, ""))
-    return f"{what} {best:.0%}" if what else ""
+    used = [(share, line.split(":")[0]) for line in lines if (share := share_of(line)) is not None]
+    used.sort(key=lambda it: -it[0])
+    return ", ".join(f"{what} {share:.0%}" for share, what in used[:NEAREST])
 
 
 def share_of(line):
-    """Of a line as `ANNA DUTY7: 55:00 of duty in the 7 days to 2024-03-10 of 60:00, 5:00 left` how much is used."""
-    found = re.match(r"\S+ \S+: (\d+):(\d\d) of .* of (\d+):(\d\d), ", line)
-    if not found:
-        return None
-    hours, minutes, most_hours, most_minutes = map(int, found.groups())
-    return (60 * hours + minutes) / max(60 * most_hours + most_minutes, 1)
+    """Of a line as `ANNA DUTY7: 55:00 of duty in the 7 days to 2024-03-10 of 60:00, 5:00 left` how much is used. Flight
+    of the month and before it are two times."""
+    times = [60 * int(hours) + int(minutes) for hours, minutes in re.findall(r"(?<= )(\d+):(\d\d)\b", line)]
+    return sum(times[:-2]) / max(times[-2], 1) if len(times) > 2 else None
 
 
 def row_of(folder, name):
@@ -49,10 +51,7 @@ def row_of(folder, name):
     if result.manifest is None:
         return row | {"OUTCOME": "missing"}
     row |= {"OUTCOME": result.manifest["outcome"], "SECONDS": result.manifest["seconds"], "HOST": result.manifest["host"]}
-    row["WHY"] = result.manifest["why"]
-    if result.manifest["outcome"] == "refused":
-        with open(f"{place_of(folder, name)}/fault.txt", encoding="utf-8", errors="replace") as it:
-            row["WHY"] = it.readline().strip()
+    row["WHY"] = result.why()
     if result.report:
         report, penalties = result.report, penalties_of(book)
         bound = report.cost if report.word == "ROSTER" else report.bound

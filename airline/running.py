@@ -206,7 +206,7 @@ class Run:
             self.lock.close()
         self.tell(is_last=True)
         for name in self.names:
-            why = self.done[name].manifest["why"] if name in self.done else "no result came back"
+            why = self.done[name].why() if name in self.done else "no result came back"
             if why:
                 print(f"{name}: {why}", file=sys.stderr)
         return self.status()

@@ -187,7 +187,8 @@ class Split:
             cost, text = self.report()
             write_whole(f"{folder}/report.txt", text)
             left = sum(it not in self.given for it in self.book.pairings)
-            print(f"round {at + 1}: cost {cost}, {left} open", file=sys.stderr, flush=True)
+            told = f"round {at + 1}: cost {cost}, {left} open, each of {len(self.costs)} groups checked by roster check"
+            print(told, file=sys.stderr, flush=True)
         return text
 
 

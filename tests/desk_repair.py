@@ -177,6 +177,25 @@ def one_repair(tests, run, roster, desk, folder, size, seed):
     tests.told(name, *wrongs(run, roster, desk, paths, book, published, start, change, repaired, rest))
 
 
+def records_of(run, desk, path, names=None):
+    """The `assign` records of a report, of pairings of these names."""
+    lines = run(desk, "assigns", path).stdout.splitlines(True)
+    return b"".join(line for line in lines if names is None or line.decode().split(",")[1] in names)
+
+
+def too_many(run, roster, published, book, answer):
+    """What is wrong with how many pairings move in the answer of the rest, in which a move outweighs all else."""
+    if not answer.startswith(b"ROSTER "):
+        return None
+    other, owned = only_moves(book, published)
+    fewest = run(roster, "solve", book=other)
+    anew = given_by(answer)
+    names = {row[1] for row in rows_of(book) if row[0] == "pairing"}
+    moves = sum(anew.get(name) != person for name, person in published.items() if name in names)
+    least = fewest.returncode == 0 and owned + cost_in(fewest.stdout)
+    return fewest.returncode == 0 and moves != least and f"{moves} moves, {least} are enough"
+
+
 def wrongs(run, roster, desk, paths, book, published, start, change, repaired, rest):
     """What is wrong with a repair and its best roster."""
     for path, content in zip(paths[2:], (rest.stdout, repaired.stdout)):
@@ -188,9 +207,7 @@ def wrongs(run, roster, desk, paths, book, published, start, change, repaired, r
     anew = given_by(rest.stdout)
     if any(duties[name][0][0] < start for name in anew):
         yield "a pairing that had begun moves"
-    whole = {**anew, **fixed}
-    assigns = "".join(f"assign,{name},{person}\n" for name, person in whole.items()).encode()
-    check = run(roster, "check", book=book + assigns)
+    check = run(roster, "check", book=book + records_of(run, desk, paths[2]) + records_of(run, desk, paths[1], fixed))
     if check.returncode != 0:
         yield f"check: {check.stdout.decode()}"
         return
@@ -200,14 +217,18 @@ def wrongs(run, roster, desk, paths, book, published, start, change, repaired, r
     told = int(re.search(rb"COST here \+ (-?\d+)", repaired.stderr)[1])
     if cost_in(check.stdout) != cost_in(rest.stdout) + told - change * len(moves):
         yield "another cost"
+    gone = [f"not in the book: {name} of {person}\n".encode() for name, person in published.items() if name not in duties]
+    if not all(line in repaired.stderr for line in gone):
+        yield f"whose pairing is gone isn't told: {repaired.stderr}"
     differs = run(desk, "diff", "--persons", paths[3], paths[1], paths[2])
-    if differs.returncode != 0 or not differs.stdout.endswith(b" persons change\n"):
-        yield f"no difference: {differs.stderr.decode()}"
-    if change == MOST and rest.stdout.startswith(b"ROSTER "):
-        other, owned = only_moves(repaired.stdout, published)
-        fewest = run(roster, "solve", book=other)
-        if fewest.returncode == 0 and len(moves) != owned + cost_in(fewest.stdout):
-            yield f"{len(moves)} moves, {owned + cost_in(fewest.stdout)} are enough"
+    called = [line.split()[0].decode() for line in differs.stdout.splitlines()]
+    calls = {person for name in [*moves, *anew] for person in (published.get(name), anew.get(name)) if published.get(name) != anew.get(name)}
+    if differs.returncode != 0 or sorted(called) != sorted([*(calls - {None}), str(len(calls - {None}))]):
+        yield f"others are called: {differs}"
+    if change != MOST and rest.stdout.startswith(b"ROSTER "):
+        repaired = run(desk, "repair", "--from", text(start), "--change", str(MOST), *paths[:2])
+        rest = answer_of(run, roster, desk, repaired.stdout)
+    yield too_many(run, roster, published, repaired.stdout, rest.stdout)
 
 
 def two_bases(tests, run, roster, desk, folder):
@@ -284,6 +305,16 @@ def broken_off(tests, run, roster, desk, root):
     late = rest.replace("2024-03-10T16:00Z,2024-03-10T19:00Z", "2024-03-10T16:00Z,2024-03-10T20:01Z")
     told = run(desk, "why", "-", book=run(desk, "repair", "--from", "2024-03-10T15:00Z", "-", report, book=late.encode()).stdout)
     tests.told("a positioning that is too late", b"P7-2 - nobody can fly it: REST: 9:59 of rest between D2-0 and D2 " not in told.stdout and f"told {told.stdout}")
+    # B is there, and flies on.
+    fixed = "".join(f"{line}\n" for line in rest.splitlines() if "P7-2,BAS,1" not in line and "D2-0" not in line).replace("P,P7-2,LHR", "C,B,LHR")
+    stays = run(desk, "repair", "--from", "2024-03-10T15:00Z", "-", report, book=fixed.encode())
+    lines = run(desk, "plan", "-", book=stays.stdout).stdout.splitlines()
+    tests.told(
+        "the rest stays with who is there",
+        stays.returncode != 0 and f"status {stays.returncode}, {stays.stderr}",
+        # 6:00 with each of D2 and D3; A has 8:00 with D1.
+        lines[2:] != [b"CREW A 0 480 480 480 0 -", b"CREW B 0 720 720 720 0 -", b"OPEN -"] and f"told {lines}",
+    )
     away = "\n".join(line for line in rest.splitlines() if "D2-0" not in line) + "\n"
     told = run(desk, "repair", "--from", "2024-03-10T15:00Z", "-", report, book=away.encode())
     tests.told("a rest that begins away from base", told.returncode != 1 and f"status {told.returncode}", not told.stdout.endswith(b" 12\n") and f"told {told.stdout}")

@@ -802,9 +802,28 @@ def shown_rows(tests, root):
     tests.told("the rows of docs/TABLES.md", strange and f"not {sorted(strange)}")
 
 
+def shown_columns(tests, run, desk, root):
+    """A book of the other rows that docs/TABLES.md shows, beside the example's persons, pairings and activities."""
+    folder = f"{tests.folder}/shown"
+    shutil.copytree(f"{root}/examples/tables", folder)
+    tables = {it.split(".csv\n")[0]: it.split(".csv\n")[1] for it in read(f"{root}/docs/TABLES.md").decode().split("```text\n")[2].split("```")[0].strip().split("\n\n")}
+    for table, text in tables.items():
+        old = read(f"{folder}/{table}.csv").decode() if table == "crew" else ""
+        with open(f"{folder}/{table}.csv", "w", encoding="utf-8") as file:
+            file.write(old + text.partition("\n")[2] + "\n" if old else text + "\n")
+    with open(f"{folder}/pairings.csv", "w", encoding="utf-8") as file:
+        file.write("PAIRING,BASE,RANK,PENALTY,COUNT\nLON-03,ZRH,CP,800,\n")
+    os.remove(f"{folder}/wishes.csv")
+    tests.told("the columns of docs/TABLES.md", sorted(tables) != ["crew", "duties", "sectors"] and "other tables", wrong_book(run, desk, folder, "2024-06", ("ZRH",), "CP"))
+    lines = made(run, desk, folder, "2024-06", ("ZRH",), "CP").stdout.splitlines()
+    wanted = b"duty,LON-AM,P,LON-03,ZRH,2024-06-03T04:15Z,2024-06-03T10:25Z", b"sector,LON-AM,O,2024-06-03T05:15Z,2024-06-03T07:00Z", b"sector,SIM-1,P,2024-06-05T06:30Z,2024-06-05T07:30Z"
+    tests.told("the records of docs/TABLES.md", *(it not in lines and f"no {it}" for it in wanted), not any(it.startswith(b"leave,KIM,2024-06-15T22:00Z,") for it in lines) and "KIM is there to the end")
+
+
 def all_tables(tests, run, roster, desk, root):
     example = f"{root}/examples/tables"
     shown_rows(tests, root)
+    shown_columns(tests, run, desk, root)
     examples(tests, run, desk, example)
     mistakes(tests, run, desk)
     starts(tests, run, roster, desk, example)

@@ -6,6 +6,7 @@ ghost use Rattle.clap.specs.declared.builder.command.Command.TheViews as views;
 ghost use Rattle.roster_desk_arguments.specs.Commands.{checker_app, desk_app, planner_app, shower_app};
 ghost use Rattle.roster_desk_arguments.specs.Commands.{writer_app};
 
+use crate::args::command;
 use crate::months::{carry, made_book, repair};
 use crate::planning::plan;
 use crate::telling::{assigns, chart, diff, fair, fault, limits, table, warn, why};
@@ -28,9 +29,13 @@ fn planner<'a>(alloc: Global) -> Result<Command<'a>, AllocError>
     ensures app { IfOk result (λ c. app_of c ≡ planner_app) }
     ensures local { IfOk result (λ c. (views.out-Command c).has_globals ≡ false) }
 {
-    let line = Command::new(alloc, "roster-desk")
-        .about("Helps a planner with the books of roster")
-        .subcommand_required(true);
+    let line = command(
+        alloc,
+        "roster-desk",
+        "Helps a planner with the books of roster",
+        "The script roster-desk has the command `again` too: see plan --help",
+    );
+    let line = line.subcommand_required(true);
     let line = with_command(line, plan(alloc)?)?;
     let line = with_command(line, why(alloc)?)?;
     with_command(line, limits(alloc)?)

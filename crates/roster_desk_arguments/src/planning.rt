@@ -16,7 +16,7 @@ fn effort<'a>(alloc: Global) -> Arg<'a>
     ensures rule { rule_of result ≡ usual_rule (codes "effort") 0 9 (codes "5") }
     ensures local { result.global ≡ false }
 {
-    let help = "How much is tried, from 0 to 9: each one more takes about twice as long";
+    let help = "How much is tried, from 0 to 9: more takes longer";
     number(alloc, "effort", 0, 9, "N", help).default_value("5")
 }
 
@@ -51,7 +51,12 @@ fn bounded_plan<'a>(alloc: Global) -> Result<Command<'a>, AllocError>
         "Writes a legal roster of the book, however large it is, and a bound of its cost",
         "Examples:
   roster-desk plan book.csv > plan.txt
-  roster-desk plan --effort 9 --start plan.txt --keep better.txt book.csv",
+  roster-desk plan --effort 9 --start plan.txt --keep better.txt book.csv
+  roster-desk plan --receipt plan.receipt book.csv > plan.txt
+  roster-desk again plan.receipt
+
+A receipt has what gives the bytes of the plan again, and `again` tells whether they come. The script
+roster-desk takes both.",
     );
     let plan = with(plan, book(alloc))?;
     let plan = with(plan, effort(alloc))?;
