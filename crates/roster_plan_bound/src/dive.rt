@@ -89,10 +89,7 @@ impl<'a> Dive<'a> {
         let mut known = columns.copy(alloc)?;
         known.hints.wanted = FEW_COLUMNS;
         self.left.push(k)?;
-        self.seen.push(Seen {
-            columns: known,
-            least: Err(AllocError),
-        })?;
+        self.seen.push(Seen::before(known))?;
         Ok(())
     }
 

@@ -5,6 +5,7 @@ ghost use Rattle.roster_plan_bound.specs.Looks.{AreSeen, IsSeen};
 ghost use Rattle.roster_plan_bound.specs.Reduced.{ArePrices};
 
 use crate::columns::Columns;
+use crate::parts::MOST_LEAST;
 use crate::pricing::Pricing;
 use std::alloc::{AllocError, Global};
 use std::thread::{Threads, for_each_mut};
@@ -18,18 +19,23 @@ pub(crate) struct Seen {
     pub(crate) least: Result<i64, AllocError>,
 }
 
+impl Seen {
+    /// Of a person of whom these legal sets are known, before the first look: no reduced cost is below the least one
+    /// that there may be.
+    pub(crate) fn before(columns: Columns) -> Seen {
+        Seen {
+            columns,
+            least: Ok(-(MOST_LEAST as i64)),
+        }
+    }
+}
+
 /// Of so many persons, before the first look.
 pub(crate) fn unseen(alloc: Global, count: usize) -> Result<Vec<Seen>, AllocError>
     ensures { IfOk result (λ seen. vec_len seen ≡ count) }
 {
     let mut seen = Vec::new(alloc);
-    seen.resize_with(
-        count,
-        || Seen {
-            columns: Columns::new(alloc),
-            least: Err(AllocError),
-        },
-    )?;
+    seen.resize_with(count, || Seen::before(Columns::new(alloc)))?;
     Ok(seen)
 }
 
