@@ -2,7 +2,6 @@
 
 ghost use Rattle.std.specs.Prelude.{◌≡◌, ◌≢◌, ◌↔◌, ◌≤◌, ◌⊎◌, [], IfOk, IfErr, Some, not, option_map, true};
 ghost use Rattle.std.specs.Prelude.{false};
-ghost use Rattle.std.specs.Io.KnownBytes.{Appends};
 ghost use Rattle.std.specs.IoError.{error_kind};
 ghost use Rattle.std.specs.Process.{exit_status};
 ghost use Rattle.std.specs.declared.io.ErrorKind.TheVariants.{OutOfMemory};
@@ -11,14 +10,15 @@ ghost use Rattle.clap.specs.Words as line;
 ghost use Rattle.roster_model.specs.Answer.{IsAnswer, IsRefusal, IsReport};
 ghost use Rattle.roster_values.specs.declared.command.Command as asked;
 ghost use Rattle.roster_watched.specs.Watch.{inner_of, has_failed, is_flushed};
-ghost use Rattle.roster_report.specs.Writing.{AppendsPrefix, Writes, WritesPart};
+ghost use Rattle.roster_report.specs.Writing.{TellsLine, Writes, WritesPart};
 ghost use Rattle.roster_cli_run.specs.Run.{exit_number, message_text};
 ghost use Rattle.roster_cli_arguments.specs.Line.{roster_app, command_name, spelling};
-ghost use Rattle.roster_cli.specs.Program.{OfAsked, TellsLine, no_text, texts_of};
+ghost use Rattle.roster_cli.specs.Program.{OfAsked, no_text, texts_of};
 
 use roster_cli_arguments::{LineFault, read_line};
 use roster_cli_run::{Status, run};
 use roster_combine::Gate;
+use roster_report::tell_line;
 use roster_watched::Watched;
 use std::alloc::Global;
 use std::io;
@@ -168,34 +168,4 @@ fn tell<E: Write>(text: Option<&str>, errors: &mut Watched<E>)
     if let Some(text) = text {
         tell_line(text, errors);
     }
-}
-
-/// Writes a line, if the writer takes it.
-fn tell_line<E: Write>(text: &str, errors: &mut Watched<E>)
-    requires { has_failed errors.old ≡ false }
-    ensures { TellsLine E.contents (Some text.now) errors.old errors.new }
-{
-    if !takes(text.as_bytes(), errors) {
-        return;
-    }
-    takes(b"\n", errors);
-}
-
-/// Whether the writer took the bytes; an interrupted write is a failure too.
-fn takes<E: Write>(text: &[u8], errors: &mut Watched<E>) -> bool
-    requires { has_failed errors.old ≡ false }
-    ensures taken { result ≡ true → Appends (E.contents (inner_of errors.old))
-        (E.contents (inner_of errors.new)) text.now }
-    ensures part { AppendsPrefix (E.contents (inner_of errors.old))
-        (E.contents (inner_of errors.new)) text.now }
-    ensures failed { has_failed errors.new ≡ not result }
-{
-    let mut taken = 0;
-    while taken < text.len() {
-        match errors.write(&text[taken..]) {
-            Ok(more) if more > 0 => taken += more,
-            _ => return false,
-        }
-    }
-    true
 }

@@ -3,3 +3,4 @@ pub mod PeriodText
 pub mod LineOf
 pub mod NamesOf
 pub mod OfPersons
+pub mod Told

@@ -12,6 +12,7 @@
 //! - `names`: the names of the pairings of one number
 //! - `words`: words and numbers behind one another
 //! - `fault_line`: the line of a fault, written whole
+//! - `telling`: a text or a line that a writer is told, as far as it takes it
 //! - `device`: a text that is written and flushed
 //! - `fault`: why a text was not written
 #![tactic(auto)]
@@ -25,6 +26,7 @@ mod names;
 mod plan;
 mod report;
 mod said;
+mod telling;
 mod words;
 
 pub use check::write_check;
@@ -32,3 +34,4 @@ pub use fault::TextFault;
 pub use fault_line::write_fault;
 pub use plan::write_plan;
 pub use report::write_report;
+pub use telling::{tell_line, tell_text};

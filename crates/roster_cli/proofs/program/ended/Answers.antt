@@ -1,5 +1,5 @@
 use Rattle.std.proofs.Common.{subst}
-use Rattle.roster_cli.specs.Program.{TellsLine}
+use Rattle.roster_report.specs.Writing.{TellsLine}
 use Rattle.roster_cli.proofs.program.ended.Goals as goal
 
 pub returns-clause-says : goal.returns-clause-says

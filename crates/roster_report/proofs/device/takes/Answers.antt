@@ -2,7 +2,7 @@ use Rattle.std.proofs.Common.{arith}
 use Rattle.std.proofs.lemmas.Bool.Decides.{nat_tests}
 use Rattle.std.proofs.lemmas.List.{take_rest}
 use Rattle.roster_report.proofs.Appends.{Appends-front}
-use Rattle.roster_cli.proofs.program.takes.Goals as goal
+use Rattle.roster_report.proofs.device.takes.Goals as goal
 
 pub loop-taken-preserved : goal.loop-taken-preserved
 loop-taken-preserved g c =
