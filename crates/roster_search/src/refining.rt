@@ -92,7 +92,7 @@ fn fix_by_solutions(
         let before = left_in(problem, region);
         relaxation.solve(alloc, problem, region)?;
         relaxation.look(problem, region)?;
-        if !tighten(alloc, problem, region, relaxation.prices(), most)? {
+        if !fix_by_solution(alloc, problem, region, relaxation, most)? {
             return Ok(false);
         }
         let is_smaller = left_in(problem, region) < before;
@@ -101,6 +101,24 @@ fn fix_by_solutions(
         }
     }
     Ok(true)
+}
+
+/// Leaves out of the region what costs more than it may by the prices of the last solution, if none before gave
+/// a greater bound. If it answers no, each roster costs more.
+fn fix_by_solution(
+    alloc: Global,
+    problem: &Problem,
+    region: &mut Region,
+    relaxation: &Relaxation,
+    most: i64,
+) -> Result<bool, AllocError>
+    requires { IsRegion problem.now region.old }
+    ensures { IfOk result (IsFixed problem.now most region.old region.new) }
+{
+    if !relaxation.is_best() {
+        return Ok(true);
+    }
+    tighten(alloc, problem, region, relaxation.prices(), most)
 }
 
 /// How much is left to decide in the region: lines, and whether pairings are open.

@@ -5,7 +5,7 @@ ghost use Rattle.roster_search_regions.specs.Regions.{IsIn, IsRegion};
 ghost use Rattle.roster_search_least.specs.Least.{CostsAtLeast, IsCheapestBelow};
 
 use crate::finder::Finder;
-use crate::tuning::STEP_GROWTH;
+use crate::tuning::{MOST_GAP, STEP_GROWTH, STEPS_OF_GAP};
 use roster_problem::Problem;
 use roster_search_fixing::cost_above;
 use roster_search_prices::Relaxation;
@@ -40,7 +40,7 @@ pub(crate) fn cheapest<F: Finder>(
 {
     let mut low = least;
     let mut wanted = likely.saturating_sub(1);
-    let mut step = 0;
+    let mut step: i64 = 0;
     while low < limit {
         let most = raised(low, limit, wanted);
         match finder.find(
@@ -55,7 +55,7 @@ pub(crate) fn cheapest<F: Finder>(
             Some(roster) => return Ok(Some(roster)),
             None => low = cost_above(problem, region, most),
         }
-        wanted = low.saturating_add(step);
+        wanted = low.saturating_add(step.max(part_of_gap(low, limit)));
         step = larger(step);
     }
     Ok(None)
@@ -71,6 +71,17 @@ fn raised(low: i64, high: i64, wanted: i64) -> i64
         return high - 1;
     }
     if wanted < low { low } else { wanted }
+}
+
+/// The least step between two numbers: a part of what lies between them, or none if they are so far apart that
+/// nothing is known of what is between.
+fn part_of_gap(low: i64, high: i64) -> i64 {
+    let gap = high.saturating_sub(low);
+    if gap > MOST_GAP {
+        0
+    } else {
+        gap / STEPS_OF_GAP
+    }
 }
 
 /// The next step after one.

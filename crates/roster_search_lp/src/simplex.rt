@@ -229,23 +229,26 @@ impl Simplex {
         self.inverse.duals(&self.costs, &mut self.duals);
     }
 
-    /// Goes from basis to basis, until no column costs less than is paid for it, or there were very many.
+    /// Goes from basis to basis, until no column costs less than is paid for it, or there were very many. The duals
+    /// move with each pivot; they are computed anew before the first and after the last one.
     pub(crate) fn solve(&mut self) -> Result<(), AllocError> {
         let most = self.most_pivots();
         let mut made: usize = 0;
+        self.pay();
         for _ in 0..most {
-            self.pay();
             self.choose()?;
             let more = self.enter_candidates(most.saturating_sub(made))?;
             made = made.saturating_add(more);
-            if more == 0 {
-                return Ok(());
-            }
-            if made >= most {
+            if more == 0 || made >= most {
                 break;
             }
+            if self.pivots == 0 {
+                self.pay();
+            }
         }
-        self.pay();
+        if made > 0 {
+            self.pay();
+        }
         Ok(())
     }
 
@@ -262,8 +265,11 @@ impl Simplex {
         let tolerance = self.tolerance();
         self.columns
             .cheap(&self.duals, tolerance, &mut self.candidates)?;
+        if self.candidates.len() > COLUMNS_A_ROUND {
+            self.candidates.select_nth_unstable(COLUMNS_A_ROUND);
+            self.candidates.truncate(COLUMNS_A_ROUND);
+        }
         self.candidates.sort_unstable();
-        self.candidates.truncate(COLUMNS_A_ROUND);
         Ok(())
     }
 

@@ -16,6 +16,7 @@
 //! - `program_rows`: which persons and pairings have rows in a linear program
 //! - `seeking`: lines that cost little at some prices
 //! - `relaxation`: a linear program over some lines of a region, whose dual prices are good ones
+//! - `ending`: when that is solved no more
 //! - `relaxing`: what several threads do for it, and what it says of shares
 //! - `shares`: which choice of a person to settle next, by its shares
 //! - `rounding`: rosters by prices
@@ -23,6 +24,7 @@
 
 mod ascent;
 mod branching;
+mod ending;
 mod look;
 mod looking;
 mod near;

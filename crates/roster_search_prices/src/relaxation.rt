@@ -4,6 +4,7 @@ ghost use Rattle.std.specs.Prelude.{◌<◌, length};
 ghost use Rattle.roster_search_regions.specs.Prices.{ArePrices};
 ghost use Rattle.roster_search_regions.specs.Regions.{IsRegion};
 
+use crate::ending::{grain_in_word, grain_of};
 use crate::person_lines::PersonLines;
 use crate::program_rows::{
     NO_ROW, apart_from, pairings_of, penalties_of, persons_in, put_row, rows_of,
@@ -11,8 +12,7 @@ use crate::program_rows::{
 use crate::scope::term;
 use crate::seeking::{Seeker, Sought, extra_of};
 use crate::tuning::{
-    FIRST_LINES_A_PERSON, LINES_A_PERSON, MOST_COLUMNS, MOST_ROWS, NEAR_PART_OF_UNIT,
-    NEW_PART_OF_UNIT,
+    FIRST_LINES_A_PERSON, LINES_A_PERSON, MOST_COLUMNS, MOST_ROWS, NEW_PART_OF_GRAIN,
 };
 use roster_model::limits::MOST_PAIRINGS;
 use roster_problem::Problem;
@@ -35,18 +35,19 @@ pub struct Relaxation {
     pub(crate) pairings: Vec<usize>,
     // By pairing: its row, or `NO_ROW`.
     pub(crate) rows: Vec<usize>,
-    // How many parts a cost unit has.
+    // How many parts a cost unit has, and how many lie between one cost of a roster and the next, at least.
     scale: u32,
+    pub(crate) grain: i64,
     // What pairings without a row cost, which are all open, in parts of a cost unit.
-    apart: i64,
+    pub(crate) apart: i64,
     // The dual prices of all pairings by the last solution, the bound that they give, and whether lines were new
     // that were found by them.
     pub(crate) now: DualPrices,
-    bound: i64,
-    is_new: bool,
+    pub(crate) bound: i64,
+    pub(crate) is_new: bool,
     // Those of the greatest bound since the last beginning.
     best: DualPrices,
-    best_bound: i64,
+    pub(crate) best_bound: i64,
     // By row of a person: what lines may be used, and below which value they are sought.
     allowed: Vec<Allowed>,
     pub(crate) limits: Vec<i64>,
@@ -79,12 +80,13 @@ impl Relaxation {
         let mut seekers = Vec::new(alloc);
         seekers.push(Seeker::new(alloc, problem.pairings().len())?)?;
         Ok(Relaxation {
-            master: Master::new(alloc, &idle, &penalties, region.scale())?,
+            master: Master::new(alloc, &idle, &penalties, grain_in_word(region))?,
             rows: rows_of(alloc, problem, &pairings)?,
             apart: apart_from(problem, region, &penalties),
             persons,
             pairings,
             scale: region.scale(),
+            grain: grain_of(region),
             now: DualPrices::of_penalties(alloc, problem, region)?,
             bound: i64::MIN,
             is_new: false,
@@ -106,6 +108,7 @@ impl Relaxation {
             pairings: self.pairings.clone()?,
             rows: self.rows.clone()?,
             scale: self.scale,
+            grain: self.grain,
             apart: self.apart,
             now: self.now.copy(alloc)?,
             bound: self.bound,
@@ -336,7 +339,7 @@ impl Relaxation {
     pub(crate) fn put_limits(&mut self) -> Result<(), AllocError> {
         self.limits.clear();
         for row in 0..self.persons.len() {
-            let least = i64::from(self.scale) / NEW_PART_OF_UNIT;
+            let least = self.grain / NEW_PART_OF_GRAIN;
             let limit = self.master.person_dual(row).saturating_sub(least);
             self.limits.push(limit)?;
         }
@@ -387,38 +390,4 @@ impl Relaxation {
             self.best.take(&self.now);
         }
     }
-
-    /// Whether to solve it again, after a look, for better prices. The region may have become smaller since.
-    pub fn goes_on(
-        &mut self,
-        problem: &Problem,
-        region: &Region,
-        is_smaller: bool,
-    ) -> Result<bool, AllocError>
-        requires { IsRegion problem.now region.now }
-    {
-        if is_smaller {
-            self.mark(problem, region)?;
-            return Ok(true);
-        }
-        if !self.is_new {
-            return Ok(self.master.uses_forbidden() && self.master.raise());
-        }
-        Ok(!self.is_near())
-    }
-
-    // Whether no whole cost lies between the bound and what the last solution costs.
-    fn is_near(&self) -> bool {
-        let scale = i64::from(self.scale).max(1);
-        let little = scale / NEAR_PART_OF_UNIT;
-        let cost = self.master.value().saturating_add(self.apart);
-        let cost = cost.saturating_sub(little);
-        units_up(cost, scale) <= units_up(self.best_bound, scale)
-    }
-}
-
-/// The least number of units that isn't less than so many parts.
-fn units_up(parts: i64, scale: i64) -> i64 {
-    let scale = scale.max(1);
-    (parts / scale).saturating_add(i64::from(parts % scale > 0))
 }

@@ -103,12 +103,13 @@ pub(crate) const FIRST_LINES_A_PERSON: usize = 20;
 /// So many lines of each person are added after a look, at most.
 pub(crate) const LINES_A_PERSON: usize = 6;
 
-/// A line is added if it is cheaper than its person's dual price by a part of a cost unit: one of so many.
-pub(crate) const NEW_PART_OF_UNIT: i64 = 512;
+/// A line is added if it is cheaper than its person's dual price by a part of what lies between two costs: one
+/// of so many.
+pub(crate) const NEW_PART_OF_GRAIN: i64 = 512;
 
-/// What a solution costs counts less a part of a cost unit, one of so many, in judging whether a whole cost
-/// lies between it and the bound.
-pub(crate) const NEAR_PART_OF_UNIT: i64 = 64;
+/// What a solution costs counts less a part of what lies between two costs, one of so many, in judging whether
+/// a cost lies between it and the bound.
+pub(crate) const NEAR_PART_OF_GRAIN: i64 = 64;
 
 /// With more columns than this, and 8 for each row, the dearest are left out until this and 2 for each row
 /// are left.

@@ -10,7 +10,7 @@ pub returns-then-not-branch : goal.returns-then-not-branch
 returns-then-not-branch c =
     let problem = c.args.problem.now in
     let most : ℤ = to_z w64 (of_z w64 c.args.most) in
-    let none = says_no _ _ _ c.in_ok-tighten.ensures c.if-not-branch.true in
+    let none = says_no _ _ _ c.in_ok-fix_by_solution.ensures c.if-not-branch.true in
     let more = above_part problem c.args.region.now c.loop.region most c.loop.invariant none in
     subst (IsAllAbove problem c.args.region.now) (to_z-of_z w64 c.args.most c.ranges.most) more
 
@@ -18,14 +18,14 @@ pub returns-then-not-branch-2 : goal.returns-then-not-branch-2
 returns-then-not-branch-2 c =
     let problem = c.args.problem.now in
     let most : ℤ = to_z w64 (of_z w64 c.args.most) in
-    let fixed = says_yes _ _ _ c.in_ok-tighten.ensures c.if-not-branch.false in
-    let left = narrowed_then problem (CostsAtMost problem most) c.args.region.now c.loop.region c.tighten.new.region c.loop.invariant fixed in
-    subst (λ most. IsNarrowed problem (CostsAtMost problem most) c.args.region.now c.tighten.new.region)
+    let fixed = says_yes _ _ _ c.in_ok-fix_by_solution.ensures c.if-not-branch.false in
+    let left = narrowed_then problem (CostsAtMost problem most) c.args.region.now c.loop.region c.fix_by_solution.new.region c.loop.invariant fixed in
+    subst (λ most. IsNarrowed problem (CostsAtMost problem most) c.args.region.now c.fix_by_solution.new.region)
     (to_z-of_z w64 c.args.most c.ranges.most) left
 
 pub loop-preserved : goal.loop-preserved
 loop-preserved c =
     let problem = c.args.problem.now in
     let most : ℤ = to_z w64 (of_z w64 c.args.most) in
-    let fixed = says_yes _ _ _ c.in_ok-tighten.ensures c.if-not-branch.false in
-    narrowed_then problem (CostsAtMost problem most) c.args.region.now c.loop.region c.tighten.new.region c.loop.invariant fixed
+    let fixed = says_yes _ _ _ c.in_ok-fix_by_solution.ensures c.if-not-branch.false in
+    narrowed_then problem (CostsAtMost problem most) c.args.region.now c.loop.region c.fix_by_solution.new.region c.loop.invariant fixed
