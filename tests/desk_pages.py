@@ -180,6 +180,11 @@ def mistakes(desk, tests):
                 or (not lines.get("wanted") and "nothing is wanted")
             )
         tests.told(f"fault of {records!r}", wrong)
+    # Code 11 once, with how many there are.
+    many = "period,2024-06\nbase,ZRH,UTC0\n" + "".join(f"crew,C{n},ZRH,0,0,0\n" for n in range(200))
+    found = faults(desk("fault", "-", book=many.encode()).stdout.decode())
+    is_told = len(found) == 1 and found[0][0] == "131 11" and found[0][1].get("wanted") == "128 records of crew at most; the book has 200"
+    tests.told("200 persons", not is_told and f"told are {found}")
     for book, head, line in LINES:
         found = faults(desk("fault", "-", book=book).stdout.decode())
         wrong = not found and "no fault" or (found[-1][0], found[-1][1].get("line")) != (head, line) and f"told is {found[-1]}"
@@ -338,6 +343,18 @@ LEAVES = "".join(f"crew,C{n},LHR,0,0,7\nleave,C{n},2024-06-20T00:00Z,2024-06-21T
 NIGHTS = "base,VIE,CET-1\n" + "".join(
     f"pairing,N{n},VIE,0\nduty,N{n},P,N{n},VIE,2024-06-{n + 10}T22:30Z,2024-06-{n + 11}T04:00Z\n" for n in range(8)
 )
+# Eight that are released at 22:30 in UTC, an hour before that by the clocks, and four in the night by both.
+LATE = "base,VIE,CET-1\n" + "".join(
+    f"pairing,N{n},VIE,0\nduty,N{n},P,N{n},VIE,2024-06-{n + 10}T16:00Z,2024-06-{n + 10}T22:30Z\n" for n in range(8)
+)
+LATER = "".join(f"pairing,M{n},VIE,0\nduty,M{n},P,M{n},VIE,2024-06-{n + 10}T18:00Z,2024-06-{n + 11}T00:30Z\n" for n in range(4))
+# Three persons with targets, and 1646 minutes of flight beside the 105 of the good book: of 1920 that are wanted 169 less,
+# as 105060 of 115200 are, and of 1830 only 79 less.
+FLIGHTS = "".join(f"crew,C{n},ZRH,%d,0,0\n" for n in range(3)) + "".join(
+    f"pairing,F{n},ZRH,5\nduty,F{n},P,F{n},ZRH,2024-06-{n + 20}T06:00Z,2024-06-{n + 20}T18:00Z\n"
+    f"sector,F{n},O,2024-06-{n + 20}T07:00Z,2024-06-{n + 20}T16:{8 + (n > 0):02}Z\n"
+    for n in range(3)
+)
 # Nine pairings of a morning, the last two of which have the same one.
 MORNINGS = "".join(
     f"pairing,T{n},ZRH,0\nduty,T{n},P,T{n},ZRH,2024-06-{min(n, 8) + 10}T08:00Z,2024-06-{min(n, 8) + 10}T12:00Z\n" for n in range(1, 10)
@@ -370,6 +387,10 @@ WARNINGS = [
     (GOOD + LEAVES + "crew,CARL,LHR,0,0,7\n", [("FREEMONTH", 21)]),
     (GOOD + NIGHTS, [("NIGHT", 15)]),
     (GOOD + NIGHTS.replace("CET-1", "UTC0"), []),
+    (GOOD + LATE, [("NIGHT", 15)]),
+    (GOOD + LATE.replace("CET-1", "UTC0"), []),
+    (GOOD + LATE.replace("T22:30Z", "T22:00Z", 1), []),
+    (GOOD + LATE + LATER, []),
     (GOOD + "pairing,P2,ZRH,5\nduty,D9,P,P2,ZRH,2024-06-20T06:00Z,2024-06-20T14:00Z\n" + "".join(f"sector,D9,P,2024-06-20T0{n}:00Z,2024-06-20T0{n}:50Z\n" for n in (6, 7, 8)), [("POSITIONING", 15)]),
     (GOOD.replace("LHR,2024-06-12T08:00Z", "LHR,2024-06-12T07:59Z"), [("REST", 12)]),
     (GOOD + "duty,L1,C,ANNA,zrh,2024-06-20T08:00Z,2024-06-20T12:00Z\n", [("STATION", 15)]),
@@ -379,6 +400,8 @@ WARNINGS = [
     (NO_CREW + "".join(f"crew,C{n},ZRH,0,{n},{100 * n + 7}\n" for n in range(1, 6)), [("ELEVEN", 15)]),
     (GOOD.replace("weight,2", "weight,0") + "".join(f"crew,C{n},ZRH,400,0,0\n" for n in range(4)), [("WEIGHT", 5)]),
     (GOOD.replace("BEN,ZRH,0", "BEN,ZRH,300") + "".join(f"crew,C{n},ZRH,400,0,0\n" for n in range(3)), [("SHARE", 5)]),
+    (GOOD.replace("ANNA,ZRH,300", "ANNA,ZRH,384").replace("BEN,ZRH,0", "BEN,ZRH,384") + FLIGHTS % ((384,) * 3), [("SHARE", 5)]),
+    (GOOD.replace("ANNA,ZRH,300", "ANNA,ZRH,366").replace("BEN,ZRH,0", "BEN,ZRH,366") + FLIGHTS % ((366,) * 3), []),
     (NO_CREW + "".join(f"crew,C{n},ZRH,0,0,0\n" for n in range(3)), [("HISTORY", 5)]),
     (GOOD + "duty,L1,C,BEN,ZRH,2024-06-13T20:00Z,2024-06-13T22:00Z\n", [("FIXED", 8)]),
     (GOOD + "duty,L1,C,BEN,ZRH,2024-06-14T01:00Z,2024-06-14T03:00Z\n", []),
