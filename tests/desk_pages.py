@@ -663,7 +663,29 @@ def seen_in_browser(root, desk, tests):
         words = ["--headless", "--no-sandbox", "--disable-gpu", f"--print-to-pdf={printed}", f"file://{page}"]
         subprocess.run([browser, *words], capture_output=True, check=False, timeout=120)
         tests.told("the chart printed", not os.path.exists(printed) and "nothing is printed")
+        names_in_print(root, desk, browser, folder, tests)
         opened_soon(root, desk, browser, folder, tests)
+
+
+# Gives each band a long name, and tells how many of them are cut.
+CUT = """<script>
+var cut = [].filter.call(document.querySelectorAll('.t var:not(.l)'), function (it) {
+  it.textContent = 'ZRH-JFK-2024-06-12';
+  return it.scrollHeight > it.clientHeight + 1;
+});
+document.body.lang = cut.length + ' are cut';
+</script>"""
+
+
+def names_in_print(root, desk, browser, folder, tests):
+    """Names of 18 characters are whole where the rules of print hold."""
+    text = desk("chart", f"{root}/examples/month-of-twenty.csv", f"{root}/examples/month-of-twenty-plan.txt").stdout.decode()
+    with open(f"{folder}/print.html", "w", encoding="utf-8") as file:
+        file.write(text.replace("@media print{", "@media all{").replace("</body>", CUT + "</body>"))
+    words = ["--headless", "--no-sandbox", "--disable-gpu", "--window-size=1500,1000", "--dump-dom", f"file://{folder}/print.html"]
+    shown = subprocess.run([browser, *words], capture_output=True, check=False, timeout=120).stdout.decode()
+    told = re.findall(r'<body lang="([^"]*)"', shown)
+    tests.told("names in print", text.count("<var") < 100 and "no names", told != ["0 are cut"] and f"told is {told}")
 
 
 def opened_soon(root, desk, browser, folder, tests):
