@@ -53,8 +53,8 @@ fn shows_utc(days: &BaseDays) -> bool {
     days.mid(0).get() % 1440 == 0 && days.mid(days.days()).get() % 1440 == 0
 }
 
-/// When the night of a day of the window begins and the one before it ends, by the clocks of the base: at 23:00
-/// and at 05:00.
+/// When the night of a day of the window begins, at 23:00 by the clocks of the base, and when the one before it
+/// ends, at 05:00.
 fn night_of(days: &BaseDays, minute: Minute) -> Option<(i64, i64)> {
     let day = days.day_of(minute)?;
     if day >= days.days() {
@@ -166,8 +166,8 @@ fn counts_at(alloc: Global, rows: &[Record], row: &Record) -> Result<Counts, All
     }
 }
 
-/// Why the times of the duties are likely local ones: most report at night, or far more duties touch the night
-/// than would if they were.
+/// Why the times of the duties are likely local ones: most report at night, or far more touch the night than
+/// would if they were.
 fn local_times(alloc: Global, counts: Counts) -> Result<Option<String>, AllocError> {
     let Counts {
         all,
