@@ -50,11 +50,11 @@ pub(crate) fn long_duties(alloc: Global, rows: &[Record]) -> Result<Vec<Warning>
 
 /// Whether the clocks of the base show UTC at the begin and the end of the window.
 fn shows_utc(days: &BaseDays) -> bool {
-    days.mid(0).get() % 1440 == 0 && days.mid(days.days()).get() % 1440 == 0
+    days.mid(0).get() % DAY == 0 && days.mid(days.days()).get() % DAY == 0
 }
 
-/// When the night of a day of the window begins, at 23:00 by the clocks of the base, and when the one before it
-/// ends, at 05:00.
+/// When the night of a day of the window begins, at 23:00 by the clocks of the base, and when the one before
+/// it ends, at 05:00.
 fn night_of(days: &BaseDays, minute: Minute) -> Option<(i64, i64)> {
     let day = days.day_of(minute)?;
     if day >= days.days() {
