@@ -60,6 +60,7 @@ summary{cursor:pointer}
 ul{margin:2px 0;padding-left:18px}
 @page{size:A3 landscape;margin:8mm}
 @media print{.t var{white-space:normal;overflow-wrap:anywhere;font-size:7px;line-height:6px}
+.t var:not(.l){height:24px}
 body{margin:0;font-size:10px}.say{display:none}.wide{overflow:visible}
 table{min-width:0}thead{display:table-header-group}h2{break-after:avoid}}
 ";

@@ -2,18 +2,28 @@
 
 use crate::kinds::Kind;
 use crate::rows::Record;
-use crate::seen::Seen;
+use crate::seen::{Seen, Span};
 use crate::times::span_of;
 use crate::warning::{Warning, warn};
 use roster_desk_words::time;
-use roster_instants::{BaseDays, Minute, read_minute};
+use roster_instants::{BaseDays, Minute};
 use std::alloc::{AllocError, Global};
 
 /// The minutes that a likely duty takes, at most.
 const LONGEST_DUTY: i64 = 16 * 60;
 
-/// How many reports have to be at night before it is told, at least.
+/// How many reports or duties have to be at night before it is told, at least.
 const MANY_REPORTS: usize = 8;
+
+/// Duties are told of if more than so many times as many touch the night as would if their times were local.
+const TIMES_MORE: usize = 3;
+
+/// The minutes of a day, and those of it before its night's end and begin.
+const DAY: i64 = 1440;
+
+const NIGHT_ENDS: i64 = 5 * 60;
+
+const NIGHT_BEGINS: i64 = 23 * 60;
 
 /// How many persons of a base there have to be before one of whom nothing is given is told, at least.
 const MANY_PERSONS: usize = 4;
@@ -40,20 +50,39 @@ pub(crate) fn long_duties(alloc: Global, rows: &[Record]) -> Result<Vec<Warning>
 
 /// Whether the clocks of the base show UTC at the begin and the end of the window.
 fn shows_utc(days: &BaseDays) -> bool {
-    days.mid(0).get() % 1440 == 0 && days.mid(days.days()).get() % 1440 == 0
+    days.mid(0).get() % DAY == 0 && days.mid(days.days()).get() % DAY == 0
 }
 
-/// Whether the instant lies from 23:00 to 05:00 by the clocks of the base.
-fn is_at_night(days: &BaseDays, minute: Minute) -> bool {
-    let Some(day) = days.day_of(minute) else {
-        return false;
-    };
+/// When the night of a day of the window begins, at 23:00 by the clocks of the base, and when the one before
+/// it ends, at 05:00.
+fn night_of(days: &BaseDays, minute: Minute) -> Option<(i64, i64)> {
+    let day = days.day_of(minute)?;
     if day >= days.days() {
-        return false;
+        return None;
     }
     let late = days.ten(day).get().saturating_add(60);
-    let early = days.eight(day).get().saturating_sub(180);
-    minute.get() >= late || minute.get() < early
+    Some((late, days.eight(day).get().saturating_sub(180)))
+}
+
+/// Whether a duty reports from 23:00 to 05:00 by the clocks of the base.
+fn reports_at_night(days: &BaseDays, span: &Span) -> bool {
+    night_of(days, span.from).is_some_and(|(late, early)| {
+        span.from.get() >= late || span.from.get() < early
+    })
+}
+
+/// Whether a minute of a duty lies there.
+fn touches_night(days: &BaseDays, span: &Span) -> bool {
+    night_of(days, span.from).is_some_and(|(late, early)| {
+        span.to.get() > late || span.from.get() < early
+    })
+}
+
+/// Whether a minute of a duty would lie there if its times were those of the clocks.
+fn is_written_at_night(span: &Span) -> bool {
+    let from = span.from.get() % DAY;
+    let minutes = span.to.get() - span.from.get();
+    from < NIGHT_ENDS || from.saturating_add(minutes) > NIGHT_BEGINS
 }
 
 /// The names of the base's pairings.
@@ -71,26 +100,58 @@ fn pairings_of<'a>(
     Ok(names)
 }
 
-/// How many duties the pairings have, and how many of them report at night.
-fn reports_of(rows: &[Record], pairings: &[&[u8]], days: &BaseDays) -> (usize, usize) {
-    let (mut all, mut night) = (0usize, 0usize);
-    for row in rows {
-        if !row.has(Kind::Duty, 2, b"P") {
-            continue;
+/// How many duties the pairings of a base have, and how many of these lie at night in which sense.
+#[derive(Clone, Copy)]
+struct Counts {
+    /// All.
+    all: usize,
+    /// Those that report at night.
+    reports: usize,
+    /// Those with a minute at night.
+    touching: usize,
+    /// Those that would have one if their times were local.
+    written: usize,
+}
+
+impl Counts {
+    /// No duties.
+    const NONE: Counts = Counts {
+        all: 0,
+        reports: 0,
+        touching: 0,
+        written: 0,
+    };
+
+    /// Counts one duty more.
+    fn add(&mut self, days: &BaseDays, span: &Span) {
+        self.all = self.all.saturating_add(1);
+        if reports_at_night(days, span) {
+            self.reports = self.reports.saturating_add(1);
         }
-        if pairings.iter().any(|name| *name == row.field(3)) {
-            all = all.saturating_add(1);
-            if read_minute(row.field(5)).is_some_and(|minute| is_at_night(days, minute)) {
-                night = night.saturating_add(1);
+        if touches_night(days, span) {
+            self.touching = self.touching.saturating_add(1);
+        }
+        if is_written_at_night(span) {
+            self.written = self.written.saturating_add(1);
+        }
+    }
+}
+
+/// The duties of the pairings.
+fn counts_of(rows: &[Record], pairings: &[&[u8]], days: &BaseDays) -> Counts {
+    let mut counts = Counts::NONE;
+    for row in rows {
+        if row.has(Kind::Duty, 2, b"P") && pairings.iter().any(|name| *name == row.field(3)) {
+            if let Some(span) = span_of(row) {
+                counts.add(days, &span);
             }
         }
     }
-    (all, night)
+    counts
 }
 
-/// How many duties the base's pairings have, and how many of them report at night; none if its clocks aren't
-/// known, or show UTC.
-fn reports_at(alloc: Global, rows: &[Record], row: &Record) -> Result<(usize, usize), AllocError> {
+/// The duties of the base's pairings; none if its clocks aren't known, or show UTC.
+fn counts_at(alloc: Global, rows: &[Record], row: &Record) -> Result<Counts, AllocError> {
     let seen = Seen {
         rows,
         at: rows.len(),
@@ -99,23 +160,44 @@ fn reports_at(alloc: Global, rows: &[Record], row: &Record) -> Result<(usize, us
     match seen.days_at(alloc, row.field(1))? {
         Some(days) if !shows_utc(&days) => {
             let pairings = pairings_of(alloc, rows, row.field(1))?;
-            Ok(reports_of(rows, pairings.as_slice(), &days))
+            Ok(counts_of(rows, pairings.as_slice(), &days))
         }
-        _ => Ok((0, 0)),
+        _ => Ok(Counts::NONE),
     }
 }
 
-/// Warnings of bases whose duties mostly report at night, as if their times were local.
+/// Why the times of the duties are likely local ones: most report at night, or far more touch the night than
+/// would if they were.
+fn local_times(alloc: Global, counts: Counts) -> Result<Option<String>, AllocError> {
+    let Counts {
+        all,
+        reports,
+        touching,
+        written,
+    } = counts;
+    if all >= MANY_REPORTS && reports > all / 2 {
+        let why = format!(in alloc;
+            "{reports} of {all} duties of its pairings report from 23:00 to 05:00 by its clocks; \
+             local times may stand for UTC"
+        )?;
+        return Ok(Some(why));
+    }
+    if touching >= MANY_REPORTS && touching > written.saturating_mul(TIMES_MORE) {
+        let why = format!(in alloc;
+            "{touching} of {all} duties of its pairings touch 23:00 to 05:00 by its clocks, and {written} \
+             would if their times were local; local times may stand for UTC"
+        )?;
+        return Ok(Some(why));
+    }
+    Ok(None)
+}
+
+/// Warnings of bases whose duties lie at night as if their times were local.
 pub(crate) fn nights(alloc: Global, rows: &[Record]) -> Result<Vec<Warning>, AllocError> {
     let mut warnings = Vec::new(alloc);
     for (at, row) in rows.iter().enumerate() {
         if row.is(Kind::Base) {
-            let (all, night) = reports_at(alloc, rows, row)?;
-            if all >= MANY_REPORTS && night > all / 2 {
-                let why = format!(in alloc;
-                    "{night} of {all} duties of its pairings report from 23:00 to 05:00 by its clocks; \
-                     local times may stand for UTC"
-                )?;
+            if let Some(why) = local_times(alloc, counts_at(alloc, rows, row)?)? {
                 warn(&mut warnings, alloc, at, why.as_str())?;
             }
         }

@@ -20,7 +20,7 @@ const FEW_HOURS: i64 = 200;
 
 /// Targets and what there is to fly are told if they differ by more than one part of so many of the
 /// greater one.
-const PARTS: i64 = 10;
+const PARTS: i64 = 20;
 
 /// The sum of a number in a field over all records of the kind.
 fn sum_of(rows: &[Record], kind: Kind, i: usize) -> i64 {
