@@ -14,8 +14,7 @@ impl Relaxation {
         self.bound >= self.best_bound
     }
 
-    /// Whether to solve it again, after a look, for better prices. The region may have become smaller since; if
-    /// the last solution uses only what is left, it is one of the smaller region too.
+    /// Whether to solve it again, after a look, for better prices. The region may have become smaller since.
     pub fn goes_on(
         &mut self,
         problem: &Problem,
@@ -26,9 +25,7 @@ impl Relaxation {
     {
         if is_smaller {
             self.mark(problem, region)?;
-            if self.master.uses_forbidden() {
-                return Ok(true);
-            }
+            return Ok(true);
         }
         if !self.is_new {
             return Ok(self.master.uses_forbidden() && self.master.raise());
