@@ -1,3 +1,2 @@
 mod Reading
 mod Reports
-mod Told

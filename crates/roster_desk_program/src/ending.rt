@@ -40,7 +40,7 @@ pub enum Ending<'a> {
     InputUnread,
     /// The writer failed: it took the first bytes, none or perhaps all.
     Unwritten,
-    /// The file that keeps the plan couldn't be written. What was found was written, if memory was there for it.
+    /// The file that keeps the plan couldn't be written. What was found was written, if memory was there.
     Unkept,
 }
 

@@ -1,13 +1,12 @@
 //! What standard error is told.
 
-ghost use Rattle.std.specs.Prelude.{◌≡◌, ◌≤◌, ◌++◌, ◌∷◌, [], Some, codes, not, true, false};
-ghost use Rattle.std.specs.Io.KnownBytes.{Appends};
-ghost use Rattle.roster_watched.specs.Watch.{inner_of, has_failed};
-ghost use Rattle.roster_report.specs.Writing.{AppendsPrefix};
+ghost use Rattle.std.specs.Prelude.{◌≡◌, ◌++◌, ◌∷◌, [], Some, codes};
+ghost use Rattle.roster_report.specs.Writing.{TellsLine};
 ghost use Rattle.roster_desk_program.specs.Ending.{named_text};
-ghost use Rattle.roster_desk_program.specs.Program.{TellsEnding, TellsLine, TellsText};
+ghost use Rattle.roster_desk_program.specs.Program.{TellsEnding};
 
 use crate::ending::Ending;
+use roster_report::{tell_line, tell_text};
 use roster_watched::Watched;
 use std::io::Write;
 
@@ -35,41 +34,4 @@ fn tell_named<E: Write>(path: &str, wrong: &str, errors: &mut Watched<E>)
     tell_text("error: ", errors);
     tell_text(path, errors);
     tell_line(wrong, errors);
-}
-
-/// Tells a text as a line.
-fn tell_line<E: Write>(text: &str, errors: &mut Watched<E>)
-    ensures { TellsLine E.contents (Some text.now) errors.old errors.new }
-{
-    tell_text(text, errors);
-    tell_text("\n", errors);
-}
-
-/// Tells a text, if the writer hasn't failed.
-fn tell_text<E: Write>(text: &str, errors: &mut Watched<E>)
-    ensures { TellsText E.contents text.now errors.old errors.new }
-{
-    if errors.failed() {
-        return;
-    }
-    takes(text.as_bytes(), errors);
-}
-
-/// Whether the writer took the bytes; an interrupted write is a failure too.
-fn takes<E: Write>(text: &[u8], errors: &mut Watched<E>) -> bool
-    requires { has_failed errors.old ≡ false }
-    ensures taken { result ≡ true → Appends (E.contents (inner_of errors.old))
-        (E.contents (inner_of errors.new)) text.now }
-    ensures part { AppendsPrefix (E.contents (inner_of errors.old))
-        (E.contents (inner_of errors.new)) text.now }
-    ensures failed { has_failed errors.new ≡ not result }
-{
-    let mut taken = 0;
-    while taken < text.len() {
-        match errors.write(&text[taken..]) {
-            Ok(more) if more > 0 => taken += more,
-            _ => return false,
-        }
-    }
-    true
 }

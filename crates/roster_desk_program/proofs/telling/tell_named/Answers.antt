@@ -1,6 +1,6 @@
 use Rattle.std.proofs.Common.{◌++◌, ◌∷◌, [], codes, append_assoc, sym, subst}
-use Rattle.roster_desk_program.specs.Program.{TellsText}
-use Rattle.roster_desk_program.proofs.Told.{tells_both}
+use Rattle.roster_report.specs.Writing.{TellsText}
+use Rattle.roster_report.proofs.Told.{tells_both}
 use Rattle.roster_desk_program.proofs.telling.tell_named.Goals as goal
 
 pub returns : goal.returns
