@@ -27,11 +27,11 @@ const SEED: u64 = 20_240_301;
 /// How many changes a run tries at effort 0. Each effort more adds as many.
 const FEWEST_TRIES: u32 = 80_000;
 
-/// A run of changes, and the places that it came to.
+/// A run of changes, and the places that it came to once it is done.
 #[derive(Drop)]
 struct Run {
     chances: Chances,
-    found: Result<Vec<u16>, AllocError>,
+    found: Option<Result<Vec<u16>, AllocError>>,
 }
 
 /// The month with what is new of the rosters that runs of changes come to, in bases whose best roster isn't
@@ -96,7 +96,7 @@ fn roster_of(problem: &Problem, run: Run) -> Result<Roster, AllocError>
     requires { IsDone problem.now run }
     ensures { IfOk result (IsHeld problem.now) }
 {
-    let places = run.found?;
+    let places = run.found.unwrap()?;
     Ok(costed(problem, places))
 }
 
@@ -110,7 +110,7 @@ fn runs_ahead(alloc: Global, effort: u32) -> Result<Vec<Run>, AllocError> {
                 seed: first.wrapping_add(i),
                 cold: 2 * (i as u32),
             },
-            found: Err(AllocError),
+            found: None,
         })?;
     }
     Ok(runs)
@@ -136,7 +136,8 @@ fn run_all<R: Threads + Sync>(
     {
         let places = places_of(before);
         let tries = tries_of(means.effort);
-        run.found = improved_by_changes(alloc, problem, places, sought, tries, run.chances);
+        let found = improved_by_changes(alloc, problem, places, sought, tries, run.chances);
+        run.found = Some(found);
     };
     for_each_mut(rt, runs, means.workers, &run);
 }

@@ -4,7 +4,8 @@ ghost use Rattle.std.specs.Prelude.{◌≡◌, ◌<◌, ◌≤◌, true, All, If
 ghost use Rattle.roster_lines.specs.Listing.{AreAllPairs};
 ghost use Rattle.roster_model.specs.Rosters.{key_le};
 ghost use Rattle.roster_model.specs.Settled.{IsHeld};
-ghost use Rattle.roster_plan.specs.Attempts.{AreMade, IsMade};
+ghost use Rattle.roster_plan.specs.Attempts.{AreMade, AreSought, IsMade, IsSought};
+ghost use Rattle.roster_plan.specs.Near.{IsFoundNear};
 ghost use Rattle.roster_plan.specs.Months.{IsMonth, IsMonthFrom};
 ghost use Rattle.roster_plan.specs.Planned.{IsKnown, IsPlannedFrom};
 
@@ -34,11 +35,11 @@ const ROUNDS: u32 = 20;
 /// How many lines nodes may have to look at in the search of a neighbourhood.
 const WORK_NEARBY: u64 = 1 << 17;
 
-/// A neighbourhood of a roster, and what its search came to.
+/// A neighbourhood of a roster, and what its search came to once it is done.
 #[derive(Drop)]
 struct Attempt {
     of: Neighbourhood,
-    found: Result<Nearby, AllocError>,
+    found: Option<Result<Nearby, AllocError>>,
 }
 
 /// The month with what is new of the rosters that searches of some neighbourhoods come to, in bases whose best
@@ -106,10 +107,7 @@ fn attempts_at(
     let mut attempts = Vec::new(alloc);
     for _ in 0..SEARCHES_AT_ONCE {
         let of = neighbourhoods.next(alloc, problem, places_of(before))?;
-        attempts.push(Attempt {
-            of,
-            found: Err(AllocError),
-        })?;
+        attempts.push(Attempt { of, found: None })?;
     }
     Ok(attempts)
 }
@@ -128,12 +126,15 @@ fn try_all<R: Threads + Sync>(
     requires held { IsHeld problem.now before.now }
     requires workers { 0 < means.now.workers }
     requires attempts { AreMade problem.now attempts.old }
+    ensures { AreSought problem.now before.now attempts.new }
 {
     let search = |_: usize, attempt: &mut Attempt|
         requires { AreAllPairs problem.now pairs.now × IsHeld problem.now before.now
             × IsMade problem.now attempt.old }
+        ensures { IsSought problem.entry.now before.entry.now attempt.new }
     {
-        attempt.found = found_in(alloc, problem, pairs, before, means, &attempt.of);
+        let found = found_in(alloc, problem, pairs, before, means, &attempt.of);
+        attempt.found = Some(found);
     };
     for_each_mut(rt, attempts, means.workers, &search);
 }
@@ -150,6 +151,7 @@ fn found_in(
     requires pairs { AreAllPairs problem.now pairs.now }
     requires held { IsHeld problem.now before.now }
     requires covers { length of.now.wanted.items ≡ length problem.now.persons }
+    ensures { IfOk result (IsFoundNear problem.now before.now of.now.wanted.items) }
 {
     let known = before.copy(alloc)?;
     search_nearby(
@@ -173,14 +175,15 @@ fn taken<W: Watcher>(
     neighbourhoods: &mut Neighbourhoods,
     watcher: &mut W,
 ) -> Result<Planned, AllocError>
-    requires { IsKnown problem.now start }
+    requires known { IsKnown problem.now start }
+    requires attempts { AreSought problem.now before.now attempts.items }
     ensures { IfOk result (IsPlannedFrom problem.now start.roster) }
 {
     keys_are_in_order();
     let mut planned = start;
     for attempt in attempts {
         let Attempt { of, found } = attempt;
-        let nearby = found?;
+        let nearby = found.unwrap()?;
         neighbourhoods.tell(&of, nearby.is_settled);
         planned = with_new(alloc, problem, before, &nearby, planned, watcher)?;
     }
