@@ -6,3 +6,4 @@ mod ExactLemmas
 mod NearLemmas
 mod PlannedLemmas
 mod MonthLemmas
+mod GapLemmas

@@ -5,6 +5,7 @@ pub mod Near
 pub mod Planned
 pub mod Attempts
 pub mod Parts
+pub mod Lent
 pub mod Months
 pub mod Bases
 pub mod Runs

@@ -3,27 +3,29 @@
 
 ghost use Rattle.std.specs.Prelude.{◌<◌, IfOk};
 ghost use Rattle.std.specs.Thread.{IsSync};
-ghost use Rattle.roster_lines.specs.Listing.{AreAllPairs};
+ghost use Rattle.roster_model.specs.Problem.{Problem};
 ghost use Rattle.roster_plan.specs.Bases.{AreGaps, IsGap};
+ghost use Rattle.roster_plan.specs.Lent.{IsLent};
 ghost use Rattle.roster_plan.specs.Months.{IsMonth, IsMonthFrom};
 ghost use Rattle.roster_plan.specs.Parts.{AreParts};
 
 use crate::dives::improved_by_dives;
 use crate::exact::{Found, close};
+use crate::lent::Lent;
 use crate::means::{MOST_EFFORT, Means};
 use crate::months::Month;
 use crate::parts::{BasePlan, is_open};
 use crate::watching::{Phase, Watcher};
 use roster_bases::{count_of_pairings, count_of_persons};
 use roster_cost::keys_are_in_order;
-use roster_lines::Pairs;
 use roster_model::limits::MOST_BASES;
 use roster_plan_bound::{PricedBound, Pricing};
+use roster_plan_moves::Neighbourhoods;
 use roster_problem::Problem;
 use std::alloc::{AllocError, Global};
 use std::thread::{Threads, for_each_mut};
 
-/// How often prices of a base are looked at, at most, at effort 0, and how often more with each effort more.
+/// How often prices of a base are looked at, at most, at effort 0, and how often more at each effort more.
 const FEWEST_LOOKS: u32 = 8;
 
 const LOOKS_AN_EFFORT: u32 = 12;
@@ -41,32 +43,122 @@ pub(crate) struct Gap<'a> {
     pub(crate) found: Result<Found, AllocError>,
 }
 
-/// The month with greater bounds of its bases, if prices give them, and with their best rosters, if those are
-/// found.
-pub(crate) fn bounded<R: Threads + Sync, W: Watcher>(
+/// The bases whose best roster isn't known, if prices were looked at, and how often they were.
+#[derive(Drop)]
+pub(crate) struct Bounds<'a> {
+    pub(crate) gaps: Vec<Gap<'a>>,
+    looks: u32,
+}
+
+impl<'a> Bounds<'a> {
+    /// Before the first look.
+    pub(crate) fn none(alloc: Global) -> Bounds<'a>
+        ensures { (problem : Problem) → AreGaps problem result.gaps.items }
+    {
+        Bounds {
+            gaps: Vec::new(alloc),
+            looks: 0,
+        }
+    }
+}
+
+/// The month with greater bounds of its bases, if prices give them, with rosters of columns, and with the best
+/// rosters of bases, if those are found. The looks of an effort go on from those that there were before.
+pub(crate) fn bounded<'a, R: Threads + Sync, W: Watcher>(
     rt: &R,
-    alloc: Global,
-    problem: &Problem,
-    pairs: &[Pairs],
+    lent: &Lent<'a>,
     start: Month,
     means: &Means,
+    neighbourhoods: &mut Neighbourhoods,
+    bounds: &mut Bounds<'a>,
     watcher: &mut W,
 ) -> Result<Month, AllocError>
-    requires pairs { AreAllPairs problem.now pairs.now }
-    requires month { IsMonth problem.now start }
+    requires lent { IsLent lent.now }
+    requires month { IsMonth lent.now.problem.now start }
     requires workers { 0 < means.now.workers }
-    ensures { IfOk result (IsMonthFrom problem.now start.planned.roster) }
+    requires bounds { AreGaps lent.now.problem.now bounds.old.gaps.items }
+    ensures month { IfOk result (IsMonthFrom lent.now.problem.now start.planned.roster) }
+    ensures bounds { IfOk result (λ done. AreGaps lent.now.problem.now bounds.new.gaps.items) }
 {
     keys_are_in_order();
-    let looks = looks_of(problem, &start.parts, means);
-    if looks == 0 {
-        return Ok(start);
-    }
-    let pricing = Pricing::new(alloc, problem, pairs)?;
-    let mut gaps = gaps_of(rt, alloc, problem, &pricing, &start.parts, means.workers)?;
-    let month = explored(rt, alloc, problem, start, looks, means, &mut gaps, watcher)?;
-    let month = closed(alloc, problem, month, gaps, watcher)?;
+    let looks = looks_of(lent.problem, &start.parts, means);
+    renew(rt, lent, &start.parts, means.workers, looks, bounds)?;
+    let ahead = looks.saturating_sub(bounds.looks);
+    bounds.looks = bounds.looks.max(looks);
+    let month = raised(
+        rt,
+        lent,
+        start,
+        ahead,
+        means.workers,
+        &mut bounds.gaps,
+        watcher,
+    )?;
+    let month = improved_by_dives(
+        rt,
+        lent,
+        month,
+        means,
+        neighbourhoods,
+        &bounds.gaps,
+        watcher,
+    )?;
+    close_all(rt, lent, &month.parts, means, &mut bounds.gaps);
+    let month = closed(lent, month, &bounds.gaps, watcher)?;
     Ok(month)
+}
+
+/// Passes over bases whose best roster is known, and tells the others what their rosters cost now. They have their
+/// first look if there is to be one and there was none.
+fn renew<'a, R: Threads + Sync>(
+    rt: &R,
+    lent: &Lent<'a>,
+    parts: &[BasePlan],
+    workers: usize,
+    looks: u32,
+    bounds: &mut Bounds<'a>,
+) -> Result<(), AllocError>
+    requires lent { IsLent lent.now }
+    requires parts { AreParts lent.now.problem.now parts.now }
+    requires workers { 0 < workers }
+    requires bounds { AreGaps lent.now.problem.now bounds.old.gaps.items }
+    ensures { IfOk result (λ done. AreGaps lent.now.problem.now bounds.new.gaps.items) }
+{
+    begin(rt, lent, parts, workers, looks, bounds)?;
+    pass_over(parts, &mut bounds.gaps);
+    renew_costs(parts, &mut bounds.gaps);
+    Ok(())
+}
+
+/// Looks at first prices of the bases whose best roster isn't known, if there are to be looks and there were none.
+fn begin<'a, R: Threads + Sync>(
+    rt: &R,
+    lent: &Lent<'a>,
+    parts: &[BasePlan],
+    workers: usize,
+    looks: u32,
+    bounds: &mut Bounds<'a>,
+) -> Result<(), AllocError>
+    requires lent { IsLent lent.now }
+    requires parts { AreParts lent.now.problem.now parts.now }
+    requires workers { 0 < workers }
+    requires bounds { AreGaps lent.now.problem.now bounds.old.gaps.items }
+    ensures { IfOk result (λ done. AreGaps lent.now.problem.now bounds.new.gaps.items) }
+{
+    if looks == 0 || bounds.looks > 0 {
+        return Ok(());
+    }
+    let gaps = gaps_of(rt, lent.alloc, lent.problem, lent.pricing, parts, workers)?;
+    bounds.gaps = gaps;
+    bounds.looks = 1;
+    Ok(())
+}
+
+/// Passes over bases whose best roster is known.
+fn pass_over(parts: &[BasePlan], gaps: &mut Vec<Gap<'_>>)
+    ensures { (problem : Problem) → AreGaps problem gaps.old.items → AreGaps problem gaps.new.items }
+{
+    gaps.retain(|gap| is_open(parts, gap.base));
 }
 
 /// The bases whose best roster isn't known, with what the first prices say of each.
@@ -100,35 +192,30 @@ fn gaps_of<'a, R: Threads + Sync>(
     Ok(gaps)
 }
 
-/// The month with greater bounds of its bases, if so many looks at prices of each give them. Then the gaps
-/// are searched.
-fn explored<R: Threads + Sync, W: Watcher>(
+/// The month with greater bounds of its bases, if so many looks more at prices of each give them.
+fn raised<R: Threads + Sync, W: Watcher>(
     rt: &R,
-    alloc: Global,
-    problem: &Problem,
+    lent: &Lent<'_>,
     start: Month,
-    looks: u32,
-    means: &Means,
+    ahead: u32,
+    workers: usize,
     gaps: &mut [Gap<'_>],
     watcher: &mut W,
 ) -> Result<Month, AllocError>
-    requires month { IsMonth problem.now start }
-    requires workers { 0 < means.now.workers }
-    requires gaps { AreGaps problem.now gaps.old }
-    ensures month { IfOk result (IsMonthFrom problem.now start.planned.roster) }
-    ensures gaps { AreGaps problem.now gaps.new }
+    requires month { IsMonth lent.now.problem.now start }
+    requires workers { 0 < workers }
+    requires gaps { AreGaps lent.now.problem.now gaps.old }
+    ensures month { IfOk result (IsMonthFrom lent.now.problem.now start.planned.roster) }
+    ensures gaps { AreGaps lent.now.problem.now gaps.new }
 {
-    // The first look was that of a new bound, at its first prices.
-    let mut month = with_bounds(alloc, problem, start, gaps, watcher)?;
-    for _ in 1..looks {
-        look_all(rt, alloc, problem, means.workers, false, gaps);
-        month = with_bounds(alloc, problem, month, gaps, watcher)?;
+    // The first look was that of new bounds, at their first prices.
+    let mut month = with_bounds(lent, start, gaps, watcher)?;
+    for _ in 0..ahead {
+        look_all(rt, lent, workers, false, gaps);
+        month = with_bounds(lent, month, gaps, watcher)?;
     }
-    look_all(rt, alloc, problem, means.workers, true, gaps);
-    month = with_bounds(alloc, problem, month, gaps, watcher)?;
-    month = improved_by_dives(rt, alloc, problem, month, means, gaps, watcher)?;
-    renew_costs(&month.parts, gaps);
-    close_all(rt, alloc, problem, means, gaps);
+    look_all(rt, lent, workers, true, gaps);
+    let month = with_bounds(lent, month, gaps, watcher)?;
     Ok(month)
 }
 
@@ -146,16 +233,16 @@ fn renew_costs(parts: &[BasePlan], gaps: &mut [Gap<'_>])
 /// Looks at other prices of each base, or, in the end, shows what looks claim.
 fn look_all<R: Threads + Sync>(
     rt: &R,
-    alloc: Global,
-    problem: &Problem,
+    lent: &Lent<'_>,
     workers: usize,
     is_end: bool,
     gaps: &mut [Gap<'_>],
 )
     requires workers { 0 < workers }
-    requires gaps { AreGaps problem.now gaps.old }
-    ensures { AreGaps problem.now gaps.new }
+    requires gaps { AreGaps lent.now.problem.now gaps.old }
+    ensures { AreGaps lent.now.problem.now gaps.new }
 {
+    let (alloc, problem) = (lent.alloc, lent.problem);
     let (threads, each) = shares(workers, gaps);
     let look = |_: usize, gap: &mut Gap<'_>|
         requires { IsSync R.row × IsGap problem.now gap.old × (0 < each) }
@@ -216,17 +303,17 @@ fn look_on<R: Threads + Sync>(
 
 /// The month with what prices say of its bases, where that is more.
 fn with_bounds<W: Watcher>(
-    alloc: Global,
-    problem: &Problem,
+    lent: &Lent<'_>,
     start: Month,
     gaps: &[Gap<'_>],
     watcher: &mut W,
 ) -> Result<Month, AllocError>
-    requires month { IsMonth problem.now start }
-    requires gaps { AreGaps problem.now gaps.now }
-    ensures { IfOk result (IsMonthFrom problem.now start.planned.roster) }
+    requires month { IsMonth lent.now.problem.now start }
+    requires gaps { AreGaps lent.now.problem.now gaps.now }
+    ensures { IfOk result (IsMonthFrom lent.now.problem.now start.planned.roster) }
 {
     keys_are_in_order();
+    let (alloc, problem) = (lent.alloc, lent.problem);
     let mut month = start;
     for gap in gaps {
         if gap.raised.is_err() {
@@ -238,18 +325,20 @@ fn with_bounds<W: Watcher>(
     Ok(month)
 }
 
-/// Searches the gaps of the bases, which the workers share.
+/// Searches the gaps of the bases, which the workers share, with what their rosters cost now.
 fn close_all<R: Threads + Sync>(
     rt: &R,
-    alloc: Global,
-    problem: &Problem,
+    lent: &Lent<'_>,
+    parts: &[BasePlan],
     means: &Means,
     gaps: &mut [Gap<'_>],
 )
     requires workers { 0 < means.now.workers }
-    requires gaps { AreGaps problem.now gaps.old }
-    ensures { AreGaps problem.now gaps.new }
+    requires gaps { AreGaps lent.now.problem.now gaps.old }
+    ensures { AreGaps lent.now.problem.now gaps.new }
 {
+    renew_costs(parts, gaps);
+    let (alloc, problem) = (lent.alloc, lent.problem);
     let work = means.work() / (gaps.len() as u64).max(1);
     let search = |_: usize, gap: &mut Gap<'_>|
         requires { IsGap problem.now gap.old }
@@ -263,28 +352,29 @@ fn close_all<R: Threads + Sync>(
 
 /// The month with what was found of each base.
 fn closed<W: Watcher>(
-    alloc: Global,
-    problem: &Problem,
+    lent: &Lent<'_>,
     start: Month,
-    gaps: Vec<Gap<'_>>,
+    gaps: &[Gap<'_>],
     watcher: &mut W,
 ) -> Result<Month, AllocError>
-    requires month { IsMonth problem.now start }
-    requires gaps { AreGaps problem.now gaps.items }
-    ensures { IfOk result (IsMonthFrom problem.now start.planned.roster) }
+    requires month { IsMonth lent.now.problem.now start }
+    requires gaps { AreGaps lent.now.problem.now gaps.now }
+    ensures { IfOk result (IsMonthFrom lent.now.problem.now start.planned.roster) }
 {
     keys_are_in_order();
+    let (alloc, problem) = (lent.alloc, lent.problem);
     let mut month = start;
     for gap in gaps {
-        let Gap { base, found, .. } = gap;
-        let found = found?;
-        month = month.with_found(alloc, problem, base, &found, Phase::Gap, watcher)?;
+        let Ok(found) = &gap.found else {
+            return Err(AllocError);
+        };
+        month = month.with_found(alloc, problem, gap.base, found, Phase::Gap, watcher)?;
     }
     Ok(month)
 }
 
-/// How often an effort looks at the prices of each base that isn't settled: more often the greater it is, if
-/// there is time for so many pairs.
+/// How often an effort and those before it look at the prices of each base that isn't settled: more often the greater
+/// it is, if there is time for so many pairs.
 fn looks_of(problem: &Problem, parts: &[BasePlan], means: &Means) -> u32 {
     let effort = if means.effort < MOST_EFFORT {
         means.effort

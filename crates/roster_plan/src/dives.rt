@@ -10,9 +10,10 @@ ghost use Rattle.roster_plan.specs.Months.{IsMonth, IsMonthFrom};
 use crate::apart::Gap;
 use crate::kept::kept;
 use crate::known::{costed, places_of};
+use crate::lent::Lent;
 use crate::means::Means;
 use crate::months::Month;
-use crate::together::{joined, neighbourhoods_of};
+use crate::together::joined;
 use crate::watching::{Phase, Watcher};
 use roster_bases::{all_open, is_person_of};
 use roster_cost::keys_are_in_order;
@@ -56,46 +57,45 @@ pub(crate) struct Tried {
 /// The month with what dives find, in the bases whose prices these are. The workers share them.
 pub(crate) fn improved_by_dives<R: Threads + Sync, W: Watcher>(
     rt: &R,
-    alloc: Global,
-    problem: &Problem,
+    lent: &Lent<'_>,
     start: Month,
     means: &Means,
+    neighbourhoods: &mut Neighbourhoods,
     gaps: &[Gap<'_>],
     watcher: &mut W,
 ) -> Result<Month, AllocError>
-    requires month { IsMonth problem.now start }
+    requires month { IsMonth lent.now.problem.now start }
     requires workers { 0 < means.now.workers }
-    requires gaps { AreGaps problem.now gaps.now }
-    ensures { IfOk result (IsMonthFrom problem.now start.planned.roster) }
+    requires gaps { AreGaps lent.now.problem.now gaps.now }
+    ensures { IfOk result (IsMonthFrom lent.now.problem.now start.planned.roster) }
 {
     keys_are_in_order();
-    if means.effort < LEAST_EFFORT {
+    if means.effort < LEAST_EFFORT || gaps.is_empty() {
         return Ok(start);
     }
-    let dived = of_bases(rt, alloc, problem, start, means, gaps, watcher)?;
-    let month = of_groups(rt, alloc, problem, dived, means, gaps, watcher)?;
+    let dived = of_bases(rt, lent, start, means, gaps, watcher)?;
+    let month = of_groups(rt, lent, dived, means, neighbourhoods, gaps, watcher)?;
     Ok(month)
 }
 
 /// The month with what dives of each of these bases find.
 fn of_bases<R: Threads + Sync, W: Watcher>(
     rt: &R,
-    alloc: Global,
-    problem: &Problem,
+    lent: &Lent<'_>,
     start: Month,
     means: &Means,
     gaps: &[Gap<'_>],
     watcher: &mut W,
 ) -> Result<Month, AllocError>
-    requires month { IsMonth problem.now start }
+    requires month { IsMonth lent.now.problem.now start }
     requires workers { 0 < means.now.workers }
-    requires gaps { AreGaps problem.now gaps.now }
-    ensures { IfOk result (IsMonthFrom problem.now start.planned.roster) }
+    requires gaps { AreGaps lent.now.problem.now gaps.now }
+    ensures { IfOk result (IsMonthFrom lent.now.problem.now start.planned.roster) }
 {
     keys_are_in_order();
     let mut month = start;
     for gap in gaps {
-        month = of_base(rt, alloc, problem, month, means, &gap.priced, watcher)?;
+        month = of_base(rt, lent, month, means, &gap.priced, watcher)?;
     }
     Ok(month)
 }
@@ -103,35 +103,33 @@ fn of_bases<R: Threads + Sync, W: Watcher>(
 /// The month with what dives of a few persons at a time find, until they find nothing for long.
 fn of_groups<R: Threads + Sync, W: Watcher>(
     rt: &R,
-    alloc: Global,
-    problem: &Problem,
+    lent: &Lent<'_>,
     start: Month,
     means: &Means,
+    neighbourhoods: &mut Neighbourhoods,
     gaps: &[Gap<'_>],
     watcher: &mut W,
 ) -> Result<Month, AllocError>
-    requires month { IsMonth problem.now start }
+    requires month { IsMonth lent.now.problem.now start }
     requires workers { 0 < means.now.workers }
-    requires gaps { AreGaps problem.now gaps.now }
-    ensures { IfOk result (IsMonthFrom problem.now start.planned.roster) }
+    requires gaps { AreGaps lent.now.problem.now gaps.now }
+    ensures { IfOk result (IsMonthFrom lent.now.problem.now start.planned.roster) }
 {
     keys_are_in_order();
-    let mut neighbourhoods = neighbourhoods_of(alloc, problem, &start)?;
     let mut month = start;
     let mut idle: u32 = 0;
-    for _ in 0..means.effort.saturating_mul(ROUNDS_AN_EFFORT) {
+    for _ in 0..rounds_of(means.effort) {
         if idle >= IDLE_ROUNDS {
             break;
         }
         let cost = month.planned.roster.cost;
         month = of_few(
             rt,
-            alloc,
-            problem,
+            lent,
             month,
-            means,
+            means.workers,
+            neighbourhoods,
             gaps,
-            &mut neighbourhoods,
             watcher,
         )?;
         idle = if month.planned.roster.cost < cost {
@@ -143,22 +141,30 @@ fn of_groups<R: Threads + Sync, W: Watcher>(
     Ok(month)
 }
 
+/// How often an effort has so many dives of a few persons: the first one as often as it and all before it.
+fn rounds_of(effort: u32) -> u32 {
+    if effort > LEAST_EFFORT {
+        return ROUNDS_AN_EFFORT;
+    }
+    ROUNDS_AN_EFFORT * LEAST_EFFORT
+}
+
 /// The month with what dives of a base find.
 fn of_base<R: Threads + Sync, W: Watcher>(
     rt: &R,
-    alloc: Global,
-    problem: &Problem,
+    lent: &Lent<'_>,
     start: Month,
     means: &Means,
     priced: &PricedBound<'_>,
     watcher: &mut W,
 ) -> Result<Month, AllocError>
-    requires month { IsMonth problem.now start }
+    requires month { IsMonth lent.now.problem.now start }
     requires workers { 0 < means.now.workers }
-    requires priced { priced.now.problem ≡ problem.now }
-    ensures { IfOk result (IsMonthFrom problem.now start.planned.roster) }
+    requires priced { priced.now.problem ≡ lent.now.problem.now }
+    ensures { IfOk result (IsMonthFrom lent.now.problem.now start.planned.roster) }
 {
     keys_are_in_order();
+    let (alloc, problem) = (lent.alloc, lent.problem);
     let open = all_open(alloc, problem)?;
     let all = vec![in alloc; true; problem.persons().len()]?;
     let mut month = start;
@@ -197,23 +203,23 @@ fn found_by<R: Threads + Sync>(
 /// The month with what some dives of a few persons find, each from the same roster.
 fn of_few<R: Threads + Sync, W: Watcher>(
     rt: &R,
-    alloc: Global,
-    problem: &Problem,
+    lent: &Lent<'_>,
     start: Month,
-    means: &Means,
-    gaps: &[Gap<'_>],
+    workers: usize,
     neighbourhoods: &mut Neighbourhoods,
+    gaps: &[Gap<'_>],
     watcher: &mut W,
 ) -> Result<Month, AllocError>
-    requires month { IsMonth problem.now start }
-    requires workers { 0 < means.now.workers }
-    requires gaps { AreGaps problem.now gaps.now }
-    ensures { IfOk result (IsMonthFrom problem.now start.planned.roster) }
+    requires month { IsMonth lent.now.problem.now start }
+    requires workers { 0 < workers }
+    requires gaps { AreGaps lent.now.problem.now gaps.now }
+    ensures { IfOk result (IsMonthFrom lent.now.problem.now start.planned.roster) }
 {
     keys_are_in_order();
+    let (alloc, problem) = (lent.alloc, lent.problem);
     let before = start.planned.roster.copy(alloc)?;
-    let mut all = tried_of(alloc, problem, neighbourhoods)?;
-    try_all(rt, alloc, problem, &before, means.workers, gaps, &mut all);
+    let mut all = tried_of(lent, &before, neighbourhoods)?;
+    try_all(rt, alloc, problem, &before, workers, gaps, &mut all);
     let mut month = start;
     for tried in all {
         let Tried { found, .. } = tried;
@@ -228,15 +234,17 @@ fn of_few<R: Threads + Sync, W: Watcher>(
 
 /// The next few persons, so often.
 fn tried_of(
-    alloc: Global,
-    problem: &Problem,
+    lent: &Lent<'_>,
+    before: &Roster,
     neighbourhoods: &mut Neighbourhoods,
 ) -> Result<Vec<Tried>, AllocError>
-    ensures { IfOk result (λ all. AreTried problem.now all.items) }
+    ensures { IfOk result (λ all. AreTried lent.now.problem.now all.items) }
 {
+    let (alloc, problem) = (lent.alloc, lent.problem);
+    let places = places_of(before);
     let mut all = Vec::new(alloc);
     for _ in 0..DIVES_AT_ONCE {
-        let few = neighbourhoods.few(alloc, problem, FEW)?;
+        let few = neighbourhoods.few(alloc, problem, lent.pairs, places, FEW)?;
         let mut free = vec![in alloc; false; problem.persons().len()]?;
         for k in &few {
             mark(&mut free, *k);

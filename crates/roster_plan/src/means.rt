@@ -61,11 +61,19 @@ impl Means {
         self.effort.min(MOST_EFFORT).saturating_add(1)
     }
 
-    /// The same with another effort.
+    /// The same with another effort: with as many legal sets as that allows if these are as many as this one allows,
+    /// else with as many as these.
     pub(crate) fn at(&self, effort: u32) -> Means
         ensures workers { result.workers ≡ self.now.workers }
     {
-        Means { effort, ..*self }
+        let usual = Means::of_effort(effort, self.workers);
+        if self.most_sets == sets_of(self.effort) {
+            return usual;
+        }
+        Means {
+            most_sets: self.most_sets,
+            ..usual
+        }
     }
 
     /// How many lines a person may have where all are listed.

@@ -3,22 +3,26 @@
 ghost use Rattle.std.specs.Prelude.{◌≡◌, ◌<◌, ◌≤◌, All, IfOk, length, true};
 ghost use Rattle.roster_model.specs.Plans.{IsPlan};
 ghost use Rattle.roster_model.specs.Settled.{IsBest, IsHeld};
-ghost use Rattle.roster_lines.specs.Listing.{AreAllPairs};
+ghost use Rattle.roster_plan.specs.Lent.{IsLent};
 ghost use Rattle.roster_plan.specs.Months.{IsMonth, IsMonthFrom};
 ghost use Rattle.roster_plan.specs.Planned.{IsPlannedFrom};
 
-use crate::apart::bounded;
+use crate::apart::{Bounds, bounded};
 use crate::kept::kept;
 use crate::known::{Planned, costed, earlier};
+use crate::lent::Lent;
 use crate::means::Means;
 use crate::months::Month;
+use crate::parts::open_bases;
 use crate::runs::improved_by_runs;
 use crate::together::{improved_nearby, neighbourhoods_of};
 use crate::watching::{Phase, Watcher};
 use crate::whole::searched;
 use roster_bases::all_open;
 use roster_cost::keys_are_in_order;
-use roster_lines::{Pairs, all_pairs};
+use roster_lines::all_pairs;
+use roster_plan_bound::Pricing;
+use roster_plan_moves::Neighbourhoods;
 use roster_problem::{Problem, open_number};
 use roster_values::Roster;
 use std::alloc::{AllocError, Global};
@@ -84,47 +88,86 @@ fn planned_from<R: Threads + Sync, W: Watcher>(
     let pairs = all_pairs(rt, alloc, problem, means.workers)?;
     let start = Month::of(alloc, problem, &pairs, known)?;
     watcher.tell(problem, None, Phase::Start, &start.planned);
-    let sought = searched(rt, alloc, problem, &pairs, start, means, watcher)?;
-    if sought.planned.is_best {
-        return Ok(sought.planned);
-    }
-    let tried = tried(rt, alloc, problem, &pairs, sought, means, watcher)?;
-    let month = bounded(rt, alloc, problem, &pairs, tried, means, watcher)?;
+    let pricing = Pricing::new(alloc, problem, &pairs)?;
+    let lent = Lent {
+        alloc,
+        problem,
+        pairs: &pairs,
+        pricing: &pricing,
+    };
+    let month = after_efforts(rt, &lent, start, means, watcher)?;
     Ok(month.planned)
 }
 
-/// The month with a roster that comes of changes, and of searches of neighbourhoods. It begins with those of
-/// the least effort, so each effort goes on with what the one before it found.
-fn tried<R: Threads + Sync, W: Watcher>(
+/// The month after each effort from 0 on, up to that of the means, unless its best roster is known before. Each does
+/// the same as the last one of less effort, and goes on from what the one before it found.
+fn after_efforts<R: Threads + Sync, W: Watcher>(
     rt: &R,
-    alloc: Global,
-    problem: &Problem,
-    pairs: &[Pairs],
+    lent: &Lent<'_>,
     start: Month,
     means: &Means,
     watcher: &mut W,
 ) -> Result<Month, AllocError>
-    requires pairs { AreAllPairs problem.now pairs.now }
-    requires month { IsMonth problem.now start }
+    requires lent { IsLent lent.now }
+    requires month { IsMonth lent.now.problem.now start }
     requires workers { 0 < means.now.workers }
-    ensures { IfOk result (IsMonthFrom problem.now start.planned.roster) }
+    ensures { IfOk result (IsMonthFrom lent.now.problem.now start.planned.roster) }
 {
     keys_are_in_order();
-    let mut neighbourhoods = neighbourhoods_of(alloc, problem, &start)?;
+    let mut neighbourhoods = neighbourhoods_of(lent.alloc, lent.problem, &start)?;
+    let mut bounds = Bounds::none(lent.alloc);
     let mut month = start;
     for effort in 0..means.efforts() {
+        if month.planned.is_best {
+            break;
+        }
         let means = means.at(effort);
-        let changed = improved_by_runs(rt, alloc, problem, month, &means, watcher)?;
-        month = improved_nearby(
+        let tried = tried(rt, lent, month, &means, &mut neighbourhoods, watcher)?;
+        month = bounded(
             rt,
-            alloc,
-            problem,
-            pairs,
-            changed,
+            lent,
+            tried,
             &means,
             &mut neighbourhoods,
+            &mut bounds,
             watcher,
         )?;
     }
+    Ok(month)
+}
+
+/// The month with the best roster of each base with few legal sets. For the others it has a roster that comes of
+/// changes, and of searches of neighbourhoods.
+fn tried<R: Threads + Sync, W: Watcher>(
+    rt: &R,
+    lent: &Lent<'_>,
+    start: Month,
+    means: &Means,
+    neighbourhoods: &mut Neighbourhoods,
+    watcher: &mut W,
+) -> Result<Month, AllocError>
+    requires lent { IsLent lent.now }
+    requires month { IsMonth lent.now.problem.now start }
+    requires workers { 0 < means.now.workers }
+    ensures { IfOk result (IsMonthFrom lent.now.problem.now start.planned.roster) }
+{
+    keys_are_in_order();
+    let (alloc, problem, pairs) = (lent.alloc, lent.problem, lent.pairs);
+    let sought = searched(rt, alloc, problem, pairs, start, means, watcher)?;
+    if sought.planned.is_best {
+        return Ok(sought);
+    }
+    neighbourhoods.seek(alloc, problem, &open_bases(alloc, &sought.parts)?)?;
+    let changed = improved_by_runs(rt, alloc, problem, sought, means, watcher)?;
+    let month = improved_nearby(
+        rt,
+        alloc,
+        problem,
+        pairs,
+        changed,
+        means,
+        neighbourhoods,
+        watcher,
+    )?;
     Ok(month)
 }

@@ -11,13 +11,17 @@
 //! - `search`: changes tried one after another
 //! - `moves`: which change is tried next
 //! - `run`: a run of changes
+//! - `mates`: who is of a base, and what is open there
+//! - `openings`: who is near to having an open pairing
 //! - `neighbourhoods`: which neighbourhood is searched next
 #![tactic(auto)]
 
 mod changes;
 mod draft;
+mod mates;
 mod moves;
 mod neighbourhoods;
+mod openings;
 mod random;
 mod run;
 mod search;

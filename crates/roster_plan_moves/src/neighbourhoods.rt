@@ -2,12 +2,13 @@
 
 ghost use Rattle.std.specs.Prelude.{◌≡◌, IfOk, length};
 
+use crate::mates::{base_of, is_of_base, mates_of, open_of, persons_sought};
+use crate::openings::{nearest, open_from};
 use crate::random::Random;
 use crate::search::set_of;
-use crate::sets::{add, amount_at, is_sought, without};
+use crate::sets::{add, amount_at, without};
 use crate::tables::times;
-use roster_bases::{base_of_person, is_pairing_of, persons_of};
-use roster_lines::Between;
+use roster_lines::{Between, Pairs};
 use roster_problem::{Problem, open_number};
 use roster_values::Set;
 use std::alloc::{AllocError, Global};
@@ -36,6 +37,9 @@ const FIRST_SIZE_OF_WISHES: u32 = 8 * PARTS;
 /// How many persons are free there beside who has the pairing and who would fly it.
 const OTHERS: usize = 4;
 
+/// How many of a few persons are near to having an open pairing, if any of them are.
+const NEAR: usize = 4;
+
 /// How large a neighbourhood may become: of more days than a month has.
 const GREATEST_SIZE: u32 = 40 * PARTS;
 
@@ -49,8 +53,7 @@ const GROWS_BY: u32 = 1;
 const SHRINKS_BY: u32 = PARTS;
 
 /// Neighbourhoods of some persons, of some days, and, if there is a roster to stay near, round what somebody would
-/// fly for fewer units. They grow as long as searches of them end, and
-/// shrink if one is given up.
+/// fly for fewer units. They grow as long as searches of them end, and shrink if one is given up.
 #[derive(Drop)]
 pub struct Neighbourhoods {
     random: Random,
@@ -100,6 +103,17 @@ impl Neighbourhoods {
         })
     }
 
+    /// From now on neighbourhoods are in bases that are sought, as `new` has them. Their sizes stay.
+    pub fn seek(
+        &mut self,
+        alloc: Global,
+        problem: &Problem,
+        sought: &[bool],
+    ) -> Result<(), AllocError> {
+        self.persons = persons_sought(alloc, problem, sought)?;
+        Ok(())
+    }
+
     /// The next neighbourhood of a roster.
     pub fn next(
         &mut self,
@@ -123,15 +137,32 @@ impl Neighbourhoods {
         })
     }
 
-    /// So many persons of one base, by chance; fewer if it has fewer.
+    /// So many persons of one base, fewer if it has fewer: by chance, but every other time, if a pairing is open there,
+    /// some of them are those who would give up the fewest pairings for it. The pairs are those of each person.
     pub fn few(
         &mut self,
         alloc: Global,
         problem: &Problem,
+        pairs: &[Pairs],
+        places: &[u16],
         count: usize,
     ) -> Result<Vec<usize>, AllocError> {
         let mut left = self.mates(alloc, problem)?;
-        self.chosen(alloc, &mut left, count)
+        let first = self.random.below(places.len());
+        let open = open_from(problem, pairs, places, &left, first);
+        let near = if self.random.below(2) == 0 { NEAR } else { 0 };
+        let mut few = Vec::new(alloc);
+        for nth in 0..count {
+            let i = self.random.below(left.len());
+            let at = match open {
+                Some(p) if nth < near => nearest(pairs, places, &left, p, i).unwrap_or(i),
+                _ => i,
+            };
+            if at < left.len() {
+                few.push(left.swap_remove(at))?;
+            }
+        }
+        Ok(few)
     }
 
     /// Whether the search of a neighbourhood has ended.
@@ -295,21 +326,6 @@ impl Neighbourhoods {
     }
 }
 
-// Who is of a base that is sought.
-fn persons_sought(
-    alloc: Global,
-    problem: &Problem,
-    sought: &[bool],
-) -> Result<Vec<usize>, AllocError> {
-    let mut persons = Vec::new(alloc);
-    for k in 0..problem.persons().len() {
-        if is_sought(sought, base_of_person(problem, k)) {
-            persons.push(k)?;
-        }
-    }
-    Ok(persons)
-}
-
 // Whether the places give somebody of these a pairing.
 fn has_some(places: &[u16], persons: &[usize]) -> bool {
     places
@@ -327,39 +343,6 @@ fn first_sizes(alloc: Global, is_near: bool) -> Result<Vec<u32>, AllocError> {
         sizes.push(FIRST_SIZE_OF_WISHES)?;
     }
     Ok(sizes)
-}
-
-// All who are of the same base as person `k`.
-fn mates_of(alloc: Global, problem: &Problem, k: usize) -> Result<Vec<usize>, AllocError> {
-    match base_of(problem, k) {
-        Some(base) => persons_of(alloc, problem, base),
-        None => Ok(Vec::new(alloc)),
-    }
-}
-
-// The base of person `k`, if there is one.
-fn base_of(problem: &Problem, k: usize) -> Option<usize> {
-    if k >= problem.persons().len() {
-        return None;
-    }
-    Some(base_of_person(problem, k))
-}
-
-// Whether the pairing at place `p` is of the base.
-fn is_of_base(problem: &Problem, p: usize, base: usize) -> bool {
-    p < problem.pairings().len() && is_pairing_of(problem, p, base)
-}
-
-// How many pairings of the base are open.
-fn open_of(problem: &Problem, places: &[u16], base: usize) -> usize {
-    let nobody = open_number(problem);
-    let mut open: usize = 0;
-    for (p, place) in places.iter().enumerate() {
-        if *place == nobody && is_of_base(problem, p, base) {
-            open = open.wrapping_add(1);
-        }
-    }
-    open
 }
 
 // What everybody keeps and may have beside: these persons lose and may have what is free.

@@ -4,4 +4,5 @@ use Rattle.roster_plan.proofs.apart.close_all.Goals as goal
 
 pub for_each_mut-requires-clause-accepts : goal.for_each_mut-requires-clause-accepts
 for_each_mut-requires-clause-accepts g c κs within i one inside same =
-    subst (IsGap c.args.problem.now) (sym same) (c.requires.gaps i one.now inside)
+    let problem = c.args.lent.now.problem.now in
+    subst (IsGap problem) (sym same) (c.renew_costs.ensures problem c.requires.gaps i one.now inside)

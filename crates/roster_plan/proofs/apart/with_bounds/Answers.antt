@@ -9,7 +9,7 @@ use Rattle.roster_plan.proofs.apart.with_bounds.Goals as goal
 
 pub raised-requires-clause-bound : goal.raised-requires-clause-bound
 raised-requires-clause-bound g c =
-    let problem = c.args.problem.now in
+    let problem = c.args.lent.now.problem.now in
     let gap = c.gap-item.result in
     let known = c.requires.gaps c.loop-gap.gap-index gap c.loop-gap-test.true in
     let is = subst (IsGap problem) (sym c.gap-item.is) known in
@@ -21,5 +21,5 @@ raised-requires-clause-bound g c =
 
 pub loop-gap-preserved : goal.loop-gap-preserved
 loop-gap-preserved g c =
-    month_on c.args.problem.now c.args.start.planned.roster c.loop-gap.month c.in_ok-month.month
+    month_on c.args.lent.now.problem.now c.args.start.planned.roster c.loop-gap.month c.in_ok-month.month
     c.loop-gap.invariant c.in_ok-month.ensures.month

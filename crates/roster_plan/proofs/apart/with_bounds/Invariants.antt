@@ -3,4 +3,4 @@ use Rattle.roster_plan.proofs.apart.with_bounds.Given as goal
 
 -- the month goes on from the one at the start
 abbrev pub invariant-loop-gap : goal.invariant-loop-gap
-invariant-loop-gap g l = IsMonthFrom l.problem l.fn.start.planned.roster l.month
+invariant-loop-gap g l = IsMonthFrom l.fn.lent.problem.now l.fn.start.planned.roster l.month

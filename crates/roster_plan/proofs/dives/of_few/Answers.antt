@@ -5,11 +5,11 @@ use Rattle.roster_plan.proofs.dives.of_few.Goals as goal
 use Rattle.roster_plan.proofs.dives.of_few.Goals.{in-Some-2+in_ok-known+in_ok-roster-2+in_ok-month, in_default}
 
 pub loop-tried-init : goal.loop-tried-init
-loop-tried-init g c = month_same c.args.problem.now c.args.start c.requires.month
+loop-tried-init g c = month_same c.args.lent.now.problem.now c.args.start c.requires.month
 
 pub loop-tried-preserved : goal.loop-tried-preserved
 loop-tried-preserved g c =
-    let problem = c.args.problem.now in
+    let problem = c.args.lent.now.problem.now in
     let before = c.args.start.planned.roster in
     elim c.match-branch-4.branch [
       | in-Some-2+in_ok-known+in_ok-roster-2+in_ok-month w ↦
