@@ -70,7 +70,7 @@ pub(crate) fn improved_by_dives<R: Threads + Sync, W: Watcher>(
     ensures { IfOk result (IsMonthFrom lent.now.problem.now start.planned.roster) }
 {
     keys_are_in_order();
-    if means.effort < LEAST_EFFORT || gaps.is_empty() {
+    if means.effort < LEAST_EFFORT || gaps.is_empty() || start.planned.is_cheapest() {
         return Ok(start);
     }
     let dived = of_bases(rt, lent, start, means, gaps, watcher)?;

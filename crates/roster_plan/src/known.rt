@@ -22,6 +22,13 @@ pub struct Planned {
     pub is_best: bool,
 }
 
+impl Planned {
+    /// Whether it is known that no legal roster costs less.
+    pub(crate) fn is_cheapest(&self) -> bool {
+        self.roster.cost <= self.bound
+    }
+}
+
 /// The places of a roster.
 pub(crate) fn places_of(roster: &Roster) -> &[u16]
     ensures { result.now ≡ roster.now.places }

@@ -137,7 +137,7 @@ fn after_efforts<R: Threads + Sync, W: Watcher>(
 }
 
 /// The month with the best roster of each base with few legal sets. For the others it has a roster that comes of
-/// changes, and of searches of neighbourhoods.
+/// changes, and of searches of neighbourhoods, unless it is known that none costs less.
 fn tried<R: Threads + Sync, W: Watcher>(
     rt: &R,
     lent: &Lent<'_>,
@@ -154,7 +154,7 @@ fn tried<R: Threads + Sync, W: Watcher>(
     keys_are_in_order();
     let (alloc, problem, pairs) = (lent.alloc, lent.problem, lent.pairs);
     let sought = searched(rt, alloc, problem, pairs, start, means, watcher)?;
-    if sought.planned.is_best {
+    if sought.planned.is_best || sought.planned.is_cheapest() {
         return Ok(sought);
     }
     neighbourhoods.seek(alloc, problem, &open_bases(alloc, &sought.parts)?)?;

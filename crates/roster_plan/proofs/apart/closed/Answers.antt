@@ -1,6 +1,6 @@
 use Rattle.std.proofs.Common.{sym, subst}
 use Rattle.roster_plan.specs.Bases.{IsGap}
-use Rattle.roster_plan.proofs.MonthLemmas.{month_of, month_on, month_same}
+use Rattle.roster_plan.proofs.MonthLemmas.{month_of, month_same}
 use Rattle.roster_plan.proofs.apart.closed.Given.{Over}
 use Rattle.roster_plan.proofs.apart.closed.Goals as goal
 
