@@ -210,6 +210,9 @@ fn raised<R: Threads + Sync, W: Watcher>(
 {
     // The first look was that of new bounds, at their first prices.
     let mut month = with_bounds(lent, start, gaps, watcher)?;
+    if ahead == 0 {
+        return Ok(month);
+    }
     for _ in 0..ahead {
         look_all(rt, lent, workers, false, gaps);
         month = with_bounds(lent, month, gaps, watcher)?;
