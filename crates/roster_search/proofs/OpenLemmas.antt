@@ -10,10 +10,11 @@ use Rattle.roster_model.specs.Places.{open_number}
 use Rattle.roster_model.specs.Problem.{Problem}
 use Rattle.roster_model.specs.Rosters.{Key}
 use Rattle.roster_model.specs.Settled.{CostsMore, IsWithinCost}
-use Rattle.roster_search_regions.specs.Regions.{size_of, IsIn, IsNarrowed, IsRegion, Region}
+use Rattle.std.proofs.lemmas.Bool.{cases_lt}
+use Rattle.roster_search_regions.specs.Regions.{open_in, size_of, IsIn, IsNarrowed, IsRegion, Region}
 use Rattle.roster_search_fixing.specs.Bounds.{CostsAtMost}
 use Rattle.roster_search_prices.specs.declared.branching.Split.{Split}
-use Rattle.roster_search_prices.specs.declared.branching.Split.TheVariants.{Holder, Flown}
+use Rattle.roster_search_prices.specs.declared.branching.Split.TheVariants.{Holder, Flown, Count}
 use Rattle.roster_search.specs.Branches.{IsOnFirst, IsOnOther}
 use Rattle.roster_search.specs.Open.{limit_of, weight_of, AreOpenOf, ArePartsOf, IsExplored, IsInSome, IsOver, IsParted, IsVisited}
 use Rattle.roster_search.specs.declared.visiting.Visited.{Visited}
@@ -377,6 +378,8 @@ on_a_side : (problem : Problem) (branch : Split) (places : List ℕ)
 on_a_side problem (Holder k p) places = has_cases k p places
 on_a_side problem (Flown p) places =
     elim (has_cases (open_number problem) p places) [ inl free ↦ inr free | inr flown ↦ inl flown ]
+on_a_side problem (Count count) places =
+    elim (cases_lt count (open_in problem places)) [ inl more ↦ inr (omega arith) | inr few ↦ inl few ]
 
 pub parted_by : (problem : Problem) (branch : Split) (most : ℤ) (region having others : Region)
     → IsNarrowed problem (IsOnFirst problem branch) region having

@@ -64,11 +64,12 @@ fn is_branch(problem: &Problem, region: &Region, branch: Split) -> bool
             }
             p < problem.pairings().len()
         }
+        Split::Count(count) => region.least_open() <= count && count < region.most_open(),
     }
 }
 
-/// The rosters of the region on the first side of a branch: in them the person has the pairing, or the pairing
-/// is flown.
+/// The rosters of the region on the first side of a branch: in them the person has the pairing, the pairing is
+/// flown, or at most so many are open.
 pub(crate) fn first_side(
     alloc: Global,
     problem: &Problem,
@@ -88,6 +89,10 @@ pub(crate) fn first_side(
         }
         Split::Flown(p) => {
             side.fly(problem, p);
+            Ok(side)
+        }
+        Split::Count(count) => {
+            side.open_at_most(problem, count);
             Ok(side)
         }
     }
@@ -110,6 +115,11 @@ pub(crate) fn keep_other_side(
         Split::Holder(k, p) => region.deny(alloc, problem, k, p),
         Split::Flown(p) => {
             region.leave_open(problem, p);
+            Ok(())
+        }
+        Split::Count(count) => {
+            prove!(count < region.most_open());
+            region.open_at_least(problem, count + 1);
             Ok(())
         }
     }

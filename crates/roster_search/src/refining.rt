@@ -62,7 +62,7 @@ fn relaxed(
     requires { IsRegion problem.now region.old }
     ensures { IfOk result (IsRefined problem.now most region.old region.new) }
 {
-    if !tighten(alloc, problem, region, prices.prices(), most)? {
+    if !tighten(alloc, problem, region, prices.prices(), prices.paid(), most)? {
         return Ok(Refined::Nothing);
     }
     if !fix_by_solutions(alloc, problem, region, relaxation, most)? {
@@ -118,7 +118,14 @@ fn fix_by_solution(
     if !relaxation.is_best() {
         return Ok(true);
     }
-    tighten(alloc, problem, region, relaxation.prices(), most)
+    tighten(
+        alloc,
+        problem,
+        region,
+        relaxation.prices(),
+        relaxation.paid(),
+        most,
+    )
 }
 
 /// How much is left to decide in the region: lines, and whether pairings are open.

@@ -58,7 +58,7 @@ fn raised(
         soften(ascent, room, step);
         ascent.step(problem, region)?;
     }
-    if !tighten(alloc, problem, region, ascent.best(), most)? {
+    if !tighten(alloc, problem, region, ascent.best(), 0, most)? {
         return Ok(Refined::Nothing);
     }
     Ok(Refined::Part)
@@ -117,7 +117,7 @@ fn fix_by_prices(
     requires { IsRegion problem.now region.old }
     ensures { IfOk result (IsFixed problem.now most region.old region.new) }
 {
-    if !tighten(alloc, problem, region, ascent.prices(), most)? {
+    if !tighten(alloc, problem, region, ascent.prices(), 0, most)? {
         return Ok(false);
     }
     ascent.renew(problem, region)?;

@@ -222,6 +222,7 @@ impl Rise {
             problem,
             &mut self.part,
             self.ascent.prices(),
+            0,
             self.most,
         )? {
             self.part = region.copy(alloc)?;
@@ -271,7 +272,7 @@ impl Rise {
             return Ok(false);
         }
         let prices = self.ascent.best();
-        if !tighten(alloc, problem, &mut self.part, prices, self.most)? {
+        if !tighten(alloc, problem, &mut self.part, prices, 0, self.most)? {
             return Ok(false);
         }
         self.relaxation.take_lines(problem, &self.part, prices)?;
@@ -333,7 +334,7 @@ impl Rise {
     {
         let before = left_in(problem, &self.part);
         let prices = self.relaxation.prices();
-        if !tighten(alloc, problem, &mut self.part, prices, self.most)? {
+        if !tighten(alloc, problem, &mut self.part, prices, 0, self.most)? {
             return Ok(false);
         }
         let is_smaller = left_in(problem, &self.part) < before;

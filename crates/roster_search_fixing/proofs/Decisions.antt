@@ -16,7 +16,7 @@ use Rattle.roster_search_regions.specs.Regions.{lines_of, sets_of, AllowedLine, 
 use Rattle.roster_search_regions.specs.Trees.{Offers}
 use Rattle.roster_search_regions.proofs.ListLemmas.{Contains-map}
 use Rattle.roster_search_regions.proofs.RegionLemmas.{among_from_Has, chosen_line, Has-from_among, lines_of_get, lines_of_is}
-use Rattle.roster_search_fixing.specs.Inside.{AreChosen, AreStatesKept}
+use Rattle.roster_search_fixing.specs.Inside.{AreChosen, AreStatesKept, IsCountKept}
 use Rattle.roster_search_fixing.specs.Propagation.{IsUncertain}
 use Rattle.roster_search_fixing.specs.Splits.{AgreesOn, IsNumberOf}
 use Rattle.roster_search_fixing.proofs.PropagationLemmas.{number_of}
@@ -53,8 +53,9 @@ offered_line problem region places k is inside offer =
 
 pub inside_by_parts : (problem : Problem) (region : Region) (places : List ℕ) → IsRegion problem region
     → length places ≡ length problem.pairings → All (λ x. x ≤ length problem.persons) places
-    → AreStatesKept problem region places → AreChosen problem region places → IsIn problem region places
-inside_by_parts problem region places is covers numbers states chosen = record {
+    → AreStatesKept problem region places → IsCountKept problem region places
+    → AreChosen problem region places → IsIn problem region places
+inside_by_parts problem region places is covers numbers states count chosen = record {
   legal = record {
     covers = covers;
     numbers = numbers;
@@ -69,6 +70,8 @@ inside_by_parts problem region places is covers numbers states chosen = record {
       (subst (Contains (sets_of (lines_of region k))) line.2 (Contains-map (λ (l : AllowedLine). l.set) (lines_of region k) line.0 line.1));
   left_open = states.left_open;
   flown = states.flown;
+  least_open = count.0;
+  most_open = count.1;
 }
 
 pub chosen_inside : (problem : Problem) (region : Region) (places : List ℕ) → IsRegion problem region

@@ -10,7 +10,7 @@ use Rattle.roster_model.specs.Problem.{Problem}
 use Rattle.roster_search_regions.specs.Prices.{price_at, value_of}
 use Rattle.roster_search_regions.specs.Regions.{extra_of, lines_of, with_lines, Has, HasNot, IsIn, IsNarrowed, IsRegion, Region}
 use Rattle.roster_search_regions.proofs.RegionLemmas.{narrowed_by_filter}
-use Rattle.roster_search_fixing.specs.Bounds.{fine_penalty, penalty_at, CostsAtMost, IsShareWithin, IsValueWithin}
+use Rattle.roster_search_fixing.specs.Bounds.{open_cost, penalty_at, CostsAtMost, IsShareWithin, IsValueWithin}
 use Rattle.roster_search_fixing.specs.declared.tightening.Bounds.{Bounds}
 use Rattle.roster_search_fixing.specs.Tightening.{IsUse}
 use Rattle.roster_search_fixing.proofs.BoundLemmas.{true-int_le, value_is}
@@ -33,53 +33,53 @@ value_within_part problem whole region prices k most cut part within places ther
     let same = ap (λ scale. pos scale *ℤ extra_of problem k (set_of k places) -ℤ total (price_at prices) (set_of k places)) part.scale in
     subst (λ z. z ≤ℤ cut) (sym same) (within places (part.inside places there) costs)
 
-pub share_within_part : (problem : Problem) (whole region : Region) (prices : List ℤ) (p : ℕ) (most cut : ℤ)
+pub share_within_part : (problem : Problem) (whole region : Region) (prices : List ℤ) (paid : ℤ) (p : ℕ) (most cut : ℤ)
     → IsNarrowed problem (CostsAtMost problem most) whole region
-    → IsShareWithin problem whole prices p most cut → IsShareWithin problem region prices p most cut
-share_within_part problem whole region prices p most cut part within places there costs =
-    let same = ap (λ scale. cond (eqb (get_or places p 0) (open_number problem)) (pos (scale * penalty_at problem p)) (price_at prices p)) part.scale in
+    → IsShareWithin problem whole prices paid p most cut → IsShareWithin problem region prices paid p most cut
+share_within_part problem whole region prices paid p most cut part within places there costs =
+    let same = ap (λ scale. cond (eqb (get_or places p 0) (open_number problem)) (pos (scale * penalty_at problem p) -ℤ paid) (price_at prices p)) part.scale in
     subst (λ z. z ≤ℤ cut) (sym same) (within places (part.inside places there) costs)
 
--- a pairing whose penalty is beyond the cut isn't open
-pub flown_within : (problem : Problem) (region : Region) (prices : List ℤ) (p : ℕ) (most cut : ℤ)
-    → IsShareWithin problem region prices p most cut → cut <ℤ fine_penalty problem region p
+-- a pairing that costs more than the cut if it is open isn't
+pub flown_within : (problem : Problem) (region : Region) (prices : List ℤ) (paid : ℤ) (p : ℕ) (most cut : ℤ)
+    → IsShareWithin problem region prices paid p most cut → cut <ℤ open_cost problem region paid p
     → (places : List ℕ) → IsIn problem region places → CostsAtMost problem most places
     → HasNot (open_number problem) p places
-flown_within problem region prices p most cut within beyond places there costs has =
+flown_within problem region prices paid p most cut within beyond places there costs has =
     let free =
     eq-eqb (get_or places p 0) (open_number problem)
     (get_or_from_slice_get places p (open_number problem) 0 has) in
-    let share : fine_penalty problem region p ≤ℤ cut =
-    subst (λ b. cond b (fine_penalty problem region p) (price_at prices p) ≤ℤ cut) free
+    let share : open_cost problem region paid p ≤ℤ cut =
+    subst (λ b. cond b (open_cost problem region paid p) (price_at prices p) ≤ℤ cut) free
     (within places there costs) in
     omega (arith, ints, share, beyond)
 
 -- and one whose price is is
-pub open_within : (problem : Problem) (region : Region) (prices : List ℤ) (p : ℕ) (most cut : ℤ)
-    → p < length problem.pairings → IsShareWithin problem region prices p most cut → cut <ℤ price_at prices p
+pub open_within : (problem : Problem) (region : Region) (prices : List ℤ) (paid : ℤ) (p : ℕ) (most cut : ℤ)
+    → p < length problem.pairings → IsShareWithin problem region prices paid p most cut → cut <ℤ price_at prices p
     → (places : List ℕ) → IsIn problem region places → CostsAtMost problem most places
     → Has (open_number problem) p places
-open_within problem region prices p most cut inside within beyond places there costs =
+open_within problem region prices paid p most cut inside within beyond places there costs =
     let at = slice_get-get_or places p 0 (omega (arith, there.legal.covers)) in
     elim (cases_eq (get_or places p 0) (open_number problem)) [
       | inl same ↦ at ∙ ap Some same
       | inr other ↦
           let held = ne_eqb (get_or places p 0) (open_number problem) other in
           let share : price_at prices p ≤ℤ cut =
-          subst (λ b. cond b (fine_penalty problem region p) (price_at prices p) ≤ℤ cut) held
+          subst (λ b. cond b (open_cost problem region paid p) (price_at prices p) ≤ℤ cut) held
           (within places there costs) in
           absurd (omega (arith, ints, share, beyond))
     ]
 
 -- what a round counts on stays so in a part of the region
-pub use_within_part : (problem : Problem) (whole region : Region) (prices : List ℤ) (bounds : Bounds) (most : ℤ) → IsNarrowed problem (CostsAtMost problem most) whole region → IsUse problem whole prices bounds most → IsUse problem region prices bounds most
-use_within_part problem whole region prices bounds most part use' = record {
+pub use_within_part : (problem : Problem) (whole region : Region) (prices : List ℤ) (paid : ℤ) (bounds : Bounds) (most : ℤ) → IsNarrowed problem (CostsAtMost problem most) whole region → IsUse problem whole prices paid bounds most → IsUse problem region prices paid bounds most
+use_within_part problem whole region prices paid bounds most part use' = record {
   persons = use'.persons;
   pairings = use'.pairings;
   near = use'.near;
   is_slack = record {
     lines = λ k inside. value_within_part problem whole region prices k most (get_or bounds.values.items k (pos 0) +ℤ bounds.slack) part (use'.is_slack.lines k inside);
-    pairings = λ p inside. share_within_part problem whole region prices p most (get_or bounds.terms.items p (pos 0) +ℤ bounds.slack) part (use'.is_slack.pairings p inside);
+    pairings = λ p inside. share_within_part problem whole region prices paid p most (get_or bounds.terms.items p (pos 0) +ℤ bounds.slack) part (use'.is_slack.pairings p inside);
   };
 }
 

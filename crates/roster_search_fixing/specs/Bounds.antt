@@ -19,18 +19,27 @@ penalty_at problem p = unwrap_or (option_map (λ pairing. pairing.penalty) (slic
 abbrev pub fine_penalty : Problem → Region → ℕ → ℤ
 fine_penalty problem region p = pos (region.scale * penalty_at problem p)
 
--- what the pairing at place p adds at least: its penalty if it is open, and its price if it isn't
-abbrev pub term_of : Problem → Region → List ℤ → ℕ → ℤ
-term_of problem region prices p =
-    if is_among region.left_open p then fine_penalty problem region p
+-- and less what an open pairing is paid
+abbrev pub open_cost : Problem → Region → ℤ → ℕ → ℤ
+open_cost problem region paid p = fine_penalty problem region p -ℤ paid
+
+-- what the open pairings of a roster are paid at least, in all
+abbrev pub paid_in : Region → ℤ → ℤ
+paid_in region paid =
+    if int_le (pos 0) paid then pos region.least_open *ℤ paid else pos region.most_open *ℤ paid
+
+-- what the pairing at place p adds at least: what it costs if it is open, and its price if it isn't
+abbrev pub term_of : Problem → Region → List ℤ → ℤ → ℕ → ℤ
+term_of problem region prices paid p =
+    if is_among region.left_open p then open_cost problem region paid p
     else if is_among region.flown p then price_at prices p
-    else if int_le (price_at prices p) (fine_penalty problem region p) then price_at prices p
-    else fine_penalty problem region p
+    else if int_le (price_at prices p) (open_cost problem region paid p) then price_at prices p
+    else open_cost problem region paid p
 
 -- what it adds in a roster
-abbrev pub share_of : Problem → Region → List ℤ → List ℕ → ℕ → ℤ
-share_of problem region prices places p =
-    if slice_index places p == open_number problem then fine_penalty problem region p else price_at prices p
+abbrev pub share_of : Problem → Region → List ℤ → ℤ → List ℕ → ℕ → ℤ
+share_of problem region prices paid places p =
+    if slice_index places p == open_number problem then open_cost problem region paid p else price_at prices p
 
 -- what person k's line adds in a roster: what it costs more than the empty one, less its prices
 abbrev pub value_in : Problem → Region → List ℤ → List ℕ → ℕ → ℤ
@@ -44,10 +53,10 @@ pub record AreLeastValues (problem : Problem) (region : Region) (prices values :
       → All (λ line. slice_index_or values k (pos 0) ≤ℤ value_of prices line) (lines_of region k)
 
 -- each number is what its pairing adds at least
-pub record AreTerms (problem : Problem) (region : Region) (prices terms : List ℤ) : Type 0 where
+pub record AreTerms (problem : Problem) (region : Region) (prices : List ℤ) (paid : ℤ) (terms : List ℤ) : Type 0 where
   pub covers : length terms ≡ length problem.pairings
   pub term : (p : ℕ) → p < length problem.pairings
-      → slice_index_or terms p (pos 0) ≡ term_of problem region prices p
+      → slice_index_or terms p (pos 0) ≡ term_of problem region prices paid p
 
 -- the sum of both
 abbrev pub bound_of : List ℤ → List ℤ → ℤ
@@ -68,15 +77,15 @@ IsValueWithin problem region prices k most cut =
     (places : List ℕ) → IsIn problem region places → CostsAtMost problem most places → value_in problem region prices places k ≤ℤ cut
 
 -- and the pairing at place p
-abbrev pub IsShareWithin : Problem → Region → List ℤ → ℕ → ℤ → ℤ → Type 0
-IsShareWithin problem region prices p most cut =
-    (places : List ℕ) → IsIn problem region places → CostsAtMost problem most places → share_of problem region prices places p ≤ℤ cut
+abbrev pub IsShareWithin : Problem → Region → List ℤ → ℤ → ℕ → ℤ → ℤ → Type 0
+IsShareWithin problem region prices paid p most cut =
+    (places : List ℕ) → IsIn problem region places → CostsAtMost problem most places → share_of problem region prices paid places p ≤ℤ cut
 
 -- If a roster of the region costs at most so much, what each line and each pairing adds is no further
 -- than the slack above what it adds at least.
-pub record IsSlack (problem : Problem) (region : Region) (prices values terms : List ℤ)
+pub record IsSlack (problem : Problem) (region : Region) (prices : List ℤ) (paid : ℤ) (values terms : List ℤ)
     (most slack : ℤ) : Type 0 where
   pub lines : (k : ℕ) → k < length problem.persons
       → IsValueWithin problem region prices k most (slice_index_or values k (pos 0) +ℤ slack)
   pub pairings : (p : ℕ) → p < length problem.pairings
-      → IsShareWithin problem region prices p most (slice_index_or terms p (pos 0) +ℤ slack)
+      → IsShareWithin problem region prices paid p most (slice_index_or terms p (pos 0) +ℤ slack)

@@ -16,9 +16,9 @@ pub record AreNear (bounds : Bounds) : Type 0 where
   pub slack : IsWithin MOST_SLACK bounds.slack
 
 -- one number for each person and each pairing, and a slack above them
-pub record IsUse (problem : Problem) (region : Region) (prices : List ℤ) (bounds : Bounds)
+pub record IsUse (problem : Problem) (region : Region) (prices : List ℤ) (paid : ℤ) (bounds : Bounds)
     (most : ℤ) : Type 0 where
   pub persons : length bounds.values.items ≡ length problem.persons
   pub pairings : length bounds.terms.items ≡ length problem.pairings
   pub near : AreNear bounds
-  pub is_slack : IsSlack problem region prices bounds.values.items bounds.terms.items most bounds.slack
+  pub is_slack : IsSlack problem region prices paid bounds.values.items bounds.terms.items most bounds.slack

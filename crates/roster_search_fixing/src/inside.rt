@@ -1,8 +1,8 @@
 //! Whether a roster is in a region.
 
 ghost use Rattle.std.specs.Prelude.{◌≡◌, ◌≤◌, ◌↔◌, All, IfOk, IsTrue, length};
-ghost use Rattle.roster_search_regions.specs.Regions.{IsIn, IsRegion};
-ghost use Rattle.roster_search_fixing.specs.Inside.{AreChosen, AreStatesKept};
+ghost use Rattle.roster_search_regions.specs.Regions.{open_in, IsIn, IsRegion};
+ghost use Rattle.roster_search_fixing.specs.Inside.{AreChosen, AreStatesKept, IsCountKept};
 
 use roster_problem::{Problem, open_number};
 use roster_search_regions::{Region, is_same};
@@ -49,6 +49,22 @@ fn are_states_kept(problem: &Problem, region: &Region, places: &[u16]) -> bool
     is_same(&region.left_open().and(&open), region.left_open()) && !region.flown().meets(&open)
 }
 
+/// How many pairings are open in the places.
+fn open_count(problem: &Problem, places: &[u16]) -> usize
+    ensures { result ≡ open_in problem.now places.now }
+{
+    let nobody = open_number(problem);
+    places.iter().filter(|place| **place == nobody).count()
+}
+
+/// Whether no fewer pairings are open than may be, and no more.
+fn is_count_kept(problem: &Problem, region: &Region, places: &[u16]) -> bool
+    ensures { IsTrue result ↔ IsCountKept problem.now region.now places.now }
+{
+    let open = open_count(problem, places);
+    region.least_open() <= open && open <= region.most_open()
+}
+
 /// Whether the list of places is in the region; any list may be asked for.
 pub fn is_in(
     alloc: Global,
@@ -66,6 +82,9 @@ pub fn is_in(
         return Ok(false);
     }
     if !are_states_kept(problem, region, places) {
+        return Ok(false);
+    }
+    if !is_count_kept(problem, region, places) {
         return Ok(false);
     }
     let chosen = are_chosen(alloc, problem, region, places)?;

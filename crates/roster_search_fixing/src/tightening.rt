@@ -1,14 +1,16 @@
 //! Regions without what costs too much.
 
-ghost use Rattle.std.specs.Prelude.{◌≡◌, ◌<◌, ◌+ℤ◌, ◌-ℤ◌, ◌*ℤ◌, IfOk, IfSome, MatchBool, MatchOption, OnOk};
+ghost use Rattle.std.specs.Prelude.{◌≡◌, ◌<◌, ℤ, ◌+ℤ◌, ◌-ℤ◌, ◌*ℤ◌, IfOk, IfSome, MatchBool, MatchOption, OnOk};
 ghost use Rattle.std.specs.Prelude.{length, pos, slice_index_or};
 ghost use Rattle.roster_cost.specs.Amounts.{IsWithin};
-ghost use Rattle.roster_search_regions.specs.Prices.{ArePrices};
+ghost use Rattle.roster_search_regions.specs.Prices.{ArePrices, IsPrice};
 ghost use Rattle.roster_search_regions.specs.Regions.{IsNarrowed, IsRegion};
 ghost use Rattle.roster_search_fixing.specs.Bounds.{CostsAtMost, IsAllAbove, IsShareWithin, IsValueWithin};
 ghost use Rattle.roster_search_fixing.specs.Tightening.{IsUse};
 
-use crate::bounding::{MOST_BOUND, least_values, penalty, sum_of_both, terms};
+use crate::bounding::{
+    MOST_BOUND, MOST_PAID, cost_of_open, least_values, paid_for_open, sum_of_both, terms,
+};
 use crate::propagate::propagate;
 use roster_cost::priced_shares_add_up;
 use roster_problem::Problem;
@@ -26,7 +28,7 @@ const LEAST_PART: usize = 50;
 pub(crate) const MOST_LIMIT: u64 = 1 << 61;
 
 /// What a cost leaves over above a bound, at most.
-pub(crate) const MOST_SLACK: u64 = MOST_LIMIT + MOST_BOUND;
+pub(crate) const MOST_SLACK: u64 = MOST_LIMIT + MOST_BOUND + MOST_PAID;
 
 /// What each person's line and each pairing adds at least, and what a cost leaves over.
 #[derive(Drop)]
@@ -108,7 +110,7 @@ fn fix_lines(
 ) -> Result<(), AllocError>
     requires region { IsRegion problem.now region.old }
     requires prices { ArePrices prices.now }
-    requires bounds { IsUse problem.now region.old prices.now bounds.now most }
+    requires bounds { (paid : ℤ) × IsUse problem.now region.old prices.now paid bounds.now most }
     ensures { OnOk result (IsNarrowed problem.now (CostsAtMost problem.now most)
         region.old region.new) }
 {
@@ -119,24 +121,41 @@ fn fix_lines(
     Ok(())
 }
 
-/// The pairing at place `p` isn't open, if its penalty is beyond the cut.
-fn fix_flown(problem: &Problem, region: &mut Region, prices: &[i64], p: usize, cut: i64, most: i64)
+/// The pairing at place `p` isn't open, if that costs more than the cut.
+fn fix_flown(
+    problem: &Problem,
+    region: &mut Region,
+    prices: &[i64],
+    paid: i64,
+    p: usize,
+    cut: i64,
+    most: i64,
+)
     requires region { IsRegion problem.now region.old }
+    requires paid { IsPrice paid }
     requires pairing { p < length problem.now.pairings }
-    requires within { IsShareWithin problem.now region.old prices.now p most cut }
+    requires within { IsShareWithin problem.now region.old prices.now paid p most cut }
     ensures { IsNarrowed problem.now (CostsAtMost problem.now most) region.old region.new }
 {
-    if penalty(problem, region, p) > cut {
+    if cost_of_open(problem, region, paid, p) > cut {
         region.fly(problem, p);
     }
 }
 
 /// The pairing at place `p` is open, if its price is beyond the cut.
-fn fix_open(problem: &Problem, region: &mut Region, prices: &[i64], p: usize, cut: i64, most: i64)
+fn fix_open(
+    problem: &Problem,
+    region: &mut Region,
+    prices: &[i64],
+    paid: i64,
+    p: usize,
+    cut: i64,
+    most: i64,
+)
     requires region { IsRegion problem.now region.old }
     requires prices { ArePrices prices.now }
     requires pairing { p < length problem.now.pairings }
-    requires within { IsShareWithin problem.now region.old prices.now p most cut }
+    requires within { IsShareWithin problem.now region.old prices.now paid p most cut }
     ensures { IsNarrowed problem.now (CostsAtMost problem.now most) region.old region.new }
 {
     if price_of(prices, p) > cut {
@@ -145,16 +164,24 @@ fn fix_open(problem: &Problem, region: &mut Region, prices: &[i64], p: usize, cu
 }
 
 /// Decides for each pairing whether it is open, if the slack leaves only one answer.
-fn fix_pairings(problem: &Problem, region: &mut Region, prices: &[i64], bounds: &Bounds, most: i64)
+fn fix_pairings(
+    problem: &Problem,
+    region: &mut Region,
+    prices: &[i64],
+    paid: i64,
+    bounds: &Bounds,
+    most: i64,
+)
     requires region { IsRegion problem.now region.old }
     requires prices { ArePrices prices.now }
-    requires bounds { IsUse problem.now region.old prices.now bounds.now most }
+    requires paid { IsPrice paid }
+    requires bounds { IsUse problem.now region.old prices.now paid bounds.now most }
     ensures { IsNarrowed problem.now (CostsAtMost problem.now most) region.old region.new }
 {
     for p in 0..problem.pairings().len() {
         let cut = bounds.cut_of_pairing(p);
-        fix_flown(problem, region, prices, p, cut, most);
-        fix_open(problem, region, prices, p, cut, most);
+        fix_flown(problem, region, prices, paid, p, cut, most);
+        fix_open(problem, region, prices, paid, p, cut, most);
     }
 }
 
@@ -164,10 +191,12 @@ fn tighten_once(
     problem: &Problem,
     region: &mut Region,
     prices: &[i64],
+    paid: i64,
     most: i64,
 ) -> Result<bool, AllocError>
     requires region { IsRegion problem.now region.old }
     requires prices { ArePrices prices.now }
+    requires paid { IsPrice paid }
     ensures { IfOk result (λ some. MatchBool some
         (IsNarrowed problem.now (CostsAtMost problem.now most) region.old region.new)
         (IsAllAbove problem.now region.old most)) }
@@ -178,33 +207,35 @@ fn tighten_once(
     let Some(limit) = limit(region, most) else {
         return Ok(true);
     };
-    match bounds_of(alloc, problem, region, prices, most, limit)? {
+    match bounds_of(alloc, problem, region, prices, paid, most, limit)? {
         None => Ok(false),
         Some(bounds) => {
             fix_lines(alloc, problem, region, prices, &bounds, most)?;
-            fix_pairings(problem, region, prices, &bounds, most);
+            fix_pairings(problem, region, prices, paid, &bounds, most);
             Ok(true)
         }
     }
 }
 
 /// Takes away what no roster that costs at most so much has: lines, and open or flown pairings. If it
-/// answers no, the region has no such roster.
+/// answers no, the region has no such roster. Any prices will do, and any amount that each open pairing is paid.
 pub fn tighten(
     alloc: Global,
     problem: &Problem,
     region: &mut Region,
     prices: &[i64],
+    paid: i64,
     most: i64,
 ) -> Result<bool, AllocError>
     requires region { IsRegion problem.now region.old }
     requires prices { ArePrices prices.now }
+    requires paid { IsPrice paid }
     ensures { IfOk result (λ some. MatchBool some
         (IsNarrowed problem.now (CostsAtMost problem.now most) region.old region.new)
         (IsAllAbove problem.now region.old most)) }
 {
     for _ in 0..MOST_TIGHTENINGS {
-        if !tighten_once(alloc, problem, region, prices, most)? {
+        if !tighten_once(alloc, problem, region, prices, paid, most)? {
             return Ok(false);
         }
         let before = weight(problem, region);
@@ -225,22 +256,25 @@ fn bounds_of(
     problem: &Problem,
     region: &Region,
     prices: &[i64],
+    paid: i64,
     most: i64,
     limit: i64,
 ) -> Result<Option<Bounds>, AllocError>
     requires region { IsRegion problem.now region.now }
     requires prices { ArePrices prices.now }
+    requires paid { IsPrice paid }
     requires limit { limit ≡ pos region.now.scale *ℤ (most -ℤ region.now.idle) }
     requires near { IsWithin MOST_LIMIT limit }
     ensures { IfOk result (λ bounds. MatchOption bounds
         (IsAllAbove problem.now region.now most)
-        (λ bounds. IsUse problem.now region.now prices.now bounds most)) }
+        (λ bounds. IsUse problem.now region.now prices.now paid bounds most)) }
 {
     problem.is_sound();
     priced_shares_add_up();
     let values = least_values(alloc, problem, region, prices)?;
-    let terms = terms(alloc, problem, region, prices)?;
-    let bound = sum_of_both(&values, &terms);
+    let terms = terms(alloc, problem, region, prices, paid)?;
+    let both = sum_of_both(&values, &terms);
+    let bound = both + paid_for_open(region, paid);
     if limit < bound {
         return Ok(None);
     }

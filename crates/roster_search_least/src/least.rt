@@ -189,7 +189,7 @@ fn first_of_all<F: Finder>(
         (IsIn problem.now region.old) (Some roster.old) roster.new) }
     ensures goes_on { F.goes_on finder.old finder.new }
 {
-    if !tighten(alloc, problem, region, prices.prices(), roster.cost)? {
+    if !tighten(alloc, problem, region, prices.prices(), 0, roster.cost)? {
         return Ok(());
     }
     first(alloc, problem, region, roster, prices, relaxation, finder)

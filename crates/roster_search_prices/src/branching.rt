@@ -18,6 +18,8 @@ pub enum Split {
     Holder(usize, usize),
     /// Whether the pairing at this place is flown or left open.
     Flown(usize),
+    /// Whether at most so many pairings are open, or more.
+    Count(usize),
 }
 
 /// A person and a pairing, and what weighs against settling whether that person has it.

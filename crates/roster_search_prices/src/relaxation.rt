@@ -1,7 +1,7 @@
 //! A linear program over some lines of a region, whose dual prices are good ones.
 
 ghost use Rattle.std.specs.Prelude.{◌<◌, length};
-ghost use Rattle.roster_search_regions.specs.Prices.{ArePrices};
+ghost use Rattle.roster_search_regions.specs.Prices.{ArePrices, IsPrice};
 ghost use Rattle.roster_search_regions.specs.Regions.{IsRegion};
 
 use crate::ending::{grain_in_word, grain_of};
@@ -9,7 +9,7 @@ use crate::person_lines::PersonLines;
 use crate::program_rows::{
     NO_ROW, apart_from, pairings_of, penalties_of, persons_in, put_row, rows_of,
 };
-use crate::scope::term;
+use crate::scope::{paid_for_open, term};
 use crate::seeking::{Seeker, Sought, extra_of};
 use crate::tuning::{
     FIRST_LINES_A_PERSON, LINES_A_PERSON, MOST_COLUMNS, MOST_ROWS, NEW_PART_OF_GRAIN,
@@ -255,7 +255,10 @@ impl Relaxation {
         let flown = self.set_in_rows(region.flown());
         let left_open = self.set_in_rows(region.left_open());
         self.master.mark(&self.allowed, &flown, &left_open);
-        Ok(())
+        let apart = self.never_held();
+        let least = region.least_open().saturating_sub(apart);
+        let most = region.most_open().saturating_sub(apart);
+        self.master.count_open(least, most)
     }
 
     /// Solves the program anew, and has its dual prices: those of pairings that may be open at most as high as
@@ -272,12 +275,15 @@ impl Relaxation {
             amounts[p] = self.price_of(problem, region, p);
         }
         self.now = DualPrices::of_parts(alloc, problem, region, &amounts, self.scale)?;
+        self.now.pay(self.master.count_dual());
         Ok(())
     }
 
-    // The price of the pairing at place `p`. One without a row has its penalty.
+    // The price of the pairing at place `p`. One without a row has its penalty, less what open ones are paid.
     fn price_of(&self, problem: &Problem, region: &Region, p: usize) -> i64 {
-        let penalty = scaled_penalty(problem, self.scale, p);
+        let penalty = scaled_penalty(problem, self.scale, p).saturating_sub(
+            self.master.count_dual(),
+        );
         let Some(row) = self.row_of(p) else {
             return penalty;
         };
@@ -302,6 +308,13 @@ impl Relaxation {
         ensures { ArePrices result.now }
     {
         self.now.prices()
+    }
+
+    /// What each open pairing is paid by the last solution.
+    pub fn paid(&self) -> i64
+        ensures { IsPrice result }
+    {
+        self.now.paid()
     }
 
     /// The prices of the greatest bound since the last beginning.
@@ -380,9 +393,10 @@ impl Relaxation {
 
     // Takes note of the bound, if persons add so much as seekers say.
     pub(crate) fn note_bound(&mut self, problem: &Problem, region: &Region) {
-        let mut bound = self.bound;
+        let paid = self.now.paid();
+        let mut bound = self.bound.saturating_add(paid_for_open(region, paid));
         for p in 0..problem.pairings().len() {
-            bound = bound.saturating_add(term(problem, region, self.now.prices(), p));
+            bound = bound.saturating_add(term(problem, region, self.now.prices(), paid, p));
         }
         self.bound = bound;
         if bound > self.best_bound {

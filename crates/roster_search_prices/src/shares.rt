@@ -6,9 +6,12 @@ ghost use Rattle.roster_search_regions.specs.Regions.{IsRegion};
 use crate::branching::Split;
 use crate::relaxation::Relaxation;
 use crate::tuning::{
-    BEST_SHARE_OF_LINES, LEAST_SHARE, MOST_SHARE_OF_LINES, SHARE_PER_DOUBLING, SHARE_PER_PERSON,
+    BEST_SHARE_OF_LINES, LEAST_PART_OPEN, LEAST_SHARE, MOST_PART_OPEN, MOST_SHARE_OF_LINES,
+    SHARE_PER_DOUBLING, SHARE_PER_PERSON,
 };
+use roster_model::limits::MOST_PAIRINGS;
 use roster_problem::Problem;
+use roster_search_lp::MOST_SHARE;
 use roster_search_regions::Region;
 use std::alloc::{AllocError, Global};
 
@@ -36,7 +39,8 @@ impl Pick {
     }
 }
 
-/// What it is best to settle next, by the last solution of the program: a pairing of which it leaves a part open;
+/// What it is best to settle next, by the last solution of the program: how many pairings are open, if it leaves a
+/// part of one open, all in all; or else a pairing of which it leaves a part open;
 /// or else a person and a pairing that some of the person's lines have, and some haven't; the first of both if there
 /// are none.
 pub fn branch_by_shares(
@@ -47,6 +51,9 @@ pub fn branch_by_shares(
 ) -> Result<Split, AllocError>
     requires { IsRegion problem.now region.now }
 {
+    if let Some(count) = open_by_part(region, relaxation) {
+        return Ok(Split::Count(count));
+    }
     if let Some(p) = half_open(region, relaxation) {
         return Ok(Split::Flown(p));
     }
@@ -66,6 +73,22 @@ pub fn branch_by_shares(
         }
     }
     Ok(Split::Holder(best.k, best.p))
+}
+
+/// Of how many open pairings the last solution has at least, and a part of one more, if the region leaves it to be
+/// decided whether it is more.
+fn open_by_part(region: &Region, relaxation: &Relaxation) -> Option<usize> {
+    let open = relaxation.open_count();
+    let part = open % u64::from(MOST_SHARE);
+    if part <= LEAST_PART_OPEN || part >= MOST_PART_OPEN {
+        return None;
+    }
+    let count = (open / u64::from(MOST_SHARE)).min(MOST_PAIRINGS as u64) as usize;
+    let count = count.saturating_add(relaxation.never_held());
+    if region.least_open() <= count && count < region.most_open() {
+        return Some(count);
+    }
+    None
 }
 
 /// The pairing of which the last solution leaves a part open that is nearest to a half, if the region leaves it to

@@ -130,3 +130,10 @@ pub(crate) const SHARE_PER_PERSON: u32 = 30;
 
 /// See `SHARE_PER_PERSON`.
 pub(crate) const SHARE_PER_DOUBLING: u32 = 15;
+
+/// If the solution leaves so many pairings open, all in all, and no more than so large a part of one more, in
+/// thousandths, their number counts as settled.
+pub(crate) const LEAST_PART_OPEN: u64 = 30;
+
+/// Or so large a part at least.
+pub(crate) const MOST_PART_OPEN: u64 = 970;

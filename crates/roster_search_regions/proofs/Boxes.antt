@@ -1,9 +1,10 @@
 -- The region of the lines whose numbers are in ranges.
 use Prim.Native.Nat.{◌∣◌}
-use Rattle.std.proofs.Common.{◌≡◌, ℕ, ◌+◌, ◌-◌, ◌<◌, ◌≤◌, List, [], length, drop, get_or, take, ℤ, pos, ◌+ℤ◌, ◌-ℤ◌, ◌*ℤ◌, sym, ap, ◌∙◌, subst, arith}
+use Rattle.std.proofs.Common.{◌≡◌, ℕ, ◌+◌, ◌-◌, ◌<◌, ◌≤◌, eqb, List, [], length, drop, get_or, take, ℤ, pos, ◌+ℤ◌, ◌-ℤ◌, ◌*ℤ◌, sym, ap, ◌∙◌, subst, arith}
 use Rattle.std.specs.Prelude.{All, Contains, Some, slice_get, option_map}
 use Rattle.std.proofs.lemmas.List.{drop-map, get_or-drop, get_or-map, get_or-take, length-drop, length-map, length-take}
 use Rattle.std.proofs.lemmas.Bool.{false≢true}
+use Rattle.std.proofs.lemmas.List.Sums.{count_by-le-length}
 use Rattle.std.proofs.lemmas.Simd.{map-map}
 use Rattle.std.proofs.lemmas.Int.{ints}
 use Rattle.std.proofs.lemmas.Option.{get_or_from_slice_get, slice_get-get_or, slice_get-map, slice_get_within}
@@ -107,6 +108,8 @@ pub record HasRanges (problem : Problem) (table : List (List Entry)) (ranges : L
   pub idle : region.idle ≡ idle_cost problem
   pub left_open : region.left_open ≡ []
   pub flown : region.flown ≡ []
+  pub least_open : region.least_open ≡ 0
+  pub most_open : region.most_open ≡ length problem.pairings
   pub some : 0 < region.unit
   pub penalties : All (λ pairing. region.unit ∣ pairing.penalty) problem.pairings
   pub divided : (k : ℕ) → k < length problem.persons
@@ -190,4 +193,7 @@ module _ (problem : Problem) (table : List (List Entry)) (ranges : List (ℕ × 
         subst (λ (ss : List (List ℕ)). Contains ss (set_of k places)) (sym sets) (between-Contains (sets_in (lines_at table k)) range.0 range.1 found.0 (set_of k places) found.1 found.2 found.3);
     left_open = λ p h. absurd (false≢true (ap (λ (set : List ℕ). is_among set p) (sym has.left_open) ∙ h));
     flown = λ p h. absurd (false≢true (ap (λ (set : List ℕ). is_among set p) (sym has.flown) ∙ h));
+    least_open = omega (arith, has.least_open);
+    most_open =
+        omega (arith, has.most_open, legal.covers, count_by-le-length (λ place. eqb place (open_number problem)) places);
   }

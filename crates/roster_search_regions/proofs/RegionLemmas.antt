@@ -1,5 +1,5 @@
 -- What makes a region smaller.
-use Rattle.std.proofs.Common.{◌≡◌, ◌≢◌, ℕ, ◌<◌, Bool, true, false, ◌||◌, eqb, eq-eqb, List, [], length, set, Option, Some, None, refl, sym, ap, ◌∙◌, subst, inl, inr, arith}
+use Rattle.std.proofs.Common.{◌≡◌, ◌≢◌, ℕ, ◌<◌, ◌≤◌, Bool, true, false, ◌||◌, eqb, eq-eqb, List, [], length, set, Option, Some, None, refl, sym, ap, ◌∙◌, subst, inl, inr, arith}
 use Rattle.std.specs.Prelude.{All, Contains, filter, slice_get}
 use Rattle.std.specs.List.{list_all}
 use Rattle.std.specs.Option.{option_map_or}
@@ -12,7 +12,7 @@ use Rattle.roster_model.specs.Places.{open_number, set_of}
 use Rattle.roster_model.specs.Problem.{Problem}
 use Rattle.roster_model.specs.Rules.{is_among}
 use Rattle.roster_model.proofs.PlacesLemmas.{is_among-set_of}
-use Rattle.roster_search_regions.specs.Regions.{AllowedLine, lines_of, sets_of, size_of, with_lines, Has, HasNot, IsAllowedLine, IsIn, IsNarrowed, IsRegion, Region}
+use Rattle.roster_search_regions.specs.Regions.{AllowedLine, lines_of, open_in, sets_of, size_of, with_lines, Has, HasNot, HasOpenAtLeast, HasOpenAtMost, IsAllowedLine, IsIn, IsNarrowed, IsRegion, Region}
 use Rattle.roster_search_regions.proofs.Undecided.{undecided_flown, undecided_left_open}
 use Rattle.roster_search_regions.proofs.ListLemmas.{Contains-filter, Contains-from_filter, Contains-from_map, Contains-map, length-filter-le, length-filter-lt, passes-from_filter}
 
@@ -109,6 +109,8 @@ narrowed_by_filter problem Kept region k test is inside passes =
       ];
       left_open = there.left_open;
       flown = there.flown;
+      least_open = there.least_open;
+      most_open = there.most_open;
     } in
     record {
       region = record {
@@ -142,6 +144,8 @@ narrowed_by_filter problem Kept region k test is inside passes =
         ];
         left_open = there.left_open;
         flown = there.flown;
+        least_open = there.least_open;
+        most_open = there.most_open;
       };
       size = omega (arith, sum_by-set length region.choices k new [] inside, length-filter-le test old);
       scale = refl;
@@ -199,6 +203,8 @@ inside_left_open problem region p next members places there = record {
   chosen = there.chosen;
   left_open = λ q among. there.left_open q (members q ∙ ap (λ b. b || eqb p q) among);
   flown = there.flown;
+  least_open = there.least_open;
+  most_open = there.most_open;
 }
 
 inside_flown : (problem : Problem) (region : Region) (p : ℕ) (next : List ℕ)
@@ -209,6 +215,8 @@ inside_flown problem region p next members places there = record {
   chosen = there.chosen;
   left_open = there.left_open;
   flown = λ q among. there.flown q (members q ∙ ap (λ b. b || eqb p q) among);
+  least_open = there.least_open;
+  most_open = there.most_open;
 }
 
 pub narrowed_left_open : (problem : Problem) (region : Region) (p : ℕ) (next : List ℕ)
@@ -227,6 +235,8 @@ narrowed_left_open problem region p next is members = record {
     chosen = there.chosen;
     left_open = λ q among. one_more (λ q. slice_get places q ≡ Some (open_number problem)) region.left_open next p members has there.left_open q among;
     flown = there.flown;
+    least_open = there.least_open;
+    most_open = there.most_open;
   };
   size = omega (arith, undecided_left_open region.left_open region.flown next p members);
   scale = refl;
@@ -248,7 +258,79 @@ narrowed_flown problem region p next is members = record {
     chosen = there.chosen;
     left_open = there.left_open;
     flown = λ q among. one_more (λ q. slice_get places q ≢ Some (open_number problem)) region.flown next p members hasnot there.flown q among;
+    least_open = there.least_open;
+    most_open = there.most_open;
   };
   size = omega (arith, undecided_flown region.left_open region.flown next p members);
+  scale = refl;
+}
+
+-- ---- how many pairings are open
+
+inside_most_open : (problem : Problem) (region : Region) (count : ℕ) → count ≤ region.most_open
+    → (places : List ℕ) → IsIn problem (record region { most_open = count }) places → IsIn problem region places
+inside_most_open problem region count less places there = record {
+  legal = there.legal;
+  chosen = there.chosen;
+  left_open = there.left_open;
+  flown = there.flown;
+  least_open = there.least_open;
+  most_open = let few : open_in problem places ≤ count = there.most_open in omega arith;
+}
+
+inside_least_open : (problem : Problem) (region : Region) (count : ℕ) → region.least_open ≤ count
+    → (places : List ℕ) → IsIn problem (record region { least_open = count }) places → IsIn problem region places
+inside_least_open problem region count more places there = record {
+  legal = there.legal;
+  chosen = there.chosen;
+  left_open = there.left_open;
+  flown = there.flown;
+  least_open = let many : count ≤ open_in problem places = there.least_open in omega arith;
+  most_open = there.most_open;
+}
+
+pub narrowed_most_open : (problem : Problem) (region : Region) (count : ℕ) → IsRegion problem region
+    → count ≤ region.most_open
+    → IsNarrowed problem (HasOpenAtMost problem count) region (record region { most_open = count })
+narrowed_most_open problem region count is less = record {
+  region = record {
+    covers = is.covers;
+    each = is.each;
+    idle = is.idle;
+    units = λ places there. is.units places (inside_most_open problem region count less places there);
+  };
+  inside = inside_most_open problem region count less;
+  kept = λ places there few. record {
+    legal = there.legal;
+    chosen = there.chosen;
+    left_open = there.left_open;
+    flown = there.flown;
+    least_open = there.least_open;
+    most_open = few;
+  };
+  size = omega (arith);
+  scale = refl;
+}
+
+pub narrowed_least_open : (problem : Problem) (region : Region) (count : ℕ) → IsRegion problem region
+    → region.least_open ≤ count
+    → IsNarrowed problem (HasOpenAtLeast problem count) region (record region { least_open = count })
+narrowed_least_open problem region count is more = record {
+  region = record {
+    covers = is.covers;
+    each = is.each;
+    idle = is.idle;
+    units = λ places there. is.units places (inside_least_open problem region count more places there);
+  };
+  inside = inside_least_open problem region count more;
+  kept = λ places there many. record {
+    legal = there.legal;
+    chosen = there.chosen;
+    left_open = there.left_open;
+    flown = there.flown;
+    least_open = many;
+    most_open = there.most_open;
+  };
+  size = omega (arith);
   scale = refl;
 }

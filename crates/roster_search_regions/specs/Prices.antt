@@ -11,6 +11,10 @@ use Rattle.roster_search_regions.specs.Regions.{AllowedLine}
 abbrev pub price_at : List ℤ → ℕ → ℤ
 price_at prices p = slice_index_or prices p (pos 0)
 
+-- it isn't beyond the limit of prices
+abbrev pub IsPrice : ℤ → Type 0
+IsPrice amount = IsWithin MOST_DUAL_PRICE amount
+
 -- no price is beyond its limit
 abbrev pub ArePrices : List ℤ → Type 0
 ArePrices prices = All (IsWithin MOST_DUAL_PRICE) prices

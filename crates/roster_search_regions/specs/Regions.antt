@@ -1,5 +1,5 @@
 -- Regions of rosters: for each person some of their lines, and for each pairing whether it may be open.
-use Rattle.std.specs.Prelude.{◌≡◌, ◌≢◌, ℕ, ◌+◌, ◌<◌, ◌≤◌, true, false, not, ◌||◌, List, [], Some, ℤ, pos, ◌-ℤ◌, ◌*ℤ◌, All, Contains, length, map, slice_get, slice_index_or, slice_set, sum_by}
+use Rattle.std.specs.Prelude.{◌≡◌, ◌≢◌, ◌==◌, ℕ, ◌+◌, ◌-◌, ◌<◌, ◌≤◌, true, false, not, ◌||◌, List, [], Some, ℤ, pos, ◌-ℤ◌, ◌*ℤ◌, All, Contains, length, map, slice_get, slice_index_or, slice_set, sum_by}
 use Rattle.std.specs.List.{count_by, list_any, list_all, range_with_len}
 use Rattle.roster_model.specs.declared.limits.TheConstants.{MOST_PAIRINGS}
 use Rattle.roster_model.specs.Problem.{Problem}
@@ -21,12 +21,15 @@ abbrev pub allowed : List ℕ → ℤ → AllowedLine
 allowed set extra = record { set = set; extra = extra }
 
 -- For each person, in book order, the lines that are allowed; the pairings that must be open, and those
--- that must not be; how many parts a cost unit has; what it costs that nobody has a pairing, penalties
--- aside; and a number of cost units that divides what rosters cost more than that, or less.
+-- that must not be; how many are open at least, and at most; how many parts a cost unit has; what it costs
+-- that nobody has a pairing, penalties aside; and a number of cost units that divides what rosters cost more
+-- than that, or less.
 pub record Region : Type 0 where
   pub choices : List (List AllowedLine)
   pub left_open : List ℕ
   pub flown : List ℕ
+  pub least_open : ℕ
+  pub most_open : ℕ
   pub scale : ℕ
   pub idle : ℤ
   pub unit : ℕ
@@ -56,8 +59,12 @@ pub record IsAllowedLine (problem : Problem) (scale k : ℕ) (line : AllowedLine
   pub is_line : IsLine problem k line.set
   pub extra : line.extra ≡ pos scale *ℤ extra_of problem k line.set
 
--- The places are in the region: a legal roster in which each person has one of the sets, and in which
--- those pairings are open that must be, and none that must not.
+-- how many pairings are open in the places
+abbrev pub open_in : Problem → List ℕ → ℕ
+open_in problem places = count_by (λ place. place == open_number problem) places
+
+-- The places are in the region: a legal roster in which each person has one of the sets, in which those
+-- pairings are open that must be, and none that must not, and no fewer or more than may be.
 pub record IsIn (problem : Problem) (region : Region) (places : List ℕ) : Type 0 where
   pub legal : IsLegalRoster problem places
   pub chosen : (k : ℕ) (lines : List AllowedLine) → slice_get region.choices k ≡ Some lines
@@ -65,6 +72,8 @@ pub record IsIn (problem : Problem) (region : Region) (places : List ℕ) : Type
   pub left_open : (p : ℕ) → is_among region.left_open p ≡ true
       → slice_get places p ≡ Some (open_number problem)
   pub flown : (p : ℕ) → is_among region.flown p ≡ true → slice_get places p ≢ Some (open_number problem)
+  pub least_open : region.least_open ≤ open_in problem places
+  pub most_open : open_in problem places ≤ region.most_open
 
 -- the region has lines of each person, and what each of its rosters costs is so many units from `idle`
 pub record IsRegion (problem : Problem) (region : Region) : Type 0 where
@@ -85,9 +94,12 @@ unfoldable pub undecided_in : List ℕ → List ℕ → ℕ
 undecided_in left_open flown =
     count_by (λ p. not (is_among left_open p || is_among flown p)) (range_with_len 0 MOST_PAIRINGS)
 
--- how much is left to decide: the lines that are left, of all persons, and those pairings
+-- how much is left to decide: the lines that are left, of all persons, those pairings, and between how many
+-- open ones
 abbrev pub size_of : Region → ℕ
-size_of region = sum_by length region.choices + undecided_in region.left_open region.flown
+size_of region =
+    sum_by length region.choices + undecided_in region.left_open region.flown
+    + (region.most_open - region.least_open)
 
 -- The new region is part of the old one, and has all of it that meets the condition.
 pub record IsNarrowed (problem : Problem) (Kept : List ℕ → Type 0) (old new : Region) : Type 0 where
@@ -108,6 +120,14 @@ Has k p places = slice_get places p ≡ Some k
 -- person k hasn't
 abbrev pub HasNot : ℕ → ℕ → List ℕ → Type 0
 HasNot k p places = slice_get places p ≢ Some k
+
+-- at most so many pairings are open
+abbrev pub HasOpenAtMost : Problem → ℕ → List ℕ → Type 0
+HasOpenAtMost problem count places = open_in problem places ≤ count
+
+-- at least so many are
+abbrev pub HasOpenAtLeast : Problem → ℕ → List ℕ → Type 0
+HasOpenAtLeast problem count places = count ≤ open_in problem places
 
 -- some of the person's lines have the pairing, and some haven't
 pub record IsSplit (region : Region) (k p : ℕ) : Type 0 where

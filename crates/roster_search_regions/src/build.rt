@@ -270,6 +270,8 @@ impl Region {
             persons,
             left_open: Set::empty(),
             flown: Set::empty(),
+            least_open: 0,
+            most_open: problem.pairings().len(),
             scale,
             idle: cost_without_pairings(problem),
             unit,

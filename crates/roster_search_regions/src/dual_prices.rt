@@ -2,7 +2,7 @@
 
 ghost use Rattle.std.specs.Prelude.{◌≡◌, IfOk};
 ghost use Rattle.roster_cost.specs.Amounts.{IsWithin};
-ghost use Rattle.roster_search_regions.specs.Prices.{ArePrices};
+ghost use Rattle.roster_search_regions.specs.Prices.{ArePrices, IsPrice};
 
 use crate::choice::MOST_DUAL_PRICE;
 use crate::reading::number_at;
@@ -22,6 +22,8 @@ pub struct DualPrices {
     softness: u32,
     // How many steps the velocities have grown.
     pace: u32,
+    // What each open pairing is paid.
+    paid: i64,
 }
 
 impl Model for DualPrices {
@@ -72,6 +74,7 @@ impl DualPrices {
             velocities: vec![in alloc; 0; pairings]?,
             softness: 0,
             pace: 0,
+            paid: 0,
         })
     }
 
@@ -123,6 +126,21 @@ impl DualPrices {
         &self.prices
     }
 
+    /// What each open pairing is paid, in parts of a cost unit: prices tell more by it if only so many may be
+    /// open, or so many must.
+    pub fn paid(&self) -> i64
+        ensures { IsPrice result }
+    {
+        limited(self.paid)
+    }
+
+    /// Pays so much for each open pairing, or the nearest that a price may be.
+    pub fn pay(&mut self, amount: i64)
+        ensures { self.new ≡ self.old }
+    {
+        self.paid = amount;
+    }
+
     /// How far lines above the least still count: one whose value is 2^(softness + 5) parts of a cost unit
     /// above it weighs half as much as the best.
     pub fn softness(&self) -> u32 {
@@ -146,15 +164,17 @@ impl DualPrices {
             velocities,
             softness: self.softness,
             pace: 0,
+            paid: self.paid,
         })
     }
 
-    /// Takes over other prices for the same pairings, and their softness. Prices for another number of
-    /// pairings change nothing.
+    /// Takes over other prices for the same pairings, their softness, and what open ones are paid. Prices for
+    /// another number of pairings change nothing.
     pub fn take(&mut self, other: &DualPrices) {
         if self.prices.len() == other.prices.len() {
             self.prices.copy_from_slice(&other.prices);
             self.softness = other.softness;
+            self.paid = other.paid;
         }
     }
 

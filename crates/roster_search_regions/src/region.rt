@@ -1,11 +1,12 @@
 //! Regions, and what makes them smaller.
 
-ghost use Rattle.std.specs.Prelude.{◌≡◌, ◌<◌, ◌≤◌, ◌≤ℤ◌, All, IfOk, MatchBool, OnOk, filter, int_le, length};
+ghost use Rattle.std.specs.Prelude.{◌≡◌, ◌+◌, ◌<◌, ◌≤◌, ◌≤ℤ◌, All, IfOk, MatchBool, OnOk, filter, int_le, length};
 ghost use Rattle.roster_model.specs.Places.{open_number};
 ghost use Rattle.roster_model.specs.Rules.{is_among};
 ghost use Rattle.roster_cost.specs.Amounts.{IsWithin};
 ghost use Rattle.roster_search_regions.specs.Prices.{value_of, ArePrices};
 ghost use Rattle.roster_search_regions.specs.Regions.{lines_of, size_of, with_lines, Has, HasNot, IsNarrowed};
+ghost use Rattle.roster_search_regions.specs.Regions.{HasOpenAtLeast, HasOpenAtMost};
 ghost use Rattle.roster_search_regions.specs.Regions.{IsRegion, IsSplit, IsUndecidedAt, IsWhollyIn};
 ghost use Rattle.roster_search_regions.specs.Trees.{agrees, lines_in, AreCertain, ArePossible, HasJust, Offers};
 
@@ -19,15 +20,17 @@ use roster_values::Set;
 use std::alloc::{AllocError, Global};
 use std::marker::Model;
 
-/// Some rosters: for each person the lines that are allowed, and which pairings must be open and which
-/// must not. Costs are in parts of a cost unit, and those of a line are what it costs more than the
-/// person's empty one. Lines stay in the table if many of a person's are left, and few are copied. A copy of
-/// a region takes little memory, since lines are shared until one of the two changes.
+/// Some rosters: for each person the lines that are allowed, which pairings must be open and which must not,
+/// and how many are open at least and at most. Costs are in parts of a cost unit, and those of a line are what
+/// it costs more than the person's empty one. Lines stay in the table if many of a person's are left, and few
+/// are copied. A copy of a region takes little memory, since lines are shared until one of the two changes.
 #[derive(Drop)]
 pub struct Region {
     pub(crate) persons: Vec<Shared>,
     pub(crate) left_open: Set,
     pub(crate) flown: Set,
+    pub(crate) least_open: usize,
+    pub(crate) most_open: usize,
     pub(crate) scale: u32,
     pub(crate) idle: i64,
     pub(crate) unit: u64,
@@ -42,6 +45,8 @@ impl Model for Region {
       choices = r.persons.items;
       left_open = r.left_open;
       flown = r.flown;
+      least_open = r.least_open;
+      most_open = r.most_open;
       scale = r.scale;
       idle = r.idle;
       unit = r.unit;
@@ -49,8 +54,10 @@ impl Model for Region {
 
     ghost use Rattle.std.specs.Prelude.{◌<◌, ◌≤◌};
     ghost use Rattle.roster_search_regions.specs.declared.choice.TheConstants.{MOST_SCALE, MOST_UNIT};
+    ghost use Rattle.roster_model.specs.declared.limits.TheConstants.{MOST_PAIRINGS};
 
-    ghost invariant = { λ r. (r.scale ≤ MOST_SCALE) × (0 < r.unit) × (r.unit ≤ MOST_UNIT) };
+    ghost invariant = { λ r. (r.scale ≤ MOST_SCALE) × (0 < r.unit) × (r.unit ≤ MOST_UNIT)
+        × (r.least_open ≤ MOST_PAIRINGS) × (r.most_open ≤ MOST_PAIRINGS) };
 }
 
 impl Region {
@@ -131,6 +138,22 @@ impl Region {
         self.flown.has(p)
     }
 
+    /// How many pairings are open at least.
+    pub fn least_open(&self) -> usize
+        ensures value { result ≡ self.now.least_open }
+        ensures bound { result ≤ MOST_PAIRINGS }
+    {
+        self.least_open
+    }
+
+    /// How many pairings are open at most.
+    pub fn most_open(&self) -> usize
+        ensures value { result ≡ self.now.most_open }
+        ensures bound { result ≤ MOST_PAIRINGS }
+    {
+        self.most_open
+    }
+
     /// The pairings that must be open.
     pub fn left_open(&self) -> &Set
         ensures { result.now ≡ self.now.left_open }
@@ -184,6 +207,8 @@ impl Region {
             persons,
             left_open: self.left_open,
             flown: self.flown,
+            least_open: self.least_open,
+            most_open: self.most_open,
             scale: self.scale,
             idle: self.idle,
             unit: self.unit,
@@ -299,5 +324,29 @@ impl Region {
     {
         prove!(problem.pairings().len() <= MOST_PAIRINGS);
         self.flown = self.flown.with(p).unwrap();
+    }
+
+    /// At most so many pairings are open.
+    pub fn open_at_most(&mut self, problem: &Problem, count: usize)
+        requires region { IsRegion problem.now self.old }
+        requires most { count ≤ self.old.most_open }
+        ensures narrowed { IsNarrowed problem.now (HasOpenAtMost problem.now count) self.old self.new }
+        ensures all { IsWhollyIn problem.now self.new (HasOpenAtMost problem.now count) }
+        ensures fewer { self.old.least_open ≤ count → count < self.old.most_open
+            → size_of self.new < size_of self.old }
+    {
+        self.most_open = count;
+    }
+
+    /// At least so many pairings are open.
+    pub fn open_at_least(&mut self, problem: &Problem, count: usize)
+        requires region { IsRegion problem.now self.old }
+        requires least { self.old.least_open ≤ count }
+        requires most { count ≤ self.old.most_open }
+        ensures narrowed { IsNarrowed problem.now (HasOpenAtLeast problem.now count) self.old self.new }
+        ensures all { IsWhollyIn problem.now self.new (HasOpenAtLeast problem.now count) }
+        ensures fewer { self.old.least_open < count → size_of self.new < size_of self.old }
+    {
+        self.least_open = count;
     }
 }

@@ -1,4 +1,4 @@
-use Rattle.std.proofs.Common.{◌≡◌, ◌+◌, ℤ, ◌++◌, ◌∷◌, [], length, SFits, w64, sym, ap, ◌∙◌, subst, arith}
+use Rattle.std.proofs.Common.{◌≡◌, ◌+◌, ℤ, ◌++◌, ◌∷◌, [], length, SFits, w64, to_z, of_z, sym, ap, ◌∙◌, subst, arith}
 use Rattle.std.specs.Prelude.{All}
 use Rattle.std.proofs.lemmas.Int.{ints, to_z-of_z}
 use Rattle.std.proofs.lemmas.List.{length_push}
@@ -19,7 +19,7 @@ loop-p-preserved c =
     c.in_ok-push.ensures.items ∙ ap (λ (z : ℤ). old ++ z ∷ []) same in
     record {
       covers = ap length pushed ∙ length_push old c.term.result ∙ ap (λ n. n + 1) c.loop-p.invariant.covers;
-      term = more_leasts (λ q z. z ≡ term_of c.args.problem.now c.args.region.now c.args.prices.now q) old c.push.new.self.items c.term.result c.loop-p.p pushed c.loop-p.invariant.covers c.loop-p.invariant.term c.term.ensures.value;
+      term = more_leasts (λ q z. z ≡ term_of c.args.problem.now c.args.region.now c.args.prices.now (to_z w64 (of_z w64 c.args.paid)) q) old c.push.new.self.items c.term.result c.loop-p.p pushed c.loop-p.invariant.covers c.loop-p.invariant.term c.term.ensures.value;
       within =
           subst (All (IsWithin MOST_TERM)) (sym pushed)
           (All-push (IsWithin MOST_TERM) old c.term.result c.loop-p.invariant.within c.term.ensures.bound);

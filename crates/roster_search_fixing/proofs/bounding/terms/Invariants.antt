@@ -9,6 +9,6 @@ use Rattle.roster_search_fixing.proofs.bounding.terms.Given as goal
 abbrev pub invariant-loop-p : goal.invariant-loop-p
 invariant-loop-p l = record {
   covers : length l.terms.items ≡ l.p;
-  term : (q : ℕ) → q < l.p → get_or l.terms.items q (pos 0) ≡ term_of l.problem l.region l.prices q;
+  term : (q : ℕ) → q < l.p → get_or l.terms.items q (pos 0) ≡ term_of l.problem l.region l.prices l.paid q;
   within : All (IsWithin MOST_TERM) l.terms.items;
 }

@@ -14,7 +14,7 @@ fix_lines_of-requires-clause-within c =
     let persons = ap length c.persons-k-end.ensures.value in
     let fits : SFits w64 c.cut_of_line-cut.result = search rules in
     let cut = to_z-of_z w64 c.cut_of_line-cut.result fits ∙ c.cut_of_line-cut.ensures in
-    let whole = subst (λ m. IsValueWithin problem c.args.region.now c.args.prices.now k m (get_or c.args.bounds.now.values.items k (pos 0) +ℤ c.args.bounds.now.slack)) (sym (to_z-of_z w64 c.args.most c.ranges.most)) (c.requires.bounds.is_slack.lines k (omega (arith, persons, c.loop-k-test.true))) in
+    let whole = subst (λ m. IsValueWithin problem c.args.region.now c.args.prices.now k m (get_or c.args.bounds.now.values.items k (pos 0) +ℤ c.args.bounds.now.slack)) (sym (to_z-of_z w64 c.args.most c.ranges.most)) (c.requires.bounds.1.is_slack.lines k (omega (arith, persons, c.loop-k-test.true))) in
     subst (λ z. IsValueWithin problem c.loop-k.region c.args.prices.now k most z) (sym cut)
     (value_within_part problem c.args.region.now c.loop-k.region c.args.prices.now k most (get_or c.args.bounds.now.values.items k (pos 0) +ℤ c.args.bounds.now.slack) c.loop-k.invariant whole)
 

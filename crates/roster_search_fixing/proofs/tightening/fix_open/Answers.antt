@@ -13,5 +13,5 @@ returns-then-price_of-cut c =
     let same = to_z-of_z w64 c.args.cut c.ranges.cut in
     narrowed_by_more problem (Has (open_number problem) c.args.p)
     (CostsAtMost problem c.args.most) c.args.region.now c.leave_open.new.self c.leave_open.ensures.narrowed
-    (open_within problem c.args.region.now c.args.prices.now c.args.p c.args.most c.args.cut c.requires.pairing c.requires.within
+    (open_within problem c.args.region.now c.args.prices.now c.args.paid c.args.p c.args.most c.args.cut c.requires.pairing c.requires.within
     (omega (arith, ints, same, c.if-price_of-cut.true, c.price_of.ensures.value, c.price_of.ensures.bound.0, c.price_of.ensures.bound.1)))

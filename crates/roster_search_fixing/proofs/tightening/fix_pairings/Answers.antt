@@ -13,9 +13,11 @@ fix_flown-requires-clause-within c =
     let pairings = ap length c.pairings-p-end.ensures.value in
     let fits : SFits w64 c.cut_of_pairing-cut.result = search rules in
     let cut = to_z-of_z w64 c.cut_of_pairing-cut.result fits ∙ c.cut_of_pairing-cut.ensures in
-    let whole = subst (λ m. IsShareWithin problem c.args.region.now c.args.prices.now p m (get_or c.args.bounds.now.terms.items p (pos 0) +ℤ c.args.bounds.now.slack)) (sym (to_z-of_z w64 c.args.most c.ranges.most)) (c.requires.bounds.is_slack.pairings p (omega (arith, pairings, c.loop-p-test.true))) in
-    subst (λ z. IsShareWithin problem c.loop-p.region c.args.prices.now p most z) (sym cut)
-    (share_within_part problem c.args.region.now c.loop-p.region c.args.prices.now p most (get_or c.args.bounds.now.terms.items p (pos 0) +ℤ c.args.bounds.now.slack) c.loop-p.invariant whole)
+    let paid = to_z w64 (of_z w64 c.args.paid) in
+    let priced = subst (λ z. IsShareWithin problem c.args.region.now c.args.prices.now z p c.args.most (get_or c.args.bounds.now.terms.items p (pos 0) +ℤ c.args.bounds.now.slack)) (sym (to_z-of_z w64 c.args.paid c.ranges.paid)) (c.requires.bounds.is_slack.pairings p (omega (arith, pairings, c.loop-p-test.true))) in
+    let whole = subst (λ m. IsShareWithin problem c.args.region.now c.args.prices.now paid p m (get_or c.args.bounds.now.terms.items p (pos 0) +ℤ c.args.bounds.now.slack)) (sym (to_z-of_z w64 c.args.most c.ranges.most)) priced in
+    subst (λ z. IsShareWithin problem c.loop-p.region c.args.prices.now paid p most z) (sym cut)
+    (share_within_part problem c.args.region.now c.loop-p.region c.args.prices.now paid p most (get_or c.args.bounds.now.terms.items p (pos 0) +ℤ c.args.bounds.now.slack) c.loop-p.invariant whole)
 
 pub fix_open-requires-clause-within : goal.fix_open-requires-clause-within
 fix_open-requires-clause-within c =
@@ -26,9 +28,11 @@ fix_open-requires-clause-within c =
     let fits : SFits w64 c.cut_of_pairing-cut.result = search rules in
     let cut = to_z-of_z w64 c.cut_of_pairing-cut.result fits ∙ c.cut_of_pairing-cut.ensures in
     let part = narrowed_then problem (CostsAtMost problem most) c.args.region.now c.loop-p.region c.fix_flown.new.region c.loop-p.invariant c.fix_flown.ensures in
-    let whole = subst (λ m. IsShareWithin problem c.args.region.now c.args.prices.now p m (get_or c.args.bounds.now.terms.items p (pos 0) +ℤ c.args.bounds.now.slack)) (sym (to_z-of_z w64 c.args.most c.ranges.most)) (c.requires.bounds.is_slack.pairings p (omega (arith, pairings, c.loop-p-test.true))) in
-    subst (λ z. IsShareWithin problem c.fix_flown.new.region c.args.prices.now p most z) (sym cut)
-    (share_within_part problem c.args.region.now c.fix_flown.new.region c.args.prices.now p most (get_or c.args.bounds.now.terms.items p (pos 0) +ℤ c.args.bounds.now.slack) part whole)
+    let paid = to_z w64 (of_z w64 c.args.paid) in
+    let priced = subst (λ z. IsShareWithin problem c.args.region.now c.args.prices.now z p c.args.most (get_or c.args.bounds.now.terms.items p (pos 0) +ℤ c.args.bounds.now.slack)) (sym (to_z-of_z w64 c.args.paid c.ranges.paid)) (c.requires.bounds.is_slack.pairings p (omega (arith, pairings, c.loop-p-test.true))) in
+    let whole = subst (λ m. IsShareWithin problem c.args.region.now c.args.prices.now paid p m (get_or c.args.bounds.now.terms.items p (pos 0) +ℤ c.args.bounds.now.slack)) (sym (to_z-of_z w64 c.args.most c.ranges.most)) priced in
+    subst (λ z. IsShareWithin problem c.fix_flown.new.region c.args.prices.now paid p most z) (sym cut)
+    (share_within_part problem c.args.region.now c.fix_flown.new.region c.args.prices.now paid p most (get_or c.args.bounds.now.terms.items p (pos 0) +ℤ c.args.bounds.now.slack) part whole)
 
 pub loop-p-preserved : goal.loop-p-preserved
 loop-p-preserved c =

@@ -15,8 +15,18 @@ pub fix_pairings-requires-clause-bounds : goal.fix_pairings-requires-clause-boun
 fix_pairings-requires-clause-bounds c =
     let problem = c.args.problem.now in
     let most = to_z w64 (of_z w64 c.args.most) in
-    use_within_part problem c.propagate.new.region c.fix_lines.new.region c.args.prices.now c.in-Some-2.bounds most c.in_ok-fix_lines-in-Some-2.ensures
-    (MatchOption-at_some (IsAllAbove problem c.propagate.new.region most) (λ bounds. IsUse problem c.propagate.new.region c.args.prices.now bounds most) c.in-Some-2.bounds c.in-Some-2.is c.in_ok-bounds_of.ensures)
+    let paid = to_z w64 (of_z w64 c.args.paid) in
+    use_within_part problem c.propagate.new.region c.fix_lines.new.region c.args.prices.now paid c.in-Some-2.bounds most c.in_ok-fix_lines-in-Some-2.ensures
+    (MatchOption-at_some (IsAllAbove problem c.propagate.new.region most) (λ bounds. IsUse problem c.propagate.new.region c.args.prices.now paid bounds most) c.in-Some-2.bounds c.in-Some-2.is c.in_ok-bounds_of.ensures)
+
+pub fix_lines-requires-clause-bounds : goal.fix_lines-requires-clause-bounds
+fix_lines-requires-clause-bounds c =
+    let problem = c.args.problem.now in
+    let most = to_z w64 (of_z w64 c.args.most) in
+    let paid = to_z w64 (of_z w64 c.args.paid) in (
+      paid,
+      MatchOption-at_some (IsAllAbove problem c.propagate.new.region most) (λ bounds. IsUse problem c.propagate.new.region c.args.prices.now paid bounds most) c.in-Some-2.bounds c.in-Some-2.is c.in_ok-bounds_of.ensures,
+    )
 
 pub returns-in_ok-fix_lines-in-Some-2 : goal.returns-in_ok-fix_lines-in-Some-2
 returns-in_ok-fix_lines-in-Some-2 c =
@@ -42,6 +52,6 @@ returns-in-None c places there =
     match_true c.in_ok-propagate.field-0
     (IsNarrowed problem Anything c.args.region.now c.propagate.new.region)
     (IsEmpty problem c.args.region.now) yes c.in_ok-propagate.ensures in
-    let above = subst (λ found. MatchOption found (IsAllAbove problem c.propagate.new.region (to_z w64 (of_z w64 c.args.most))) (λ bounds. IsUse problem c.propagate.new.region c.args.prices.now bounds (to_z w64 (of_z w64 c.args.most)))) c.in-None.is c.in_ok-bounds_of.ensures in
+    let above = subst (λ found. MatchOption found (IsAllAbove problem c.propagate.new.region (to_z w64 (of_z w64 c.args.most))) (λ bounds. IsUse problem c.propagate.new.region c.args.prices.now (to_z w64 (of_z w64 c.args.paid)) bounds (to_z w64 (of_z w64 c.args.most)))) c.in-None.is c.in_ok-bounds_of.ensures in
     subst (λ most. most <ℤ cost_of problem places) (to_z-of_z w64 c.args.most c.ranges.most)
     (above places (first.kept places there tt))

@@ -16,7 +16,7 @@ tree_of-requires-clause-first c =
     first_line c.args.problem.now c.args.table.now c.loop-k.k c.requires.table
     (omega (arith, ap length c.persons-k-end.ensures.value, c.loop-k-test.true))
 
-has : (c : goal.After-cost_without_pairings) → HasRanges c.args.problem.now c.args.table.now c.args.ranges.now (record { choices = c.loop-k.persons.items; left_open = c.empty.result; flown = c.empty-2.result; scale = c.scale_of-scale.result; idle = to_z w64 (of_z w64 c.cost_without_pairings.result); unit = c.unit_of-unit.result })
+has : (c : goal.After-cost_without_pairings) → HasRanges c.args.problem.now c.args.table.now c.args.ranges.now (record { choices = c.loop-k.persons.items; left_open = c.empty.result; flown = c.empty-2.result; least_open = 0; most_open = length c.pairings.result.now; scale = c.scale_of-scale.result; idle = to_z w64 (of_z w64 c.cost_without_pairings.result); unit = c.unit_of-unit.result })
 has c =
     let persons = ap length c.persons-k-end.ensures.value in
     record {
@@ -29,6 +29,8 @@ has c =
           ∙ c.cost_without_pairings.ensures.value ∙ idle_is c.args.problem.now;
       left_open = c.empty.ensures;
       flown = c.empty-2.ensures;
+      least_open = refl;
+      most_open = ap length c.pairings.ensures.value;
       some = c.unit_of-unit.ensures.some;
       penalties = c.unit_of-unit.ensures.penalties;
       divided = c.unit_of-unit.ensures.lines;
