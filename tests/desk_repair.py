@@ -4,7 +4,8 @@ A month is made, or one of examples/, and published as `solve` rosters it, or `p
 a person falls ill, a pairing is cancelled, another comes and another gets new times. `repair` writes the book of the
 rest. Its best roster, with what was fixed, has to be legal in the book by `roster check`; what it costs there has to be
 what `repair` tells; and at a change that outweighs all else it moves as few pairings as any legal roster, which another
-book tells that has nothing but these costs.
+book tells that has nothing but these costs. If pairings break off, it writes the bytes that it writes of the book in
+which somebody wrote by hand what is left of them.
 """
 
 import random
@@ -146,6 +147,40 @@ def answer_of(run, roster, desk, book):
     return run(desk, "plan", "--effort", "0", "-", book=book) if best.stdout.endswith(b" 15\n") else best
 
 
+def broken_by_hand(rows, name, start, rest):
+    """The book in which a pairing breaks off, written record by record: what is left of it is a pairing that begins with a
+    positioning duty of these two instants, or a person's."""
+    names = {row[1] for row in rows if row[0] in ("pairing", "duty")}
+    new = next(word for word in (f"{name[:13]}-{n}" for n in range(2, 100)) if word not in names)
+    heads = [row for row in rows if row[0] not in ("duty", "sector", "cost")]
+    duties = [list(row) for row in rows if row[0] in ("duty", "sector")]
+    if isinstance(rest, tuple):
+        pairing = next(row for row in rows if row[0] == "pairing" and row[1] == name)
+        heads.append(["pairing", new, *pairing[2:]])
+        duties.insert(0, ["duty", new, "P", new, pairing[2], *rest])
+    for row in duties:
+        if row[0] == "duty" and row[2:4] == ["P", name] and at(row[5]) >= start:
+            row[2:4] = ["P", new] if isinstance(rest, tuple) else ["C", rest]
+    return heads + duties + [row for row in rows if row[0] == "cost"]
+
+
+def breaks(run, desk, paths, book, published, start, draw):
+    """What is wrong with a repair in which pairings break off that are under way, of which there may be none."""
+    rows = rows_of(book)
+    persons = [row[1] for row in rows if row[0] == "crew"]
+    times = duties_of(rows)
+    words = []
+    for name in [name for name, duties in times.items() if name in published and duties[0][0] < start <= duties[-1][0]][:2]:
+        left = min(report for report, _ in times[name] if report >= start)
+        rest = draw.choice(((text(start), text(left)), draw.choice(persons)))
+        rows = broken_by_hand(rows, name, start, rest)
+        words += ["--broken", f"{name}:{'/'.join(rest) if isinstance(rest, tuple) else rest}"]
+    by_hand = run(desk, "repair", "--from", text(start), "-", paths[1], book=book_of(rows))
+    made = run(desk, "repair", "--from", text(start), *words, "-", paths[1], book=book)
+    refused = by_hand.returncode == 1 and made.returncode == 1 and not made.stdout
+    return not refused and (made.returncode, made.stdout, made.stderr) != (by_hand.returncode, by_hand.stdout, by_hand.stderr) and f"{words}: {made} in place of {by_hand}"
+
+
 def one_repair(tests, run, roster, desk, folder, size, seed):
     """A month, what became of it, and its repair."""
     name = f"repair of month {size} {seed}"
@@ -174,7 +209,7 @@ def one_repair(tests, run, roster, desk, folder, size, seed):
     rest = answer_of(run, roster, desk, repaired.stdout)
     if rest.returncode != 0:
         return tests.told(name, f"no roster: {rest.stdout.decode()}")
-    tests.told(name, *wrongs(run, roster, desk, paths, book, published, start, change, repaired, rest))
+    tests.told(name, *wrongs(run, roster, desk, paths, book, published, start, change, repaired, rest), breaks(run, desk, paths, book, published, start, draw))
 
 
 def records_of(run, desk, path, names=None):
@@ -272,52 +307,93 @@ def two_bases(tests, run, roster, desk, folder):
     tests.told("a pairing that the book lacks", not told.stderr.startswith(b"not in the book: K3 of KARI\n") and f"told {told.stderr}")
 
 
-# P7 is A's by the report, and breaks off at LHR: docs/REPAIR.md has the records in place of it.
-WHOLE = """period,2024-03
+# docs/REPAIR.md has the rest of the book in which P7 is A's, and breaks off at LHR.
+HEADS = """period,2024-03
 base,BAS,UTC0
 crew,A,BAS,0,0,0
 crew,B,BAS,0,0,0
-pairing,P7,BAS,1000
-duty,D1,P,P7,BAS,2024-03-10T06:00Z,2024-03-10T14:00Z
-duty,D2,P,P7,LHR,2024-03-11T06:00Z,2024-03-11T12:00Z
-duty,D3,P,P7,LHR,2024-03-12T07:00Z,2024-03-12T13:00Z
 """
 
 
+def rows_by(plan):
+    """What each person has by a report, and their duty in 28 days."""
+    lines = (line.split() for line in plan.decode().splitlines())
+    return {words[1]: (words[7:], int(words[5])) for words in lines if words[0] == "CREW"}
+
+
 def broken_off(tests, run, roster, desk, root):
-    """What is left of a pairing that breaks off is a pairing that begins with a positioning duty."""
-    page = open(f"{root}/docs/REPAIR.md", encoding="utf-8").read()
-    records = page.partition("## A pairing that breaks off")[2].partition("```text\n")[2].partition("```")[0]
+    """What is left of a pairing that breaks off is a pairing that begins with a positioning duty, or stays with somebody."""
+    page = open(f"{root}/docs/REPAIR.md", encoding="utf-8").read().partition("## A pairing that breaks off")[2]
+    records = page.partition("```text\n")[2].partition("```")[0]
+    # All words of the command but the paths.
+    words = page.partition("```sh\n")[2].partition("```")[0].split()[1:-2]
+    book = HEADS + records
     report = f"{tests.folder}/broken-off.txt"
     with open(report, "wb") as file:
-        file.write(run(roster, "solve", book=WHOLE.encode()).stdout)
-    rest = WHOLE.partition("pairing,")[0] + records
-    made = run(desk, "repair", "--from", "2024-03-10T15:00Z", "-", report, book=rest.encode())
+        file.write(run(roster, "solve", book=(HEADS + records.partition("leave,")[0]).encode()).stdout)
+
+    def made(*broken, of=book):
+        return run(desk, *words[:3], *(word for text in broken for word in ("--broken", text)), "-", report, book=of.encode())
+
+    rest = run(desk, *words, "-", report, book=book.encode())
+    rows = rest.stdout.decode().splitlines()
+    wanted = [
+        *("pairing,P7-2,BAS,1000", "duty,P7-2,P,P7-2,BAS,2024-03-10T16:00Z,2024-03-10T19:00Z"),
+        *("duty,D1,C,A,BAS,2024-03-10T06:00Z,2024-03-10T14:00Z", "duty,D2,P,P7-2,LHR,2024-03-11T06:00Z,2024-03-11T12:00Z"),
+        "duty,D3,P,P7-2,LHR,2024-03-12T07:00Z,2024-03-12T13:00Z",
+    ]
     tests.told(
         "a pairing that breaks off",
-        made.returncode != 0 and f"status {made.returncode}, {made.stderr}",
-        b"duty,D1,C,A,BAS," not in made.stdout and "D1 isn't fixed for A",
-        not made.stderr.startswith(b"fixed: 1 pairings, and 0 that stay open\n") and f"told {made.stderr}",
+        rest.returncode != 0 and f"status {rest.returncode}, {rest.stderr}",
+        sorted(row for row in rows if row[:5] in ("pairi", "duty,")) != sorted(wanted) and f"other records: {rows}",
+        not rest.stderr.startswith(b"fixed: 1 pairings, and 0 that stay open\n") and f"told {rest.stderr}",
     )
-    plan = run(desk, "plan", "-", book=made.stdout).stdout
-    rows = {line.split()[1]: line.split()[7:] for line in plan.splitlines() if line.startswith(b"CREW ")}
-    tests.told("the rest of a pairing that breaks off", rows != {b"A": [b"-"], b"B": [b"P7-2"]} and f"told {plan}")
-    late = rest.replace("2024-03-10T16:00Z,2024-03-10T19:00Z", "2024-03-10T16:00Z,2024-03-10T20:01Z")
-    told = run(desk, "why", "-", book=run(desk, "repair", "--from", "2024-03-10T15:00Z", "-", report, book=late.encode()).stdout)
-    tests.told("a positioning that is too late", b"P7-2 - nobody can fly it: REST: 9:59 of rest between D2-0 and D2 " not in told.stdout and f"told {told.stdout}")
+    plan = run(desk, "plan", "-", book=rest.stdout).stdout
+    # 3:00, 6:00 and 6:00 of B; A has 8:00 with D1.
+    tests.told("the rest of a pairing that breaks off", rows_by(plan) != {"A": (["-"], 480), "B": (["P7-2"], 900)} and f"told {plan}")
+    late = made("P7:2024-03-10T16:00Z/2024-03-10T20:01Z")
+    told = run(desk, "why", "-", book=late.stdout)
+    tests.told("a positioning that is too late", b"P7-2 - nobody can fly it: REST: 9:59 of rest between P7-2 and D2 " not in told.stdout and f"told {told.stdout}")
+    over = made("P7:2024-03-10T16:00Z/2024-03-11T06:01Z")
+    tests.told("a positioning that ends after the next report", over.returncode != 1 and f"status {over.returncode}", over.stdout and "a book", b" 8\n" not in over.stderr and f"told {over.stderr}")
     # B is there, and flies on.
-    fixed = "".join(f"{line}\n" for line in rest.splitlines() if "P7-2,BAS,1" not in line and "D2-0" not in line).replace("P,P7-2,LHR", "C,B,LHR")
-    stays = run(desk, "repair", "--from", "2024-03-10T15:00Z", "-", report, book=fixed.encode())
-    lines = run(desk, "plan", "-", book=stays.stdout).stdout.splitlines()
+    stays = made("P7:B")
+    plan = run(desk, "plan", "-", book=stays.stdout).stdout
     tests.told(
         "the rest stays with who is there",
         stays.returncode != 0 and f"status {stays.returncode}, {stays.stderr}",
-        # 6:00 with each of D2 and D3; A has 8:00 with D1.
-        lines[2:] != [b"CREW A 0 480 480 480 0 -", b"CREW B 0 720 720 720 0 -", b"OPEN -"] and f"told {lines}",
+        b"P7" in stays.stdout and "P7 is left",
+        # 6:00 with each of D2 and D3.
+        rows_by(plan) != {"A": (["-"], 480), "B": (["-"], 720)} and f"told {plan}",
     )
-    away = "\n".join(line for line in rest.splitlines() if "D2-0" not in line) + "\n"
-    told = run(desk, "repair", "--from", "2024-03-10T15:00Z", "-", report, book=away.encode())
-    tests.told("a rest that begins away from base", told.returncode != 1 and f"status {told.returncode}", not told.stdout.endswith(b" 12\n") and f"told {told.stdout}")
+    whole = made()
+    tests.told("who is under way has leave", whole.returncode != 1 and f"status {whole.returncode}", b" 13\n" not in whole.stderr and f"told {whole.stderr}")
+    # A name that is taken, and one that is too long for another number.
+    taken = made("P7:2024-03-10T16:00Z/2024-03-10T19:00Z", of=book + "duty,P7-2,C,B,BAS,2024-03-01T06:00Z,2024-03-01T08:00Z\n")
+    tests.told("a name that a duty has", b"\npairing,P7-3,BAS,1000\n" not in taken.stdout and f"told {taken}")
+    with open(report, "rb") as file:
+        long = file.read().replace(b"P7", b"ABCDEFGHIJKLMNOP")
+    with open(report, "wb") as file:
+        file.write(long)
+    long = made("ABCDEFGHIJKLMNOP:2024-03-10T16:00Z/2024-03-10T19:00Z", of=book.replace("P7", "ABCDEFGHIJKLMNOP"))
+    tests.told("a long name", b"\npairing,ABCDEFGHIJKLM-2,BAS,1000\n" not in long.stdout and f"told {long}")
+
+
+def wrong_breaks(tests, run, desk, folder):
+    """Words of `--broken` that say nothing of a book."""
+    book, report = (f"{folder}/examples/month-of-two-bases.{end}" for end in ("csv", "txt"))
+    # On 5 March at 7:00 ANA has flown L1-A, and L1-B is left.
+    times = "2024-03-05T06:00Z/2024-03-05T07:00Z"
+    for broken, start, told in (
+        ("L1", "2024-03-05T07:00Z", b"error: --broken wants"),
+        ("L1:2024-03-05T07:00Z/", "2024-03-05T07:00Z", b"error: --broken wants"),
+        ("L9:ANA", "2024-03-05T07:00Z", b"error: the book has no such pairing"),
+        ("L1:NONE", "2024-03-05T07:00Z", b"error: the book has no such person"),
+        (f"L1:{times}", "2024-03-04T00:00Z", b"error: --broken wants"),
+        (f"L1:{times}", "2024-03-10T00:00Z", b"error: --broken wants"),
+    ):
+        refused = run(desk, "repair", "--from", start, "--broken", broken, book, report)
+        tests.told(f"--broken {broken}", refused.returncode != 2 and f"status {refused.returncode}", not refused.stderr.startswith(told) and f"told {refused.stderr}")
 
 
 def repairs(tests, run, roster, desk, folder, first, count):

@@ -3,11 +3,13 @@
 //!
 //! - `telling`: what is told of a roster, and the records of a report
 //! - `pages`: what is told of the records of a book
+//! - `breaking`: the book in which pairings break off
 //! - `mending`: the book of a repair
 //! - `making`: the book of the tables of a folder
 //! - `carrying`: what the next month has of a month
 #![tactic(auto)]
 
+mod breaking;
 mod carrying;
 mod making;
 mod mending;

@@ -3,12 +3,12 @@
 ghost use Rattle.std.specs.Prelude.{◌≡◌, false};
 ghost use Rattle.roster_watched.specs.Watch.{has_failed};
 
+use crate::breaking::{broken_off, unmade};
 use crate::telling::{Noted, Untold, push_unknown, refuse, refused, write};
-use roster_book::{Book, BookFault, Command, read_book};
+use roster_book::{BookFault, Command, read_book};
 use roster_desk_arguments::RepairLine;
-use roster_desk_fault::fault_text;
 use roster_desk_given::Status;
-use roster_desk_repair::{RepairedBook, Unrepaired, repair};
+use roster_desk_repair::{RepairedBook, repair};
 use roster_desk_repair_judged::Terms;
 use roster_desk_reports::read_known_roster;
 use roster_desk_words::push_all;
@@ -137,25 +137,38 @@ fn notes_of(
     Ok(notes)
 }
 
-/// The repair of a book that was read, of the report at the path.
+/// The repair of the book, whose bytes are the text, of the report at the path.
 fn repaired<'a>(
     alloc: Global,
     line: &RepairLine<'a>,
     terms: &Terms,
     text: &[u8],
-    book: &Book,
+    book: &Problem,
     report: &[u8],
 ) -> Result<RepairedBook, Untold<'a>> {
-    let published = match read_known_roster(alloc, &book.problem, report) {
+    let published = match read_known_roster(alloc, book, report) {
         Ok(published) => published,
         Err(fault) => return Err(refused(line.report, fault)),
     };
-    match repair(alloc, text, &book.problem, published.as_slice(), terms) {
+    match repair(alloc, text, book, published.as_slice(), terms) {
         Ok(made) => Ok(made),
-        Err(Unrepaired::At { text, .. }) => Err(Untold::Faulty(fault_text(alloc, &text)?)),
-        Err(Unrepaired::Other) => Err(Untold::Unlike),
-        Err(Unrepaired::Memory) => Err(Untold::Memory),
+        Err(why) => Err(unmade(alloc, why)),
     }
+}
+
+/// The text of the book of the rest, and what standard error is told of it.
+fn rest_of<'a>(
+    alloc: Global,
+    line: &RepairLine<'a>,
+    terms: &Terms,
+    text: &[u8],
+    book: Problem,
+    report: &[u8],
+) -> Result<(Vec<u8>, Vec<u8>), Untold<'a>> {
+    let (text, book) = broken_off(alloc, line, terms.from, text, book)?;
+    let made = repaired(alloc, line, terms, &text, &book, report)?;
+    let notes = notes_of(alloc, &book, report, &made)?;
+    Ok((made.text, notes))
 }
 
 /// Writes the book that repairs the one among the inputs, or the line of the book's first fault.
@@ -173,9 +186,9 @@ pub fn mend<'a, W: Write>(
     let mut reader = Watched::new(text);
     let status = match read_book(alloc, &mut reader, Command::Check) {
         Ok(book) => {
-            let made = repaired(alloc, line, &terms, text, &book, report)?;
-            notes = notes_of(alloc, &book.problem, report, &made)?;
-            write(made.text.as_slice(), writer)
+            let (rest, told) = rest_of(alloc, line, &terms, text, book.problem, report)?;
+            notes = told;
+            write(rest.as_slice(), writer)
         }
         Err(BookFault::At { row, code }) => refuse(alloc, row, code, writer),
         Err(BookFault::Device) => Status::ReadFailed,

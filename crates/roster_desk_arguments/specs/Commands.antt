@@ -118,8 +118,9 @@ begun_repair_app =
 abbrev pub repair_app : App
 repair_app =
     with_rule
+    (with_rule
     (with_rule begun_repair_app (usual_rule (codes "change") 0 MOST_UNITS (codes "500")))
-    (named_rule (codes "notice"))
+    (named_rule (codes "notice"))) (lists_rule (codes "broken"))
 
 abbrev pub month_app : App
 month_app =

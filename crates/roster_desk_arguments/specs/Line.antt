@@ -74,13 +74,15 @@ pub record IsPlanIn (rows : List Row) (plan : PlanLine) : Type 0 where
   pub keep : first_of (codes "keep") rows ≡ option_map (λ path. path.now) plan.keep
   pub progress : IsFlagIn rows (codes "progress") plan.progress
 
--- each path of the repair is the value of its own argument, and so is each text and number
+-- each path of the repair is the value of its own argument, and so is each text and number; what breaks off are
+-- all values of theirs
 pub record IsRepairIn (rows : List Row) (repair : RepairLine) : Type 0 where
   pub book : first_of (codes "book") rows ≡ Some repair.book.now
   pub report : first_of (codes "report") rows ≡ Some repair.report.now
   pub begin : first_of (codes "from") rows ≡ Some repair.from.now
   pub change : IsNumberIn rows (codes "change") 0 MOST_UNITS 500 repair.change
   pub notice : first_of (codes "notice") rows ≡ option_map (λ text. text.now) repair.notice
+  pub broken : map (λ text. text.now) repair.broken.items ≡ unwrap_or (all_of (codes "broken") rows) []
 
 -- each path, text and number of the book is the value of its own argument, and its bases are all values of theirs
 pub record IsBookIn (rows : List Row) (book : BookLine) : Type 0 where

@@ -35,6 +35,7 @@ pub(crate) fn asked<'a>(
     };
     match command {
         "book" => made(alloc, found),
+        "repair" => repaired(alloc, found),
         _ => Ok(asked_of(command, found)),
     }
 }
@@ -55,7 +56,6 @@ fn asked_of<'a>(command: &str, found: &ArgMatches<'a>) -> Option<Line<'a>>
         "fault" => of_records(found, Page::Fault),
         "warn" => of_records(found, Page::Warn),
         "fair" => of_records(found, Page::Fair),
-        "repair" => repaired(found),
         "carry" => carried(found),
         _ => None,
     }
@@ -247,22 +247,27 @@ fn change(found: &ArgMatches<'_>) -> usize
 }
 
 /// The repair in the matches.
-fn repaired<'a>(found: &ArgMatches<'a>) -> Option<Line<'a>>
-    ensures named { IfSome result (λ line. spelling line ≡ codes "repair") }
-    ensures asks { IfSome result (AsksIn (rows_of (found_of found.now))) }
+fn repaired<'a>(alloc: Global, found: &ArgMatches<'a>) -> Result<Option<Line<'a>>, AllocError>
+    ensures named { IfOk result (λ made. IfSome made (λ line. spelling line ≡ codes "repair")) }
+    ensures asks { IfOk result (λ made. IfSome made (AsksIn (rows_of (found_of found.now)))) }
 {
-    let book = value(found, "book")?;
-    let report = value(found, "report")?;
-    let from = value(found, "from")?;
+    let (Some(book), Some(report)) = (value(found, "book"), value(found, "report")) else {
+        return Ok(None);
+    };
+    let Some(from) = value(found, "from") else {
+        return Ok(None);
+    };
     let change = change(found);
     let notice = value(found, "notice");
-    Some(Line::Repair(RepairLine {
+    let broken = values(alloc, found, "broken")?;
+    Ok(Some(Line::Repair(RepairLine {
         book,
         report,
         from,
         change,
         notice,
-    }))
+        broken,
+    })))
 }
 
 /// The book in the matches.

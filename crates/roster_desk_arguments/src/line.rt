@@ -129,7 +129,7 @@ pub struct PageLine<'a> {
 }
 
 /// A repair of a book.
-#[derive(Clone, Copy)]
+#[derive(Drop)]
 pub struct RepairLine<'a> {
     /// The path of the book, or `-`.
     pub book: &'a str,
@@ -141,6 +141,8 @@ pub struct RepairLine<'a> {
     pub change: usize,
     /// The text of what short notice is and what it costs, if one is given.
     pub notice: Option<&'a str>,
+    /// The texts of pairings that break off, and of what becomes of what is left of them.
+    pub broken: Vec<&'a str>,
 }
 
 /// A book of the tables of a folder.

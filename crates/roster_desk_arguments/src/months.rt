@@ -3,8 +3,8 @@
 ghost use Rattle.std.specs.Prelude.{◌≡◌, codes, false, IfOk};
 ghost use Rattle.clap.specs.Words.{app_of, rule_of};
 ghost use Rattle.clap.specs.declared.builder.command.Command.TheViews as views;
-ghost use Rattle.roster_desk_arguments.specs.Commands.{begun_repair_app, book_app, carry_app, month_app};
-ghost use Rattle.roster_desk_arguments.specs.Commands.{number_rule, repair_app, usual_rule};
+ghost use Rattle.roster_desk_arguments.specs.Commands.{begun_repair_app, book_app, carry_app, lists_rule};
+ghost use Rattle.roster_desk_arguments.specs.Commands.{month_app, number_rule, repair_app, usual_rule};
 ghost use Rattle.roster_model.specs.declared.limits.TheConstants.{MOST_UNITS};
 
 use crate::args::{book, command, demanded, lists, named, needed, needed_report, number, with};
@@ -32,7 +32,8 @@ fn begun_repair<'a>(alloc: Global) -> Result<Command<'a>, AllocError>
         "Writes the book of a month's rest: what was flown is fixed, and moves cost something",
         "Examples:
   roster-desk repair --from 2024-06-12T06:00Z book.csv plan.txt > rest.csv
-  roster-desk repair --from 2024-06-12T06:00Z --change 800 --notice 2d:2000 book.csv plan.txt",
+  roster-desk repair --from 2024-06-12T06:00Z --change 800 --notice 2d:2000 book.csv plan.txt
+  roster-desk repair --from 2024-06-12T06:00Z --broken OUT-BACK:ANNA book.csv plan.txt",
     );
     let repair = with(repair, book(alloc))?;
     let repair = with(repair, needed_report(alloc, "report"))?;
@@ -47,21 +48,31 @@ fn begun_repair<'a>(alloc: Global) -> Result<Command<'a>, AllocError>
     )
 }
 
-/// `repair`, with what moves cost, too.
+/// A pairing that breaks off.
+fn broken<'a>(alloc: Global) -> Arg<'a>
+    ensures rule { rule_of result ≡ lists_rule (codes "broken") }
+    ensures local { result.global ≡ false }
+{
+    let help =
+        "A pairing that breaks off, and who has the rest or the times of a duty that brings somebody there, \
+                as P7:BEN or P7:2024-06-12T16:00Z/2024-06-12T19:00Z; more than one may be named";
+    lists(alloc, "broken", "PAIRING:REST", help)
+}
+
+/// `repair`, with what moves cost, and what breaks off, too.
 pub(crate) fn repair<'a>(alloc: Global) -> Result<Command<'a>, AllocError>
     ensures app { IfOk result (λ c. app_of c ≡ repair_app) }
     ensures local { IfOk result (λ c. (views.out-Command c).has_globals ≡ false) }
 {
     let repair = with(begun_repair(alloc)?, change(alloc))?;
-    with(
-        repair,
-        named(
-            alloc,
-            "notice",
-            "TIME:UNITS",
-            "What it costs instead if the pairing reports within this time, as 2d:2000 or 36h:2000",
-        ),
-    )
+    let notice = named(
+        alloc,
+        "notice",
+        "TIME:UNITS",
+        "What it costs instead if the pairing reports within this time, as 2d:2000 or 36h:2000",
+    );
+    let repair = with(repair, notice)?;
+    with(repair, broken(alloc))
 }
 
 /// What each minute costs by which a target is missed.

@@ -1,8 +1,5 @@
 //! What each code says of a record, in the words of the table of codes.
 
-use roster_model::limits::MOST_LINES;
-use std::alloc::{AllocError, Global};
-
 /// What the code, from 1 to 14, says of the record.
 pub(crate) fn sentence(code: u8) -> &'static str {
     match code {
@@ -40,11 +37,4 @@ pub(crate) fn sentence(code: u8) -> &'static str {
         }
         _ => "gives a pairing that has no duty",
     }
-}
-
-/// What code 15 says of the record.
-pub(crate) fn crowded_sentence(alloc: Global) -> Result<String, AllocError> {
-    format!(in alloc;
-        "gives a person who has more than {MOST_LINES} legal sets of pairings, the empty one counted"
-    )
 }

@@ -18,6 +18,9 @@ const MANY_REPORTS: usize = 8;
 /// Duties are told of if more than so many times as many touch the night as would if their times were local.
 const TIMES_MORE: usize = 3;
 
+/// How many leaves of a base have to be of whole days in UTC and not by its clocks before it is told, at least.
+const MANY_LEAVES: usize = 5;
+
 /// The minutes of a day, and those of it before its night's end and begin.
 const DAY: i64 = 1440;
 
@@ -150,19 +153,56 @@ fn counts_of(rows: &[Record], pairings: &[&[u8]], days: &BaseDays) -> Counts {
     counts
 }
 
-/// The duties of the base's pairings; none if its clocks aren't known, or show UTC.
-fn counts_at(alloc: Global, rows: &[Record], row: &Record) -> Result<Counts, AllocError> {
+/// Whether the clocks of the base show midnight.
+fn is_midnight(days: &BaseDays, minute: Minute) -> bool {
+    match days.day_of(minute) {
+        Some(day) if day < days.days() => days.mid(day) == minute,
+        _ => false,
+    }
+}
+
+/// Whether the record is leave of a person of the base.
+fn is_leave_at(rows: &[Record], row: &Record, base: &[u8]) -> bool {
+    row.is(Kind::Leave)
+        && rows.iter().any(|person| person.has(Kind::Crew, 1, row.field(1))
+            && person.field(2) == base)
+}
+
+/// How many leaves the base's persons have that aren't whole days by its clocks, if all are whole days in UTC;
+/// else none.
+fn days_in_utc(rows: &[Record], base: &[u8], days: &BaseDays) -> usize {
+    let mut others = 0usize;
+    for row in rows {
+        if !is_leave_at(rows, row, base) {
+            continue;
+        }
+        let Some(span) = span_of(row) else {
+            return 0;
+        };
+        if span.from.get() % DAY != 0 || span.to.get() % DAY != 0 {
+            return 0;
+        }
+        if !is_midnight(days, span.from) {
+            others = others.saturating_add(1);
+        }
+    }
+    others
+}
+
+/// The days of the base's clocks, if they are known, and don't show UTC.
+fn days_off_utc(
+    alloc: Global,
+    rows: &[Record],
+    row: &Record,
+) -> Result<Option<BaseDays>, AllocError> {
     let seen = Seen {
         rows,
         at: rows.len(),
         row,
     };
     match seen.days_at(alloc, row.field(1))? {
-        Some(days) if !shows_utc(&days) => {
-            let pairings = pairings_of(alloc, rows, row.field(1))?;
-            Ok(counts_of(rows, pairings.as_slice(), &days))
-        }
-        _ => Ok(Counts::NONE),
+        Some(days) if !shows_utc(&days) => Ok(Some(days)),
+        _ => Ok(None),
     }
 }
 
@@ -192,14 +232,36 @@ fn local_times(alloc: Global, counts: Counts) -> Result<Option<String>, AllocErr
     Ok(None)
 }
 
-/// Warnings of bases whose duties lie at night as if their times were local.
+/// Why the times of the leaves are likely local ones: they are whole days only if they are.
+fn local_days(alloc: Global, others: usize) -> Result<Option<String>, AllocError> {
+    if others < MANY_LEAVES {
+        return Ok(None);
+    }
+    let why = format!(in alloc;
+        "all leaves of its persons are whole days in UTC, and {others} are none by its clocks; local times may \
+         stand for UTC"
+    )?;
+    Ok(Some(why))
+}
+
+/// Warnings of bases whose duties lie at night, or whose leaves are days in UTC, as if their times were local.
 pub(crate) fn nights(alloc: Global, rows: &[Record]) -> Result<Vec<Warning>, AllocError> {
     let mut warnings = Vec::new(alloc);
     for (at, row) in rows.iter().enumerate() {
-        if row.is(Kind::Base) {
-            if let Some(why) = local_times(alloc, counts_at(alloc, rows, row)?)? {
-                warn(&mut warnings, alloc, at, why.as_str())?;
-            }
+        if !row.is(Kind::Base) {
+            continue;
+        }
+        let Some(days) = days_off_utc(alloc, rows, row)? else {
+            continue;
+        };
+        let pairings = pairings_of(alloc, rows, row.field(1))?;
+        let counts = counts_of(rows, pairings.as_slice(), &days);
+        let why = match local_times(alloc, counts)? {
+            Some(why) => Some(why),
+            None => local_days(alloc, days_in_utc(rows, row.field(1), &days))?,
+        };
+        if let Some(why) = why {
+            warn(&mut warnings, alloc, at, why.as_str())?;
         }
     }
     Ok(warnings)

@@ -1,6 +1,6 @@
 //! The faults of a book in words.
 
-use crate::codes::{crowded_sentence, sentence};
+use crate::codes::sentence;
 use crate::crowded::first_crowded;
 use crate::finding::Finding;
 use crate::judging::{First, NO_PERIOD, Told, field_name, find_faults, first_of, read};
@@ -9,14 +9,12 @@ use crate::rows::{Record, push_record, read_rows};
 use crate::seen::Other;
 use roster_desk_sheets::push_field;
 use roster_desk_words::push_all;
+use roster_model::limits::MOST_LINES;
 use roster_problem::Problem;
 use std::alloc::{AllocError, Global};
 
 /// How many faults are told, at most.
 pub(crate) const MOST_TOLD: usize = 20;
-
-/// The code of a person with too many legal sets.
-const CROWDED: u8 = 15;
 
 /// Appends a line of a label and a text.
 fn push_line(out: &mut Vec<u8>, label: &[u8], text: &[u8]) -> Result<(), AllocError> {
@@ -113,20 +111,16 @@ fn place_of(rows: &[Record], kind: Kind, before: usize) -> Option<usize> {
     None
 }
 
-/// Appends who has too many legal sets for `solve`: the person of the record at the place.
-fn push_too_many(
-    alloc: Global,
-    out: &mut Vec<u8>,
-    at: usize,
-    row: &Record,
-) -> Result<(), AllocError> {
-    let (number, line) = (at.saturating_add(1), row.line());
-    let why = crowded_sentence(alloc)?;
+/// Appends who has too many legal sets for `solve`: the person of the record.
+fn push_too_many(alloc: Global, out: &mut Vec<u8>, row: &Record) -> Result<(), AllocError> {
+    let line = row.line();
     let head = format!(in alloc; "NOT FOR SOLVE\n  line    {line}\n  record  ")?;
     out.extend_from_slice(head.as_bytes())?;
     push_record(alloc, out, row)?;
+    out.extend_from_slice(b"\n  why     `roster solve` can't list all legal sets of ")?;
+    push_field(alloc, out, row.field(1))?;
     let rest = format!(in alloc;
-        "\n  why     the record {why}: `roster solve` answers FAULT {number} {CROWDED}; others may have as many\n  \
+        ": there are more than {MOST_LINES}, the empty one counted; others may have as many\n  \
          wanted  `roster-desk plan`, which takes this book; or a book for a part of the month or base\n"
     )?;
     out.extend_from_slice(rest.as_bytes())
@@ -143,7 +137,7 @@ fn push_crowded(
         return Ok(());
     };
     match place_of(rows, Kind::Crew, k) {
-        Some(at) if at < rows.len() => push_too_many(alloc, out, at, &rows[at]),
+        Some(at) if at < rows.len() => push_too_many(alloc, out, &rows[at]),
         _ => Ok(()),
     }
 }

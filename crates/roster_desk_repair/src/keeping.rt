@@ -1,6 +1,6 @@
-//! Which records of a book stay in a repair, and what they say.
+//! Which records of a book stay in a repair, which ones are left of a pairing that breaks off, and what they say.
 
-use roster_desk_repair_judged::Terms;
+use roster_desk_repair_judged::{Break, Rest, Terms, is_left};
 use roster_desk_reports::{pairing_named, person_named};
 use roster_problem::{Holder, Problem};
 
@@ -71,6 +71,39 @@ impl<'a> Kept<'a> {
                 self.fixed.get(p) == Some(&None) && owner != Some(k)
             }
             _ => true,
+        }
+    }
+}
+
+/// A book, a pairing of it that breaks off, and what is called so that is left of it.
+#[derive(Clone, Copy)]
+pub(crate) struct Off<'a> {
+    /// The book.
+    pub(crate) book: &'a Problem,
+    /// The pairing.
+    pub(crate) broken: &'a Break,
+    /// The name of what is left, if it is a pairing, and of the duty that brings somebody there.
+    pub(crate) name: &'a [u8],
+}
+
+impl<'a> Off<'a> {
+    /// Whether the duty of the name is left of the pairing.
+    pub(crate) fn has_left(&self, name: &[u8]) -> bool {
+        let duties = self.book.duties();
+        match duties.iter().find(|duty| duty.id.as_bytes() == name) {
+            Some(duty) => is_left(self.broken, duty),
+            None => false,
+        }
+    }
+
+    /// The name of the person with whom the rest stays, if it does.
+    pub(crate) fn person(&self) -> Option<&'a [u8]> {
+        let Rest::Stays { person } = self.broken.rest else {
+            return None;
+        };
+        match self.book.persons().get(person) {
+            Some(person) => Some(person.id.as_bytes()),
+            None => None,
         }
     }
 }

@@ -57,12 +57,21 @@ impl From<AllocError> for Unrepaired {
 }
 
 /// The book that is read from the text.
-fn book_of(alloc: Global, text: &[u8]) -> Result<Book, BookFault>
+pub(crate) fn book_of(alloc: Global, text: &[u8]) -> Result<Book, BookFault>
     ensures faultless { IfOk result (λ _. first_fault Check (records_of text.now) ≡ None) }
     ensures problem { IfOk result (λ book. book.problem ≡ problem_of (records_of text.now)) }
 {
     let mut reader = Watched::new(text);
     read_book(alloc, &mut reader, Command::Check)
+}
+
+/// Why there is no book of the text.
+pub(crate) fn unread(text: Vec<u8>, fault: BookFault) -> Unrepaired {
+    match fault {
+        BookFault::At { row, code } => Unrepaired::At { text, row, code },
+        BookFault::Memory => Unrepaired::Memory,
+        BookFault::Device => Unrepaired::Other,
+    }
 }
 
 /// What the published roster costs in the book more than its rest in the repaired one, if that is a number of
@@ -132,8 +141,6 @@ pub fn repair(
     let text = repaired_text(alloc, text, &kept)?;
     match book_of(alloc, &text) {
         Ok(read) => made(alloc, book, published, terms, fixed, text, read.problem),
-        Err(BookFault::At { row, code }) => Err(Unrepaired::At { text, row, code }),
-        Err(BookFault::Memory) => Err(Unrepaired::Memory),
-        Err(BookFault::Device) => Err(Unrepaired::Other),
+        Err(fault) => Err(unread(text, fault)),
     }
 }

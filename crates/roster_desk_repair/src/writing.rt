@@ -1,11 +1,12 @@
-//! The text of a repair, on `csv`.
+//! The text of a repair, and of a book in which a pairing breaks off, on `csv`.
 
 ghost use Rattle.std.specs.Prelude.{◌<◌, length};
 
-use crate::keeping::{Fate, Kept};
+use crate::keeping::{Fate, Kept, Off};
 use csv::{ByteRecord, ReaderBuilder, Writer, WriterBuilder};
-use roster_desk_repair_judged::price_at;
+use roster_desk_repair_judged::{Rest, price_at, station_of};
 use roster_desk_reports::pairing_named;
+use roster_desk_words::instant;
 use std::alloc::{AllocError, Global};
 
 /// The letter of a fixed duty.
@@ -72,6 +73,33 @@ fn field(fields: &ByteRecord, i: usize) -> &[u8] {
 }
 
 impl Draft {
+    /// No record.
+    fn new(alloc: Global) -> Draft {
+        Draft {
+            heads: Records::new(alloc),
+            duties: Records::new(alloc),
+            costs: Records::new(alloc),
+        }
+    }
+
+    /// Puts the record of a duty that is another's: that of the name, of the kind of the letter.
+    fn push_turned(
+        &mut self,
+        fields: &ByteRecord,
+        letter: &[u8],
+        name: &[u8],
+    ) -> Result<(), AllocError> {
+        self.duties.push(&[
+            field(fields, 0),
+            field(fields, 1),
+            letter,
+            name,
+            field(fields, 4),
+            field(fields, 5),
+            field(fields, 6),
+        ])
+    }
+
     /// Takes the record of a duty.
     fn take_duty(&mut self, kept: &Kept<'_>, fields: &ByteRecord) -> Result<(), AllocError> {
         let pairing = match field(fields, 2) == OF_PAIRING {
@@ -84,15 +112,7 @@ impl Draft {
         match kept.fate(p) {
             Fate::Stays => self.duties.copy(fields),
             Fate::Leaves => Ok(()),
-            Fate::Fixed(person) => self.duties.push(&[
-                field(fields, 0),
-                field(fields, 1),
-                OF_PERSON,
-                person,
-                field(fields, 4),
-                field(fields, 5),
-                field(fields, 6),
-            ]),
+            Fate::Fixed(person) => self.push_turned(fields, OF_PERSON, person),
         }
     }
 
@@ -149,6 +169,65 @@ impl Draft {
         ])
     }
 
+    /// Takes a record of a book in which a pairing breaks off.
+    fn take_off(&mut self, off: &Off<'_>, fields: &ByteRecord) -> Result<(), AllocError> {
+        let kind = field(fields, 0);
+        if kind == b"duty".as_slice() {
+            if !off.has_left(field(fields, 1)) {
+                return self.duties.copy(fields);
+            }
+            return match off.person() {
+                Some(person) => self.push_turned(fields, OF_PERSON, person),
+                None => self.push_turned(fields, OF_PAIRING, off.name),
+            };
+        }
+        if kind == b"sector".as_slice() {
+            return self.duties.copy(fields);
+        }
+        if kind == b"cost".as_slice() {
+            return self.costs.copy(fields);
+        }
+        self.heads.copy(fields)
+    }
+
+    /// Puts the duty that brings somebody to what is left of the pairing, if that is a pairing. No duty of it
+    /// stands before it.
+    fn push_positioning(&mut self, alloc: Global, off: &Off<'_>) -> Result<(), AllocError> {
+        let Rest::Positioned { report, release } = off.broken.rest else {
+            return Ok(());
+        };
+        let (report, release) = (instant(alloc, report)?, instant(alloc, release)?);
+        self.duties.push(&[
+            b"duty",
+            off.name,
+            OF_PAIRING,
+            off.name,
+            station_of(off.book.duties(), off.broken.pairing),
+            report.as_bytes(),
+            release.as_bytes(),
+        ])
+    }
+
+    /// Puts the pairing that is left, if it is one, behind all others.
+    fn push_left(&mut self, alloc: Global, off: &Off<'_>) -> Result<(), AllocError>
+        requires { off.now.broken.now.pairing < length off.now.book.now.pairings }
+    {
+        let Rest::Positioned { .. } = off.broken.rest else {
+            return Ok(());
+        };
+        let penalty = off
+            .book
+            .pairing(off.broken.pairing)
+            .penalty
+            .to_string(alloc)?;
+        self.heads.push(&[
+            b"pairing",
+            off.name,
+            station_of(off.book.duties(), off.broken.pairing),
+            penalty.as_bytes(),
+        ])
+    }
+
     /// The whole text.
     fn finish(self) -> Result<Vec<u8>, AllocError> {
         let mut text = self.heads.finish()?;
@@ -160,31 +239,51 @@ impl Draft {
     }
 }
 
-/// The text of the repair of the book, whose bytes are the text.
-pub(crate) fn repaired_text(
-    alloc: Global,
-    text: &[u8],
-    kept: &Kept<'_>,
-) -> Result<Vec<u8>, AllocError> {
+/// The records of a book, whose bytes are the text.
+fn records_in(alloc: Global, text: &[u8]) -> Result<Vec<ByteRecord>, AllocError> {
     let reader = ReaderBuilder::new()
         .has_headers(false)
         .flexible(true)
         .from_reader(alloc, text);
-    let mut draft = Draft {
-        heads: Records::new(alloc),
-        duties: Records::new(alloc),
-        costs: Records::new(alloc),
-    };
+    let mut records = Vec::new(alloc);
     for record in reader.into_byte_records() {
         // Bytes that are in memory are read without a fault of a device, and a record may have any number
         // of fields of any bytes: so nothing but want of memory is left.
         let Ok(fields) = record else {
             return Err(AllocError);
         };
-        draft.take(kept, &fields)?;
+        records.push(fields)?;
+    }
+    Ok(records)
+}
+
+/// The text of the repair of the book, whose bytes are the text.
+pub(crate) fn repaired_text(
+    alloc: Global,
+    text: &[u8],
+    kept: &Kept<'_>,
+) -> Result<Vec<u8>, AllocError> {
+    let mut draft = Draft::new(alloc);
+    let records = records_in(alloc, text)?;
+    for fields in &records {
+        draft.take(kept, fields)?;
     }
     for p in 0..kept.book.pairings().len() {
         draft.push_owner(alloc, kept, p)?;
     }
+    draft.finish()
+}
+
+/// The text of the book in which a pairing breaks off, of the book whose bytes are the text.
+pub(crate) fn broken_text(alloc: Global, text: &[u8], off: &Off<'_>) -> Result<Vec<u8>, AllocError>
+    requires { off.now.broken.now.pairing < length off.now.book.now.pairings }
+{
+    let mut draft = Draft::new(alloc);
+    draft.push_positioning(alloc, off)?;
+    let records = records_in(alloc, text)?;
+    for fields in &records {
+        draft.take_off(off, fields)?;
+    }
+    draft.push_left(alloc, off)?;
     draft.finish()
 }

@@ -46,7 +46,7 @@ fn kept_holder(nobody: u16, fixed: &[Option<u16>], holder: Holder) -> Option<Hol
 }
 
 /// Whether the duty is the other one with this holder.
-fn is_kept(before: &Duty, after: &Duty, holder: Holder) -> bool
+pub(crate) fn is_kept(before: &Duty, after: &Duty, holder: Holder) -> bool
     ensures { IsTrue result
         → unrowed after.now ≡ record before.now { holder = holder_of holder; row = 0 } }
 {

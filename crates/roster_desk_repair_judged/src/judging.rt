@@ -13,7 +13,7 @@ use roster_model::limits::MOST_PAIRINGS;
 use roster_problem::{Pairing, Problem, open_number};
 
 /// Whether two pairings are the same.
-fn is_same_pairing(a: &Pairing, b: &Pairing) -> bool
+pub(crate) fn is_same_pairing(a: &Pairing, b: &Pairing) -> bool
     ensures { IsTrue result → unnumbered a.now ≡ unnumbered b.now }
 {
     a.id.as_bytes() == b.id.as_bytes() && a.base == b.base && a.penalty == b.penalty
@@ -44,7 +44,7 @@ fn are_staying(fixed: &[Option<u16>], before: &[Pairing], after: &[Pairing]) -> 
 }
 
 /// Whether the persons of both books are the same.
-fn are_same_persons(book: &Problem, repaired: &Problem) -> bool
+pub(crate) fn are_same_persons(book: &Problem, repaired: &Problem) -> bool
     ensures count { IsTrue result → length repaired.now.persons ≡ length book.now.persons }
     ensures same { IsTrue result
         → (k : ℕ) → k < length book.now.persons → IsSamePerson book.now repaired.now k }

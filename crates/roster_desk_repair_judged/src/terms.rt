@@ -31,7 +31,7 @@ pub(crate) fn minutes(at: Minute) -> u64
 }
 
 /// Whether the duty is one of the pairing at place `p`.
-fn is_of(duty: &Duty, p: usize) -> bool
+pub(crate) fn is_of(duty: &Duty, p: usize) -> bool
     ensures { result ≡ is_held_by_pairing p duty.now.holder }
 {
     match duty.holder {

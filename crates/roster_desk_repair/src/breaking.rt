@@ -1,0 +1,98 @@
+//! A text that is a book in which a pairing breaks off.
+
+ghost use Rattle.std.specs.Prelude.{◌≡◌, ◌<◌, IfOk, None, length};
+ghost use Rattle.roster_model.specs.Answer.{records_of};
+ghost use Rattle.roster_model.specs.Faults.{first_fault};
+ghost use Rattle.roster_model.specs.Problem.{problem_of};
+ghost use Rattle.roster_model.specs.Record.{Check};
+ghost use Rattle.roster_desk_repair.specs.Made.{IsBroken};
+
+use crate::keeping::Off;
+use crate::repairing::{Unrepaired, book_of, unread};
+use crate::writing::broken_text;
+use roster_desk_repair_judged::{Break, is_broken_off};
+use roster_desk_reports::pairing_named;
+use roster_model::limits::MOST_NAME_BYTES;
+use roster_problem::Problem;
+use std::alloc::{AllocError, Global};
+
+/// What is left of a name if a number is put behind it.
+const HEAD_BYTES: usize = MOST_NAME_BYTES - 3;
+
+/// A book in which what is left of a pairing is another's.
+#[derive(Drop)]
+pub struct BrokenBook {
+    /// Its text.
+    pub text: Vec<u8>,
+    /// What it asks to be rostered.
+    pub problem: Problem,
+    /// What is called so: what is left, if that is a pairing, and the duty that brings somebody there.
+    pub name: Vec<u8>,
+}
+
+/// Whether the book has neither a pairing nor a duty of the name.
+fn is_free(book: &Problem, name: &[u8]) -> bool {
+    let duties = book.duties();
+    pairing_named(book, name).is_none() && !duties.iter().any(|duty| duty.id.as_bytes() == name)
+}
+
+/// The name with a number behind it that the book doesn't have yet, if one is free.
+fn free_name(alloc: Global, book: &Problem, name: &[u8]) -> Result<Vec<u8>, AllocError> {
+    let (head, _) = name.split_at(name.len().min(HEAD_BYTES));
+    for number in 2..100u32 {
+        let tail = format!(in alloc; "-{number}")?;
+        let mut free = Vec::from_slice(alloc, head)?;
+        free.extend_from_slice(tail.as_bytes())?;
+        if is_free(book, &free) {
+            return Ok(free);
+        }
+    }
+    Vec::from_slice(alloc, name)
+}
+
+/// The book of the text, if it is the one in which the pairing breaks off.
+fn broken(
+    book: &Problem,
+    off: &Break,
+    name: Vec<u8>,
+    text: Vec<u8>,
+    problem: Problem,
+) -> Result<BrokenBook, Unrepaired>
+    requires pairing { off.now.pairing < length book.now.pairings }
+    requires faultless { first_fault Check (records_of text.items) ≡ None }
+    requires problem { problem ≡ problem_of (records_of text.items) }
+    ensures { IfOk result (IsBroken book.now off.now) }
+{
+    if !is_broken_off(book, off, &name, &problem) {
+        return Err(Unrepaired::Other);
+    }
+    Ok(BrokenBook {
+        text,
+        problem,
+        name,
+    })
+}
+
+/// The book, whose bytes are the text, in which a pairing breaks off. None is given if it would have a fault, as
+/// a duty that brings somebody there too late.
+pub fn break_off(
+    alloc: Global,
+    text: &[u8],
+    book: &Problem,
+    off: &Break,
+) -> Result<BrokenBook, Unrepaired>
+    requires { off.now.pairing < length book.now.pairings }
+    ensures { IfOk result (IsBroken book.now off.now) }
+{
+    let name = free_name(alloc, book, book.pairing(off.pairing).id.as_bytes())?;
+    let left = Off {
+        book,
+        broken: off,
+        name: &name,
+    };
+    let text = broken_text(alloc, text, &left)?;
+    match book_of(alloc, &text) {
+        Ok(read) => broken(book, off, name, text, read.problem),
+        Err(fault) => Err(unread(text, fault)),
+    }
+}
