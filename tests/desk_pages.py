@@ -264,15 +264,24 @@ def broken(books, draw):
 
 
 def crowded_books(root, desk, tests):
-    """A book that only `solve` refuses: the fault that it tells, of the first person with too many legal sets."""
+    """A book that only `solve` refuses has no fault; the person is told whose legal sets are too many for it."""
     folder = f"{root}/data/294783-legal-sets"
     text = desk("fault", f"{folder}/book.csv").stdout.decode()
-    wanted = open(f"{folder}/stdout").read().strip()
-    told = text.partition("\nNOT FOR SOLVE\n")[2]
-    tests.told("a person with too many sets", not text.startswith("NO FAULT\n") and "a fault", wanted not in told and f"told is {told}")
-    words = re.search("why     the record (.*): `roster solve` answers", told)
-    row = words and f"| 15 | {words[1]}"
-    tests.told("code 15 in docs/REPORT.md", (not row or row not in open(f"{root}/docs/REPORT.md", encoding="utf-8").read()) and f"other words: {told}")
+    # `solve` tells the number of the record.
+    row = int(open(f"{folder}/stdout", encoding="utf-8").read().split()[1])
+    record = open(f"{folder}/book.csv", encoding="utf-8").read().splitlines()[row - 1]
+    told = text.partition("\nNOT FOR SOLVE\n")[2].splitlines()
+    why = f"  why     `roster solve` can't list all legal sets of {record.split(',')[1]}: there are more than "
+    tests.told(
+        "a person with too many sets",
+        not text.startswith("NO FAULT\n") and "a fault",
+        "FAULT" in text.removeprefix("NO FAULT") and "a fault behind it",
+        (told[:2] != [f"  line    {row}", f"  record  {record}"] or not told[2].startswith(why)) and f"told is {told}",
+        "roster-desk plan" not in told[-1] and "no way out",
+    )
+    most = told[2].removeprefix(why).split(",")[0]
+    said = f"| 15 | gives a person who has more than {most} legal sets"
+    tests.told("code 15 in docs/REPORT.md", said not in open(f"{root}/docs/REPORT.md", encoding="utf-8").read() and f"another number: {told}")
     few = desk("fault", f"{root}/data/196527-legal-sets/book.csv").stdout.decode()
     tests.told("a person with as many sets as there may be", "SOLVE" in few and "too many")
 
@@ -350,6 +359,8 @@ LATE = "base,VIE,CET-1\n" + "".join(
     f"pairing,N{n},VIE,0\nduty,N{n},P,N{n},VIE,2024-06-{n + 10}T16:00Z,2024-06-{n + 10}T22:30Z\n" for n in range(8)
 )
 LATER = "".join(f"pairing,M{n},VIE,0\nduty,M{n},P,M{n},VIE,2024-06-{n + 10}T18:00Z,2024-06-{n + 11}T00:30Z\n" for n in range(4))
+# Five leaves of whole days in UTC; by the clocks they begin at 01:00.
+DAYS = "base,VIE,CET-1\n" + "".join(f"crew,L{n},VIE,0,0,7\nleave,L{n},2024-06-1{n}T00:00Z,2024-06-1{n + 1}T00:00Z\n" for n in range(5))
 # Three persons with targets, and 1646 minutes of flight beside the 105 of the good book: of 1920 that are wanted 169 less,
 # as 105060 of 115200 are, and of 1830 only 79 less.
 FLIGHTS = "".join(f"crew,C{n},ZRH,%d,0,0\n" for n in range(3)) + "".join(
@@ -393,6 +404,12 @@ WARNINGS = [
     (GOOD + LATE.replace("CET-1", "UTC0"), []),
     (GOOD + LATE.replace("T22:30Z", "T22:00Z", 1), []),
     (GOOD + LATE + LATER, []),
+    (GOOD + DAYS, [("NIGHT", 15)]),
+    (GOOD + DAYS.replace("CET-1", "UTC0"), []),
+    (GOOD + DAYS.replace("14T00:00Z", "14T23:00Z"), []),
+    (GOOD + DAYS.replace("leave,L4", "leave,BEN"), [("FREEMONTH", 24)]),
+    # Until 30 June the clocks show UTC, but in its last night they begin not to.
+    (GOOD + DAYS.replace("CET-1", "WET0WEST,J181,J300").replace("VIE,WET0WEST,J181,J300", 'VIE,"WET0WEST,J181,J300"'), []),
     (GOOD + "pairing,P2,ZRH,5\nduty,D9,P,P2,ZRH,2024-06-20T06:00Z,2024-06-20T14:00Z\n" + "".join(f"sector,D9,P,2024-06-20T0{n}:00Z,2024-06-20T0{n}:50Z\n" for n in (6, 7, 8)), [("POSITIONING", 15)]),
     (GOOD.replace("LHR,2024-06-12T08:00Z", "LHR,2024-06-12T07:59Z"), [("REST", 12)]),
     (GOOD + "duty,L1,C,ANNA,zrh,2024-06-20T08:00Z,2024-06-20T12:00Z\n", [("STATION", 15)]),
@@ -402,6 +419,7 @@ WARNINGS = [
     (NO_CREW + "".join(f"crew,C{n},ZRH,0,{n},{100 * n + 7}\n" for n in range(1, 6)), [("ELEVEN", 15)]),
     (GOOD.replace("weight,2", "weight,0") + "".join(f"crew,C{n},ZRH,400,0,0\n" for n in range(4)), [("WEIGHT", 5)]),
     (GOOD.replace("BEN,ZRH,0", "BEN,ZRH,300") + "".join(f"crew,C{n},ZRH,400,0,0\n" for n in range(3)), [("SHARE", 5)]),
+    ("period,2024-06\nweight,2\nbase,ZRH,UTC0\n" + "".join(f"crew,C{n},ZRH,400,24001,41001\n" for n in range(5)), []),
     (GOOD.replace("ANNA,ZRH,300", "ANNA,ZRH,384").replace("BEN,ZRH,0", "BEN,ZRH,384") + FLIGHTS % ((384,) * 3), [("SHARE", 5)]),
     (GOOD.replace("ANNA,ZRH,300", "ANNA,ZRH,366").replace("BEN,ZRH,0", "BEN,ZRH,366") + FLIGHTS % ((366,) * 3), []),
     (NO_CREW + "".join(f"crew,C{n},ZRH,0,0,0\n" for n in range(3)), [("HISTORY", 5)]),

@@ -2,7 +2,7 @@
 
 ghost use Rattle.std.specs.Prelude.{⊤, None};
 
-use roster_desk_program::{STANDARD_INPUT, Shelf};
+use roster_desk_program::{STANDARD_INPUT, Shelf, Slot};
 use std::alloc::AllocError;
 use std::fs::File;
 use std::io::{Input, Read, StdinLock, Write};
@@ -38,14 +38,66 @@ impl Read for Opened {
     }
 }
 
-impl Shelf for Disk<'_> {
+/// The file at a path that keeps a plan.
+#[derive(Drop)]
+pub(crate) struct KeptFile<'a> {
+    rt: &'a HostRuntime,
+    path: String,
+    // The path of the new file beside it.
+    part: String,
+    has_refused: bool,
+}
+
+impl KeptFile<'_> {
+    /// A new file beside the one at the path takes its place once it is whole.
+    fn is_put(&self, text: &[u8]) -> bool {
+        let (path, part) = (self.path.as_str(), self.part.as_str());
+        if !is_free(self.rt, path) {
+            return false;
+        }
+        let Ok(mut file) = File::create(self.rt, part) else {
+            return false;
+        };
+        if file.write_all(text).is_ok() && fs::rename(self.rt, part, path).is_ok() {
+            return true;
+        }
+        let _ = fs::remove_file(self.rt, part);
+        false
+    }
+}
+
+impl Slot for KeptFile<'_> {
+    ghost held = { λ _. None };
+
+    ghost has_refused = { λ file. file.has_refused };
+
+    fn put(&mut self, text: &[u8]) -> bool {
+        let is_put = self.is_put(text);
+        if !is_put {
+            self.has_refused = true;
+        }
+        is_put
+    }
+
+    fn refused(&self) -> bool {
+        self.has_refused
+    }
+}
+
+impl<'a> Shelf for Disk<'a> {
     type Input = Opened;
+
+    type Keep = KeptFile<'a>;
 
     ghost bytes_at = { λ _ _. None };
 
     ghost may_take = { λ _ _ _. ⊤ };
 
     ghost must_take = { λ _ _ _. ⊥ };
+
+    ghost must_open = { λ _ _. ⊥ };
+
+    ghost lends = { λ _ _ _. ⊤ };
 
     fn open(&self, path: &str) -> io::Result<Opened> {
         if path == STANDARD_INPUT {
@@ -59,23 +111,16 @@ impl Shelf for Disk<'_> {
         Ok(is_one_file(self.rt, path, other) || is_one_file(self.rt, part.as_str(), other))
     }
 
-    /// A new file beside the one at the path takes its place once it is whole.
-    fn put(&mut self, path: &str, bytes: &[u8]) -> bool {
+    fn lend(&mut self, path: &str) -> Result<KeptFile<'a>, AllocError> {
         let rt = self.rt;
-        let Ok(part) = part_of(rt, path) else {
-            return false;
-        };
-        if !is_free(rt, path) {
-            return false;
-        }
-        let Ok(mut file) = File::create(rt, part.as_str()) else {
-            return false;
-        };
-        if file.write_all(bytes).is_ok() && fs::rename(rt, part.as_str(), path).is_ok() {
-            return true;
-        }
-        let _ = fs::remove_file(rt, part.as_str());
-        false
+        let part = part_of(rt, path)?;
+        let path = String::from_str(rt.alloc(), path)?;
+        Ok(KeptFile {
+            rt,
+            path,
+            part,
+            has_refused: false,
+        })
     }
 }
 

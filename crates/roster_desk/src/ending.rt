@@ -5,7 +5,7 @@ use roster_desk_answers::Untold;
 use roster_desk_given::Unknown;
 use roster_desk_run::Status;
 use std::process::ExitCode;
-use std::{io, str};
+use std::str;
 
 /// The exit status of a command line that is refused.
 pub(crate) const LINE_REFUSED: u8 = 2;
@@ -16,25 +16,6 @@ pub(crate) fn ended(rt: &HostRuntime, status: Status) -> ExitCode {
         let _ = eprintln!(rt; "{text}");
     }
     status.exit_code()
-}
-
-/// Tells why the words are refused, or what help they ask for.
-pub(crate) fn told(rt: &HostRuntime, error: &clap::Error) -> ExitCode {
-    let _ = error.print(rt);
-    if error.use_stderr() {
-        ExitCode::from(LINE_REFUSED)
-    } else {
-        ExitCode::SUCCESS
-    }
-}
-
-/// A word of the command line is no text, or memory ran out on the way.
-pub(crate) fn unread(rt: &HostRuntime, error: &io::Error) -> ExitCode {
-    if error.kind() == io::ErrorKind::OutOfMemory {
-        return ended(rt, Status::Memory);
-    }
-    let _ = eprintln!(rt; "error: a word of the command line is not UTF-8");
-    ExitCode::from(LINE_REFUSED)
 }
 
 /// Tells that more than one path is standard input.

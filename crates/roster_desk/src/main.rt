@@ -8,8 +8,8 @@
 //! - `months`: the commands that write a book, or tables of one
 //! - `ending`: how a run ends
 //!
-//! `main` hands the line of a plan to `program` of `roster_desk_program`, or reads the book and the reports whole and
-//! hands them to `roster_desk_answers`.
+//! `main` hands the words to `asked` of `roster_desk_program`, and the line of a plan to its `program`; for other lines it
+//! reads the book and the reports whole and hands them to `roster_desk_answers`.
 #![tactic(auto)]
 
 mod carried;
@@ -21,13 +21,12 @@ mod tables;
 mod watching;
 
 use disk::Disk;
-use ending::{ended, inputs_shared, tell_text, told, unread, unread_input, untold_ended};
+use ending::{ended, inputs_shared, tell_text, unread_input, untold_ended};
 use inputs::{read_book_at, read_inputs, read_report_at, shares_input};
 use months::{answer_book, answer_carry, answer_repair};
 use roster_desk_answers::{show, tell, tell_assigns};
-use roster_desk_arguments::{Line, LineFault, PageLine, PlanLine, TellLine, read_line};
-use roster_desk_program::{Files, program};
-use roster_desk_run::Status;
+use roster_desk_arguments::{Line, PageLine, PlanLine, TellLine};
+use roster_desk_program::{Files, asked, program, unread_words};
 use roster_watched::Watched;
 use std::io::IsTerminal;
 use std::process::ExitCode;
@@ -36,14 +35,15 @@ use std::{env, io};
 use watching::Companion;
 
 fn main(rt: HostRuntime) -> ExitCode {
+    let mut errors = Watched::new(rt.stderr());
     let words = match words(&rt) {
         Ok(words) => words,
-        Err(error) => return unread(&rt, &error),
+        Err(error) => return unread_words(&error, &mut errors),
     };
-    match read_line(rt.alloc(), words.as_slice()) {
+    let mut writer = Watched::new(io::writer(&rt));
+    match asked(rt.alloc(), words.as_slice(), &mut writer, &mut errors) {
         Ok(line) => answer(&rt, &rt, &line),
-        Err(LineFault::Refused(error)) => told(&rt, &error),
-        Err(LineFault::Memory) => ended(&rt, Status::Memory),
+        Err(code) => code,
     }
 }
 

@@ -1,5 +1,5 @@
 -- How a plan ends: the exit status, and what is said of what was read and written.
-use Rattle.std.specs.Prelude.{◌≡◌, ◌↔◌, ◌⊎◌, ◌≤◌, ◌++◌, ⊤, ℕ, List, Option, Some, None, codes, length, true, IfSome, IsSomeAnd, option_map}
+use Rattle.std.specs.Prelude.{◌≡◌, ◌↔◌, ◌⊎◌, ◌≤◌, ◌++◌, ⊤, ℕ, Bool, List, Option, Some, None, codes, length, true, IfSome, IsSomeAnd, option_map}
 use Rattle.roster_model.specs.Answer.{IsRefusal}
 use Rattle.roster_model.specs.Record.{Check}
 use Rattle.roster_book.specs.Reading.{OfTold}
@@ -10,6 +10,7 @@ use Rattle.roster_desk_arguments.specs.declared.line.PlanLine.{PlanLine}
 use Rattle.roster_desk_given.specs.declared.status.Status.{Status}
 use Rattle.roster_desk_given.specs.declared.status.Status.TheVariants as statuses
 use Rattle.roster_desk_run.specs.Run.{IsAnswerTo, IsPlanOfBook, IsStartFault, IsStartRefused}
+use Rattle.roster_desk_program.specs.Keeping.{HasRefused, keep_of}
 use Rattle.roster_desk_program.specs.declared.files.TheConstants.{MOST_REPORT_BYTES}
 use Rattle.roster_desk_program.specs.declared.ending.Ending.{Ending}
 use Rattle.roster_desk_program.specs.declared.ending.Ending.TheVariants as endings
@@ -28,6 +29,7 @@ ending_number (endings.Unread path) = 4
 ending_number endings.InputUnread = 4
 ending_number endings.Unwritten = 4
 ending_number endings.Unkept = 4
+ending_number endings.Forgotten = 4
 
 -- ---- what is told
 
@@ -39,7 +41,7 @@ standard_input = codes "-"
 abbrev pub named_text : List ℕ → List ℕ → List ℕ
 named_text path wrong = (codes "error: " ++ path) ++ wrong
 
--- What standard error is told before the line feed; none if nothing is. If the file that keeps a plan can't be
+-- What standard error is told before the line feed; none if nothing is. If the file that keeps a plan couldn't be
 -- written, the watcher was told. Of a report that is refused nothing is said here.
 abbrev pub ending_text : Ending → Option (List ℕ)
 ending_text endings.Planned = None
@@ -54,6 +56,7 @@ ending_text (endings.Unread path) = Some (named_text path.now (codes " can't be 
 ending_text endings.InputUnread = Some (codes "error: read")
 ending_text endings.Unwritten = Some (codes "error: write")
 ending_text endings.Unkept = None
+ending_text endings.Forgotten = None
 
 -- ---- what was written
 
@@ -63,6 +66,7 @@ IsSilent endings.Planned = ⊥
 IsSilent endings.Faulty = ⊥
 IsSilent endings.Unwritten = ⊥
 IsSilent endings.Unkept = ⊥
+IsSilent endings.Forgotten = ⊥
 IsSilent _ = ⊤
 
 -- a file couldn't be opened, read or put
@@ -71,7 +75,14 @@ IsMissed (endings.Unopened path) = ⊤
 IsMissed (endings.Unread path) = ⊤
 IsMissed endings.InputUnread = ⊤
 IsMissed endings.Unkept = ⊤
+IsMissed endings.Forgotten = ⊤
 IsMissed _ = ⊥
+
+-- the plan isn't kept
+abbrev pub IsUnkept : Ending → Type 0
+IsUnkept endings.Unkept = ⊤
+IsUnkept endings.Forgotten = ⊤
+IsUnkept _ = ⊥
 
 -- the report is refused for what is wrong with it as one of the book
 abbrev pub IsRefusedStart : Option (List ℕ) → Option (List ℕ) → Ending → Type 0
@@ -90,7 +101,7 @@ pub record IsEnding {W : Type 0} (contents : W → Option (List ℕ)) (book : Op
       (λ records. WritesPart (IsAnswerTo report records) (contents (inner_of old)) (contents (inner_of new))) book
   pub flushed : (ending ≡ endings.Planned → is_flushed new ≡ true)
       × (ending ≡ endings.Faulty → is_flushed new ≡ true)
-  pub unkept : ending ≡ endings.Unkept → OfTold
+  pub unkept : IsUnkept ending → OfTold
       (λ records. Writes (IsAnswerTo report records) (contents (inner_of old)) (contents (inner_of new))) book
       ⊎ (new ≡ old)
   pub silent : IsSilent ending → new ≡ old
@@ -115,7 +126,7 @@ start_of line = option_map (λ path. path.now) line.start
 
 -- the line would have the plan kept in standard input, in its book, or where that may take the book's place
 abbrev pub KeepsInPlace : (List ℕ → List ℕ → Type 0) → PlanLine → Type 0
-KeepsInPlace may_take line = IsSomeAnd (option_map (λ path. path.now) line.keep)
+KeepsInPlace may_take line = IsSomeAnd (keep_of line)
     (λ path. (path ≡ standard_input) ⊎ (path ≡ line.book.now) ⊎ may_take path line.book.now)
 
 -- book and report are both standard input
@@ -145,7 +156,19 @@ TellsPath bytes_at line endings.InputUnread =
     (line.book.now ≡ standard_input) ⊎ (start_of line ≡ Some standard_input)
 TellsPath bytes_at line _ = ⊤
 
+-- What is told of a file has a cause: one that can't be opened isn't known to open, and if a plan isn't kept some file
+-- couldn't take its text.
+abbrev pub HasCause : {K : Type 0} → (List ℕ → Type 0) → (K → Bool) → Ending → Type 0
+HasCause must_open has_refused (endings.Unopened path) = ¬ must_open path.now
+HasCause must_open has_refused endings.Unkept = HasRefused has_refused
+HasCause must_open has_refused _ = ⊤
+
 -- ---- how the run of a book ends
+
+-- it is that of a run whose plan isn't kept
+abbrev pub EndsLost : Status → Type 0
+EndsLost status =
+    (status ≡ statuses.Answered) ⊎ (status ≡ statuses.Refused) ⊎ (status ≡ statuses.Memory) ⊎ IsStartRefused status
 
 -- it was the run's status that ended it so
 abbrev pub EndsRun : Status → Ending → Type 0
@@ -156,8 +179,8 @@ EndsRun status endings.Memory = status ≡ statuses.Memory
 EndsRun status (endings.Unread path) = status ≡ statuses.ReadFailed
 EndsRun status endings.InputUnread = status ≡ statuses.ReadFailed
 EndsRun status endings.Unwritten = (status ≡ statuses.WriteFailed) ⊎ (status ≡ statuses.Closed)
-EndsRun status endings.Unkept =
-    (status ≡ statuses.Answered) ⊎ (status ≡ statuses.Refused) ⊎ (status ≡ statuses.Memory) ⊎ IsStartRefused status
+EndsRun status endings.Unkept = EndsLost status
+EndsRun status endings.Forgotten = EndsLost status
 EndsRun status _ = ⊥
 
 -- the line asks for a plan, and the file that is told is its book

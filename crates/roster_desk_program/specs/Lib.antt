@@ -1,3 +1,5 @@
+pub mod Asking
 pub mod Ending
 pub mod Files
+pub mod Keeping
 pub mod Program

@@ -6,9 +6,10 @@ ghost use Rattle.roster_book.specs.Reading.{OfTold};
 ghost use Rattle.roster_watched.specs.Watch.{has_failed, inner_of, is_flushed};
 ghost use Rattle.roster_report.specs.Writing.{Writes};
 ghost use Rattle.roster_desk_run.specs.Run.{IsPlanOfBook};
-ghost use Rattle.roster_desk_program.specs.Ending.{IsEnding, IsMissed, IsWrongLine, OfReport, TellsPath};
+ghost use Rattle.roster_desk_program.specs.Ending.{HasCause, IsEnding, IsMissed, IsWrongLine, OfReport, TellsPath};
 ghost use Rattle.roster_desk_program.specs.Ending.{KeepsInPlace, SharesInput, start_of};
 ghost use Rattle.roster_desk_program.specs.Files.{has_missed, shelf_of};
+ghost use Rattle.roster_desk_program.specs.Keeping.{IsLent, keep_of};
 ghost use Rattle.roster_desk_program.specs.Program.{EndsAs, TellsEnding};
 
 use crate::ending::Ending;
@@ -40,12 +41,13 @@ pub fn program<T: Threads + Sync, S: Shelf, W: Write, E: Write, P: Watcher + Sta
     requires writer_open { has_failed writer.old ≡ false }
 
     // It ends as a plan may: what was written of the bytes at the line's paths, why none was asked for, which
-    // file is told, and what standard error is told.
+    // file is told and for what cause, and what standard error is told.
     ensures ended { EndsAs (exit_status result) (λ ending. OfReport (λ report. IsEnding W.contents
         (S.bytes_at (shelf_of files.old) line.now.book.now) report writer.old writer.new ending)
         (S.bytes_at (shelf_of files.old)) (start_of line.now)
         × IsWrongLine (S.may_take (shelf_of files.old)) line.now ending
         × TellsPath (S.bytes_at (shelf_of files.old)) line.now ending
+        × HasCause (S.must_open (shelf_of files.old)) S.Keep.has_refused ending
         × TellsEnding E.contents ending errors.old errors.new) }
     // Status 0: a plan of the book's bytes, begun with the report's, was written whole and flushed.
     ensures answered { exit_status result ≡ 0 → OfReport (λ report. OfTold (λ records.
@@ -61,6 +63,8 @@ pub fn program<T: Threads + Sync, S: Shelf, W: Write, E: Write, P: Watcher + Sta
         → (exit_status result ≡ 2) ⊎ (exit_status result ≡ 3) }
     ensures shared { SharesInput line.now → (exit_status result ≡ 2) ⊎ (exit_status result ≡ 3) }
     ensures memory { exit_status result ≡ 3 → writer.new ≡ writer.old }
+    // Only the file in which the line keeps the plan is lent, if it names one, and only for texts of known plans.
+    ensures lent { IsLent S.lends (keep_of line.now) (shelf_of files.old) (shelf_of files.new) }
     // A failure is told if it happened, and only then.
     ensures failed { (exit_status result ≡ 4)
         ↔ ((has_missed files.new ≡ true) ⊎ (has_failed writer.new ≡ true)) }

@@ -8,7 +8,7 @@ use roster_desk_reports::Wrong;
 use std::process::ExitCode;
 
 /// The exit status of a line that is refused.
-const LINE_REFUSED: u8 = 2;
+pub(crate) const LINE_REFUSED: u8 = 2;
 
 /// How the command ended.
 #[derive(Clone, Copy)]
@@ -42,6 +42,8 @@ pub enum Ending<'a> {
     Unwritten,
     /// The file that keeps the plan couldn't be written. What was found was written, if memory was there.
     Unkept,
+    /// Memory for the text of a plan that was to be kept ran out. What was found was written, if memory was there.
+    Forgotten,
 }
 
 impl Ending<'_> {
@@ -56,7 +58,7 @@ impl Ending<'_> {
             Ending::InPlace | Ending::Shared => ExitCode::from(LINE_REFUSED),
             Ending::Memory => ExitCode::from(3),
             Ending::Unopened(_) | Ending::Unread(_) | Ending::InputUnread => ExitCode::from(4),
-            Ending::Unwritten | Ending::Unkept => ExitCode::from(4),
+            Ending::Unwritten | Ending::Unkept | Ending::Forgotten => ExitCode::from(4),
         }
     }
 }

@@ -1,8 +1,13 @@
 //! Files by their paths, and whether one of them failed.
 
-ghost use Rattle.std.specs.Prelude.{◌≡◌, ◌<◌, ◌≤◌, ℕ, List, Option, IfErr, IfOk, IfSome, OnErr, OnOk, length, true, false};
+ghost use Rattle.std.specs.Prelude.{◌≡◌, ◌≢◌, ◌<◌, ◌≤◌, ℕ, List, Option, IfErr, IfOk, IfSome, OnErr, OnOk, length, true};
+ghost use Rattle.std.specs.Prelude.{false};
+ghost use Rattle.std.specs.IoError.{error_kind};
+ghost use Rattle.std.specs.declared.io.ErrorKind.TheVariants.{OutOfMemory};
 ghost use Rattle.roster_watched.specs.Watch.{inner_of, has_failed};
 
+use crate::keeping::Kept;
+use crate::slots::Slot;
 use roster_watched::Watched;
 use std::alloc::{AllocError, Global};
 use std::io;
@@ -19,6 +24,9 @@ pub trait Shelf {
     /// A file that is read, or standard input.
     type Input: Read + Drop;
 
+    /// A file that keeps a plan.
+    type Keep: Slot + Drop;
+
     // What the file at a path holds, so far as that is known.
     ghost bytes_at: { Self → List ℕ → Option (List ℕ) };
 
@@ -28,20 +36,26 @@ pub trait Shelf {
     // Whether it is known to take it.
     ghost must_take: { Self → List ℕ → List ℕ → Type 0 };
 
+    // Whether the file at a path is known to open.
+    ghost must_open: { Self → List ℕ → Type 0 };
+
+    // What it may be once the file at a path was lent to keep a plan.
+    ghost lends: { Self → List ℕ → Self → Type 0 };
+
     /// The file at the path, or standard input at `-`, from its first byte.
     fn open(&self, path: &str) -> io::Result<Self::Input>
-        ensures { IfOk result (λ input. Self.Input.remaining input ≡ bytes_at self.now path.now) };
+        ensures bytes { IfOk result (λ input. Self.Input.remaining input ≡ bytes_at self.now path.now) }
+        ensures opens { IfErr result (λ error. error_kind error ≢ OutOfMemory → ¬ must_open self.now path.now) };
 
     /// Whether a file that is put at the path would take the place of the one at the other path.
     fn takes(&self, path: &str, other: &str) -> Result<bool, AllocError>
         ensures yes { IfOk result (λ yes. yes ≡ true → may_take self.now path.now other.now) }
         ensures no { IfOk result (λ yes. yes ≡ false → ¬ must_take self.now path.now other.now) };
 
-    /// Puts a file with these bytes at the path, in place of the one that is there. Whether that could be
-    /// done; if not, what is there stays.
-    fn put(&mut self, path: &str, bytes: &[u8]) -> bool
-        ensures { result ≡ true
-            → IfSome (bytes_at self.new path.now) (λ held. held ≡ bytes.now) };
+    /// The file at the path, to keep a plan. So far nothing is written.
+    fn lend(&mut self, path: &str) -> Result<Self::Keep, AllocError>
+        ensures lent { OnOk result (lends self.old path.now self.new) }
+        ensures same { OnErr result (self.new ≡ self.old) };
 }
 
 /// Why a file gives no bytes.
@@ -65,8 +79,9 @@ pub struct Files<S> {
 }
 
 impl<S: Shelf> Files<S> {
-    ghost use Rattle.std.specs.Prelude.{◌||◌, ◌⊎◌};
+    ghost use Rattle.std.specs.Prelude.{◌||◌, ◌⊎◌, option_map};
     ghost use Rattle.roster_desk_program.specs.Files.{has_missed, shelf_of};
+    ghost use Rattle.roster_desk_program.specs.Keeping.{IsLent, is_lost};
     ghost use Rattle.roster_desk_program.specs.declared.files.Unread.{Unread};
 
     /// Files of which none has failed.
@@ -96,6 +111,8 @@ impl<S: Shelf> Files<S> {
         ensures goes { OnOk result (has_missed self.new ≡ has_missed self.old) }
         ensures either { IfErr result (λ fault. (fault ≡ Unread.Unopened) ⊎ (fault ≡ Unread.Memory)) }
         ensures fails { IfErr result (λ fault. fault ≡ Unread.Unopened → has_missed self.new ≡ true) }
+        ensures unopened { IfErr result (λ fault. fault ≡ Unread.Unopened
+            → ¬ S.must_open (shelf_of self.old) path.now) }
         ensures memory { IfErr result (λ fault. fault ≡ Unread.Memory
             → has_missed self.new ≡ has_missed self.old) }
     {
@@ -129,6 +146,8 @@ impl<S: Shelf> Files<S> {
         ensures goes { OnOk result (has_missed self.new ≡ has_missed self.old) }
         ensures fails { IfErr result (λ fault. (fault ≡ Unread.Unopened) ⊎ (fault ≡ Unread.Broken)
             → has_missed self.new ≡ true) }
+        ensures unopened { IfErr result (λ fault. fault ≡ Unread.Unopened
+            → ¬ S.must_open (shelf_of self.old) path.now) }
         ensures others { IfErr result (λ fault. (fault ≡ Unread.TooLong) ⊎ (fault ≡ Unread.Memory)
             → has_missed self.new ≡ has_missed self.old) }
     {
@@ -162,25 +181,25 @@ impl<S: Shelf> Files<S> {
         self.shelf.takes(path, other)
     }
 
-    /// Puts a file with these bytes at the path. Whether that could be done.
-    pub(crate) fn put(&mut self, path: &str, bytes: &[u8]) -> bool
-        ensures put { result ≡ true
-            → IfSome (S.bytes_at (shelf_of self.new) path.now) (λ held. held ≡ bytes.now) }
-        ensures goes { result ≡ true → has_missed self.new ≡ has_missed self.old }
-        ensures fails { result ≡ false → has_missed self.new ≡ true }
+    /// The file at the path, to keep a plan, if there is a path.
+    pub(crate) fn lend(&mut self, path: Option<&str>) -> Result<Option<S::Keep>, AllocError>
+        ensures lent { IsLent S.lends (option_map (λ path. path.now) path.entry)
+            (shelf_of self.old) (shelf_of self.new) }
+        ensures goes { has_missed self.new ≡ has_missed self.old }
     {
-        let is_put = self.shelf.put(path, bytes);
-        if !is_put {
-            self.failed = true;
+        match path {
+            Some(path) => Ok(Some(self.shelf.lend(path)?)),
+            None => Ok(None),
         }
-        is_put
     }
 
-    /// Says that a file couldn't be put.
-    pub(crate) fn miss(&mut self)
+    /// Counts the file that keeps a plan.
+    pub(crate) fn count(&mut self, kept: Kept)
         ensures shelf { shelf_of self.new ≡ shelf_of self.old }
-        ensures failed { has_missed self.new ≡ true }
+        ensures failed { has_missed self.new ≡ (has_missed self.old || is_lost kept) }
     {
-        self.failed = true;
+        if kept.is_lost() {
+            self.failed = true;
+        }
     }
 }

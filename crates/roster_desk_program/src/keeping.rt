@@ -1,11 +1,11 @@
 //! What is known of a plan is kept in a file.
 
-ghost use Rattle.std.specs.Prelude.{◌≡◌, IfSome, true, false};
+ghost use Rattle.std.specs.Prelude.{◌≡◌, ◌≢◌, IfSome, true};
 ghost use Rattle.roster_plan.specs.Planned.{IsKnown};
 ghost use Rattle.roster_desk_run.specs.Run.{IsKnownText};
-ghost use Rattle.roster_desk_program.specs.Files.{has_missed, shelf_of};
+ghost use Rattle.roster_desk_program.specs.Keeping.{HasRefused, is_lost};
 
-use crate::files::{Files, Shelf};
+use crate::slots::Slot;
 use roster_desk_run::{Starter, write_known};
 use roster_plan::{Phase, Planned, Watcher};
 use roster_problem::Problem;
@@ -21,25 +21,96 @@ pub trait Keeping {
     fn finish(&mut self);
 }
 
-/// Keeps what is known of a plan in a file, as long as that can be written, and tells it on.
+/// What became of the file that keeps a plan.
+#[derive(Clone, Copy)]
+pub(crate) enum Kept {
+    /// It has what was known last, if there is such a file.
+    Fine,
+    /// It couldn't be put.
+    Refused,
+    /// Memory for its text ran out.
+    Short,
+}
+
+impl Kept {
+    /// Whether the file doesn't have what was known last.
+    pub(crate) fn is_lost(self) -> bool
+        ensures { result ≡ is_lost self }
+    {
+        match self {
+            Kept::Fine => false,
+            Kept::Refused | Kept::Short => true,
+        }
+    }
+}
+
+/// The file that keeps a plan.
 #[derive(Drop)]
-pub(crate) struct Keeper<'f, 'p, 'w, S, P> {
+pub(crate) struct KeptFile<'p, K> {
+    pub(crate) path: &'p str,
+    pub(crate) slot: K,
+    // Whether memory for a text ran out.
+    pub(crate) is_short: bool,
+}
+
+impl<K: Slot> KeptFile<'_, K> {
+    /// Puts what is known of the plan. Whether that could be done.
+    fn keep(&mut self, alloc: Global, problem: &Problem, planned: &Planned) -> bool
+        requires { IsKnown problem.now planned.now }
+        ensures { result ≡ true → IfSome (K.held self.new.slot) (IsKnownText problem.now) }
+    {
+        let mut writer = Watched::new(Vec::new(alloc));
+        if write_known(alloc, problem, planned, &mut writer).is_err() {
+            self.is_short = true;
+            return false;
+        }
+        self.slot.put(writer.inner().as_slice())
+    }
+
+    /// What became of it so far.
+    fn state(&self) -> Kept
+        ensures { result ≡ Kept.Refused → HasRefused K.has_refused }
+    {
+        if self.slot.refused() {
+            return Kept::Refused;
+        }
+        if self.is_short {
+            Kept::Short
+        } else {
+            Kept::Fine
+        }
+    }
+}
+
+/// Keeps what is known of a plan in a file, if there is one and as long as it can be put, and tells it on.
+#[derive(Drop)]
+pub(crate) struct Keeper<'p, 'w, K, P> {
     pub(crate) alloc: Global,
-    pub(crate) files: &'f mut Files<S>,
-    // The path of the file, as long as it can be written.
-    pub(crate) path: Option<&'p str>,
+    pub(crate) file: Option<KeptFile<'p, K>>,
     pub(crate) watcher: &'w mut P,
 }
 
-impl<S: Shelf, P: Watcher + Keeping> Watcher for Keeper<'_, '_, '_, S, P> {
+impl<K: Slot, P> Keeper<'_, '_, K, P> {
+    /// What became of the file.
+    pub(crate) fn state(&self) -> Kept
+        ensures { result ≡ Kept.Refused → HasRefused K.has_refused }
+    {
+        match &self.file {
+            Some(file) => file.state(),
+            None => Kept::Fine,
+        }
+    }
+}
+
+impl<K: Slot, P: Watcher + Keeping> Watcher for Keeper<'_, '_, K, P> {
     fn tell(&mut self, problem: &Problem, base: Option<usize>, step: Phase, planned: &Planned) {
         self.watcher.tell(problem, base, step, planned);
-        let Some(path) = self.path else {
+        let Some(file) = &mut self.file else {
             return;
         };
-        if !keep(self.alloc, self.files, path, problem, planned) {
+        let path = file.path;
+        if !file.state().is_lost() && !file.keep(self.alloc, problem, planned) {
             self.watcher.unkept(path);
-            self.path = None;
         }
     }
 
@@ -48,29 +119,8 @@ impl<S: Shelf, P: Watcher + Keeping> Watcher for Keeper<'_, '_, '_, S, P> {
     }
 }
 
-impl<S, P: Starter> Starter for Keeper<'_, '_, '_, S, P> {
+impl<K, P: Starter> Starter for Keeper<'_, '_, K, P> {
     fn pass_over(&mut self, lines: &[u8]) {
         self.watcher.pass_over(lines);
     }
-}
-
-/// Puts a file at the path with what is known of the plan. Whether that could be done.
-pub(crate) fn keep<S: Shelf>(
-    alloc: Global,
-    files: &mut Files<S>,
-    path: &str,
-    problem: &Problem,
-    planned: &Planned,
-) -> bool
-    requires { IsKnown problem.now planned.now }
-    ensures kept { result ≡ true
-        → IfSome (S.bytes_at (shelf_of files.new) path.now) (IsKnownText problem.now) }
-    ensures fails { result ≡ false → has_missed files.new ≡ true }
-{
-    let mut writer = Watched::new(Vec::new(alloc));
-    if write_known(alloc, problem, planned, &mut writer).is_err() {
-        files.miss();
-        return false;
-    }
-    files.put(path, writer.inner().as_slice())
 }

@@ -2,13 +2,14 @@
 
 ghost use Rattle.std.specs.Prelude.{◌≡◌, ◌≢◌, ◌⊎◌, IfOk, option_map, true, false};
 ghost use Rattle.roster_watched.specs.Watch.{has_failed};
-ghost use Rattle.roster_desk_program.specs.Ending.{EndsRun, IsEnding, IsMissed, IsOfBook, IsUnread};
+ghost use Rattle.roster_desk_program.specs.Ending.{EndsRun, HasCause, IsEnding, IsMissed, IsOfBook, IsUnread};
 ghost use Rattle.roster_desk_program.specs.Ending.{IsWrongLine, KeepsInPlace, OfReport, SharesInput, TellsPath, start_of};
 ghost use Rattle.roster_desk_program.specs.Files.{has_missed, shelf_of};
+ghost use Rattle.roster_desk_program.specs.Keeping.{IsLent, is_lost, keep_of};
 
 use crate::ending::Ending;
 use crate::files::{Files, STANDARD_INPUT, Shelf, Unread};
-use crate::keeping::{Keeper, Keeping};
+use crate::keeping::{Keeper, Keeping, Kept, KeptFile};
 use crate::means::{means_of, processors};
 use roster_desk_arguments::PlanLine;
 use roster_desk_run::{Starter, Status, run};
@@ -46,6 +47,10 @@ pub fn plan_line<'a, T: Threads + Sync, S: Shelf, W: Write, P: Watcher + Starter
         → (result ≡ Ending.InPlace) ⊎ (result ≡ Ending.Shared) ⊎ (result ≡ Ending.Memory) }
     // Which file is told, and that it is too long.
     ensures path { TellsPath (S.bytes_at (shelf_of files.old)) line.now result }
+    // No file is told as failed that is known to be there.
+    ensures cause { HasCause (S.must_open (shelf_of files.old)) S.Keep.has_refused result }
+    // Only the file in which the line keeps the plan is lent, if it names one, and only for texts of known plans.
+    ensures lent { IsLent S.lends (keep_of line.now) (shelf_of files.old) (shelf_of files.new) }
     // A file's failure is told if it happened, and only then; but a writer's is told first.
     ensures missed { IsMissed result → has_missed files.new ≡ true }
     ensures tells { has_missed files.new ≡ true
@@ -110,6 +115,8 @@ fn plan_from<'a, T: Threads + Sync, S: Shelf, W: Write, P: Watcher + Starter + K
     ensures ends { IsEnding W.contents (S.bytes_at (shelf_of files.old) line.now.book.now)
         (option_map (λ bytes. bytes.now) report.entry) writer.old writer.new result }
     ensures of_book { IsOfBook line.now result }
+    ensures cause { HasCause (S.must_open (shelf_of files.old)) S.Keep.has_refused result }
+    ensures lent { IsLent S.lends (keep_of line.now) (shelf_of files.old) (shelf_of files.new) }
     ensures missed { IsMissed result → has_missed files.new ≡ true }
     ensures tells { has_missed files.new ≡ true
         → (IsMissed result) ⊎ (result ≡ Ending.Unwritten) }
@@ -119,34 +126,54 @@ fn plan_from<'a, T: Threads + Sync, S: Shelf, W: Write, P: Watcher + Starter + K
         Err(Unread::Memory) => return Ending::Memory,
         Err(_) => return Ending::Unopened(line.book),
     };
+    let Ok(slot) = files.lend(line.keep) else {
+        return Ending::Memory;
+    };
     let means = means_of(line, processors(rt));
     let mut keeper = Keeper {
         alloc,
-        files: &mut *files,
-        path: line.keep,
+        file: file_of(line, slot),
         watcher: &mut *watcher,
     };
     let status = run(rt, alloc, &means, report, &mut reader, writer, &mut keeper);
+    let kept = keeper.state();
+    drop(keeper);
     watcher.finish();
     files.close(&reader);
-    ending_of(line, status, files.missed())
+    files.count(kept);
+    ending_of(line, status, kept)
 }
 
-/// How a run ends over the line's book that ended with this status, if some file failed or none did.
-fn ending_of<'a>(line: &PlanLine<'a>, status: Status, missed: bool) -> Ending<'a>
+/// The file in which the line keeps the plan, if there is a slot for it.
+fn file_of<'a, K: Drop>(line: &PlanLine<'a>, slot: Option<K>) -> Option<KeptFile<'a, K>> {
+    match (line.keep, slot) {
+        (Some(path), Some(slot)) => Some(KeptFile {
+            path,
+            slot,
+            is_short: false,
+        }),
+        _ => None,
+    }
+}
+
+/// How a run ends over the line's book that ended with this status, with what became of the file that keeps the plan.
+fn ending_of<'a>(line: &PlanLine<'a>, status: Status, kept: Kept) -> Ending<'a>
     ensures run { EndsRun status result }
     ensures of_book { IsOfBook line.now result }
-    ensures missed { IsMissed result → (missed ≡ true) ⊎ (status ≡ Status.ReadFailed) }
-    ensures tells { missed ≡ true → (IsMissed result) ⊎ (result ≡ Ending.Unwritten) }
+    ensures unkept { result ≡ Ending.Unkept → kept ≡ Kept.Refused }
+    ensures missed { IsMissed result → (is_lost kept ≡ true) ⊎ (status ≡ Status.ReadFailed) }
+    ensures tells { (is_lost kept ≡ true) ⊎ (status ≡ Status.ReadFailed)
+        → (IsMissed result) ⊎ (result ≡ Ending.Unwritten) }
 {
-    match status {
-        Status::ReadFailed => unread(line.book),
-        Status::WriteFailed | Status::Closed => Ending::Unwritten,
-        _ if missed => Ending::Unkept,
-        Status::Memory => Ending::Memory,
-        Status::Answered => Ending::Planned,
-        Status::Refused => Ending::Faulty,
-        Status::StartRefused { line, wrong } => Ending::StartRefused { line, wrong },
+    match (status, kept) {
+        (Status::ReadFailed, _) => unread(line.book),
+        (Status::WriteFailed | Status::Closed, _) => Ending::Unwritten,
+        (_, Kept::Refused) => Ending::Unkept,
+        (_, Kept::Short) => Ending::Forgotten,
+        (Status::Memory, Kept::Fine) => Ending::Memory,
+        (Status::Answered, Kept::Fine) => Ending::Planned,
+        (Status::Refused, Kept::Fine) => Ending::Faulty,
+        (Status::StartRefused { line, wrong }, Kept::Fine) => Ending::StartRefused { line, wrong },
     }
 }
 

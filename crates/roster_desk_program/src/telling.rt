@@ -15,7 +15,8 @@ pub(crate) fn tell<E: Write>(ending: Ending<'_>, errors: &mut Watched<E>)
     ensures { TellsEnding E.contents ending.entry errors.old errors.new }
 {
     match ending {
-        Ending::Planned | Ending::Faulty | Ending::StartRefused { .. } | Ending::Unkept => {}
+        Ending::Planned | Ending::Faulty | Ending::StartRefused { .. } => {}
+        Ending::Unkept | Ending::Forgotten => {}
         Ending::TooLong(path) => tell_named(path, " is too long for a report", errors),
         Ending::Unopened(path) => tell_named(path, " can't be opened", errors),
         Ending::Unread(path) => tell_named(path, " can't be read", errors),

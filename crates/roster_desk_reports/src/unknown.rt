@@ -1,7 +1,8 @@
 //! What a report has and the book doesn't.
 
-ghost use Rattle.std.specs.Prelude.{◌≡◌, ◌++◌, IfOk, map, OnOk};
+ghost use Rattle.std.specs.Prelude.{◌≡◌, ◌++◌, IfErr, IfOk, map, OnOk};
 ghost use Rattle.std.specs.List.{flat_map};
+ghost use Rattle.roster_desk_reports.specs.Faults.{IsTold, fault_of_text};
 ghost use Rattle.roster_desk_reports.specs.Known.{unknown_line, unknown_name, unknown_of};
 ghost use Rattle.roster_desk_reports.specs.Text.{given_by_line, given_by_text};
 
@@ -79,7 +80,9 @@ fn unknown_in(alloc: Global, problem: &Problem, report: &Report) -> Result<Vec<u
 /// A line for each person of the report whom the book doesn't have, and for each other pairing of it that the
 /// book doesn't have, in the order of the report.
 pub fn unknown_text(alloc: Global, problem: &Problem, text: &[u8]) -> Result<Vec<u8>, ReportFault>
-    ensures { IfOk result (λ out. out.items ≡ flat_map (unknown_of problem.now) (given_by_text text.now)) }
+    ensures text { IfOk result (λ out. out.items ≡ flat_map (unknown_of problem.now) (given_by_text text.now)) }
+    // It is refused as `read_report` refuses it.
+    ensures fault { IfErr result (IsTold (fault_of_text text.now)) }
 {
     let report = read_report(alloc, text)?;
     Ok(unknown_in(alloc, problem, &report)?)

@@ -8,7 +8,7 @@ use Rattle.roster_model.specs.Problem.{Problem, problem_of}
 use Rattle.roster_model.specs.Record.{Check, Record}
 use Rattle.roster_model.specs.Rules.{Rule}
 use Rattle.roster_model.specs.Texts.{fault_text, plan_text}
-use Rattle.roster_desk_run.specs.Run.{SaysBest}
+use Rattle.roster_desk_run.specs.Run.{SaysBest, SaysBestSoFar}
 
 -- a plan's begins with a P,
 plan_is_none : (problem : Problem) (bound : ℤ) (locks : List (Option Rule)) (places : List ℕ)
@@ -43,3 +43,8 @@ says_best None book text (inr planned) begins =
 says_best (Some report) book text (inl refusal) begins = absurd (no_refusal book text refusal begins)
 says_best (Some report) book text (inr planned) begins =
     (planned.faultless, best_of_plan (problem_of book) planned.start text planned.reports begins)
+
+pub says_best_so_far : SaysBestSoFar
+says_best_so_far problem text (inl plan) begins =
+    absurd (plan_is_none problem plan.bound plan.written.locks plan.key.places (ap (take 6) (sym plan.written.written) ∙ begins))
+says_best_so_far problem text (inr best) begins = best

@@ -104,3 +104,8 @@ pub record IsStartFault (report : Option (List ℕ)) (status : Status) (book : L
 abbrev pub SaysBest : Type 0
 SaysBest = (report : Option (List ℕ)) (book : List Record) (text : List ℕ) → IsAnswerTo report book text
     → take 6 text ≡ codes "ROSTER" → IsFaultless book × IsBestReport (problem_of book) text
+
+-- and so is what is kept of a plan
+abbrev pub SaysBestSoFar : Type 0
+SaysBestSoFar = (problem : Problem) (text : List ℕ) → IsKnownText problem text → take 6 text ≡ codes "ROSTER"
+    → IsBestReport problem text

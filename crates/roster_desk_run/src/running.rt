@@ -134,14 +134,12 @@ fn start_of<P: Starter>(
     ensures fault { IfErr result (IsTold (fault_of_known problem.now report.now)) }
 {
     match read_known_roster(alloc, problem, report) {
-        Ok(places) => match unknown_text(alloc, problem, report) {
-            Ok(unknown) => {
-                starter.pass_over(unknown.as_slice());
-                Ok(places)
-            }
-            // What was read once is read again, so it is memory.
-            Err(_) => Err(ReportFault::Memory),
-        },
+        Ok(places) => {
+            // What was read once is read again, so nothing but memory can be wanting.
+            let unknown = unknown_text(alloc, problem, report)?;
+            starter.pass_over(unknown.as_slice());
+            Ok(places)
+        }
         Err(fault) => Err(fault),
     }
 }

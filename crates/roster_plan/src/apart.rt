@@ -12,11 +12,12 @@ ghost use Rattle.roster_plan.specs.Parts.{AreParts};
 use crate::dives::improved_by_dives;
 use crate::exact::{Found, close};
 use crate::lent::Lent;
-use crate::means::{MOST_EFFORT, Means};
+use crate::looks::{looks_of, shares};
+use crate::means::Means;
 use crate::months::Month;
 use crate::parts::{BasePlan, is_open};
 use crate::watching::{Phase, Watcher};
-use roster_bases::{count_of_pairings, count_of_persons};
+use roster_bases::count_of_persons;
 use roster_cost::keys_are_in_order;
 use roster_model::limits::MOST_BASES;
 use roster_plan_bound::{PricedBound, Pricing};
@@ -25,18 +26,13 @@ use roster_problem::Problem;
 use std::alloc::{AllocError, Global};
 use std::thread::{Threads, for_each_mut};
 
-/// How often prices of a base are looked at, at most, at effort 0, and how often more at each effort more.
-const FEWEST_LOOKS: u32 = 8;
-
-const LOOKS_AN_EFFORT: u32 = 12;
-
 /// A base, how many persons it has, what its known roster costs, what prices say of it, and what searches of
-/// its gaps come to.
+/// its gaps come to, or before the first one its first bound.
 #[derive(Drop)]
 pub(crate) struct Gap<'a> {
     pub(crate) base: usize,
-    crew: usize,
-    cost: i64,
+    pub(crate) crew: usize,
+    pub(crate) cost: i64,
     pub(crate) priced: PricedBound<'a>,
     // Whether there was memory for the last look at prices.
     pub(crate) raised: Result<(), AllocError>,
@@ -178,14 +174,15 @@ fn gaps_of<'a, R: Threads + Sync>(
     for base in 0..MOST_BASES {
         if is_open(parts, base) {
             let known = &parts[base].roster;
-            // Until its gaps are searched it has what is said if memory runs out.
+            let priced = PricedBound::new(rt, alloc, workers, pricing, base)?;
+            let bound = priced.bound();
             gaps.push(Gap {
                 base,
                 crew: count_of_persons(problem, base),
                 cost: known.cost,
-                priced: PricedBound::new(rt, alloc, workers, pricing, base)?,
+                priced,
                 raised: Ok(()),
-                found: Err(AllocError),
+                found: Ok(Found::AtLeast(bound)),
             })?;
         }
     }
@@ -254,33 +251,6 @@ fn look_all<R: Threads + Sync>(
         look_on(rt, alloc, problem, each, is_end, gap);
     };
     for_each_mut(rt, gaps, threads, &look);
-}
-
-/// How many threads share the bases, and how many the persons of each: all workers the one or the other,
-/// whichever looks sooner at the persons of all bases that aren't done.
-fn shares(workers: usize, gaps: &[Gap<'_>]) -> (usize, usize)
-    requires { 0 < workers }
-    ensures { (0 < result.0) × (0 < result.1) }
-{
-    // Each thread has so many bases, one behind another.
-    let run = gaps.len().div_ceil(workers).max(1);
-    let (mut in_run, mut longest, mut in_turn) = (0usize, 0usize, 0usize);
-    for i in 0..gaps.len() {
-        if i % run == 0 {
-            in_run = 0;
-        }
-        let gap = &gaps[i];
-        if !gap.priced.is_done(gap.cost) {
-            in_run = in_run.wrapping_add(gap.crew);
-            in_turn = in_turn.wrapping_add(gap.crew.div_ceil(workers));
-        }
-        longest = longest.max(in_run);
-    }
-    if longest <= in_turn {
-        (workers, 1)
-    } else {
-        (1, workers)
-    }
 }
 
 /// Looks at other prices of a base, whose persons so many threads share, or, in the end, shows what looks claim.
@@ -374,30 +344,4 @@ fn closed<W: Watcher>(
         month = month.with_found(alloc, problem, gap.base, found, Phase::Gap, watcher)?;
     }
     Ok(month)
-}
-
-/// How often an effort and those before it look at the prices of each base that isn't settled: more often the greater
-/// it is, if there is time for so many pairs.
-fn looks_of(problem: &Problem, parts: &[BasePlan], means: &Means) -> u32 {
-    let effort = if means.effort < MOST_EFFORT {
-        means.effort
-    } else {
-        MOST_EFFORT
-    };
-    let looks = FEWEST_LOOKS + LOOKS_AN_EFFORT * effort;
-    let in_time = means.pairs() / pairs_of(problem, parts).max(1);
-    in_time.min(u64::from(looks)) as u32
-}
-
-/// How many pairs a look goes through: each person of those bases, with each pairing of the same base.
-fn pairs_of(problem: &Problem, parts: &[BasePlan]) -> u64 {
-    let mut pairs: u64 = 0;
-    for base in 0..MOST_BASES {
-        if is_open(parts, base) {
-            let crew = count_of_persons(problem, base) as u64;
-            let pairings = count_of_pairings(problem, base) as u64;
-            pairs = pairs.wrapping_add(crew.wrapping_mul(pairings));
-        }
-    }
-    pairs
 }

@@ -23,6 +23,7 @@
 //! - `exact`: the best roster of a base, if its bound is near enough to what it costs
 //! - `dives`: rosters of columns
 //! - `whole`: bases with few legal sets, each searched whole
+//! - `looks`: how often prices are looked at, and how many threads share that
 //! - `apart`: bases of which not all lines can be searched, bounded by prices
 //! - `planning`: the plan
 #![tactic(auto)]
@@ -34,6 +35,7 @@ mod exact;
 mod kept;
 mod known;
 mod lent;
+mod looks;
 mod means;
 mod months;
 mod nearby;

@@ -29,8 +29,7 @@ use std::alloc::{AllocError, Global};
 use std::thread::Threads;
 
 /// A plan whose roster isn't after what is kept of the given places, nor after no pairings at all. It takes
-/// these means at most. The plan is the same in each run, whatever the watcher does, and however many
-/// workers there are.
+/// these means at most. Tests show that it is the same for any number of workers and any watcher.
 pub fn plan<R: Threads + Sync, W: Watcher>(
     rt: &R,
     alloc: Global,

@@ -5,7 +5,7 @@ ghost use Rattle.roster_model.specs.Answer.{records_of};
 ghost use Rattle.roster_model.specs.Plans.{IsPlanned};
 
 use roster_desk_arguments::PlanLine;
-use roster_desk_program::{Files, Keeping, Shelf, program};
+use roster_desk_program::{Files, Keeping, Shelf, Slot, program};
 use roster_desk_run::Starter;
 use roster_plan::{Phase, Planned, Watcher};
 use roster_problem::Problem;
@@ -27,7 +27,40 @@ const REPORT: &[u8] =
 /// What is written of a book without a record.
 const LINE: &[u8] = b"FAULT 1 1\n";
 
-/// One file, which is at each path. No file can be put there.
+/// Takes texts, or none.
+#[derive(Drop)]
+struct Page {
+    takes: bool,
+    has_refused: bool,
+}
+
+impl Page {
+    fn new(takes: bool) -> Page {
+        Page {
+            takes,
+            has_refused: false,
+        }
+    }
+}
+
+impl Slot for Page {
+    ghost held = { λ _. None };
+
+    ghost has_refused = { λ page. page.has_refused };
+
+    fn put(&mut self, _text: &[u8]) -> bool {
+        if !self.takes {
+            self.has_refused = true;
+        }
+        self.takes
+    }
+
+    fn refused(&self) -> bool {
+        self.has_refused
+    }
+}
+
+/// One file, which is at each path. No plan can be kept there.
 #[derive(Drop)]
 struct One<'a> {
     bytes: &'a [u8],
@@ -36,11 +69,17 @@ struct One<'a> {
 impl<'a> Shelf for One<'a> {
     type Input = &'a [u8];
 
+    type Keep = Page;
+
     ghost bytes_at = { λ shelf _. Some shelf.bytes.now };
 
     ghost may_take = { λ _ _ _. ⊤ };
 
     ghost must_take = { λ _ _ _. ⊥ };
+
+    ghost must_open = { λ _ _. ⊤ };
+
+    ghost lends = { λ old _ new. new ≡ old };
 
     fn open(&self, _path: &str) -> io::Result<&'a [u8]> {
         Ok(self.bytes)
@@ -50,19 +89,19 @@ impl<'a> Shelf for One<'a> {
         Ok(false)
     }
 
-    fn put(&mut self, _path: &str, _bytes: &[u8]) -> bool {
-        false
+    fn lend(&mut self, _path: &str) -> Result<Page, AllocError> {
+        Ok(Page::new(false))
     }
 }
 
 /// Gives its bytes, or fails.
 #[derive(Drop)]
-struct Page<'a> {
+struct Text<'a> {
     bytes: &'a [u8],
     fails: bool,
 }
 
-impl Read for Page<'_> {
+impl Read for Text<'_> {
     fn read(&mut self, buf: &mut [u8]) -> io::Result<usize> {
         if self.fails {
             return Err(io::Error::from(io::ErrorKind::Other));
@@ -75,20 +114,21 @@ impl Read for Page<'_> {
     }
 }
 
-/// A book at `book`, a report at `report`, and one file more that can be put.
+/// A book at `book`, a report at `report`, and one path more, where a plan can be kept.
 #[derive(Drop)]
 struct Pages<'a> {
     book: &'a [u8],
     report: &'a [u8],
     /// The path of a file that can be opened and not read.
     broken: &'a str,
-    /// What was put last, and at which path it can be.
-    kept: Vec<u8>,
+    /// Where a plan can be kept.
     keeps: &'a str,
 }
 
 impl<'a> Shelf for Pages<'a> {
-    type Input = Page<'a>;
+    type Input = Text<'a>;
+
+    type Keep = Page;
 
     ghost bytes_at = { λ _ _. None };
 
@@ -96,14 +136,18 @@ impl<'a> Shelf for Pages<'a> {
 
     ghost must_take = { λ _ _ _. ⊥ };
 
-    fn open(&self, path: &str) -> io::Result<Page<'a>> {
+    ghost must_open = { λ _ _. ⊥ };
+
+    ghost lends = { λ old _ new. new ≡ old };
+
+    fn open(&self, path: &str) -> io::Result<Text<'a>> {
         let bytes = match path {
             "book" | "-" => self.book,
             "report" => self.report,
             _ => return Err(io::Error::from(io::ErrorKind::NotFound)),
         };
         let fails = path == self.broken;
-        Ok(Page { bytes, fails })
+        Ok(Text { bytes, fails })
     }
 
     fn takes(&self, path: &str, _other: &str) -> Result<bool, AllocError> {
@@ -113,9 +157,8 @@ impl<'a> Shelf for Pages<'a> {
         }
     }
 
-    fn put(&mut self, path: &str, bytes: &[u8]) -> bool {
-        self.kept.clear();
-        path == self.keeps && self.kept.extend_from_slice(bytes).is_ok()
+    fn lend(&mut self, path: &str) -> Result<Page, AllocError> {
+        Ok(Page::new(path == self.keeps))
     }
 }
 
@@ -221,12 +264,11 @@ fn a_plan_is_written(rt: HostRuntime) -> Result<(), Fail> {
 }
 
 /// Files in memory of which none fails.
-fn files_of<'a>(alloc: Global, book: &'a [u8], report: &'a [u8]) -> Pages<'a> {
+fn files_of<'a>(book: &'a [u8], report: &'a [u8]) -> Pages<'a> {
     Pages {
         book,
         report,
         broken: "",
-        kept: Vec::new(alloc),
         keeps: "kept",
     }
 }
@@ -270,38 +312,17 @@ fn a_plan_is_kept_and_begins_with_a_report(rt: HostRuntime) {
         keep: Some("kept"),
         ..line_of("book")
     };
-    ends(
-        &rt,
-        &line,
-        files_of(rt.alloc(), BOOK, REPORT),
-        0,
-        REPORT,
-        b"",
-    );
+    ends(&rt, &line, files_of(BOOK, REPORT), 0, REPORT, b"");
 }
 
 #[test]
 fn standard_input_is_a_book(rt: HostRuntime) {
-    ends(
-        &rt,
-        &line_of("-"),
-        files_of(rt.alloc(), BOOK, REPORT),
-        0,
-        REPORT,
-        b"",
-    );
+    ends(&rt, &line_of("-"), files_of(BOOK, REPORT), 0, REPORT, b"");
 }
 
 #[test]
 fn a_fault_is_written(rt: HostRuntime) {
-    ends(
-        &rt,
-        &line_of("book"),
-        files_of(rt.alloc(), b"", REPORT),
-        1,
-        LINE,
-        b"",
-    );
+    ends(&rt, &line_of("book"), files_of(b"", REPORT), 1, LINE, b"");
 }
 
 #[test]
@@ -311,13 +332,13 @@ fn a_report_is_refused(rt: HostRuntime) -> Result<(), Fail> {
         ..line_of("book")
     };
     let told = b"error: report, line 1: a report begins with ROSTER or PLAN and a month\n";
-    ends(&rt, &line, files_of(rt.alloc(), BOOK, LINE), 1, b"", told);
+    ends(&rt, &line, files_of(BOOK, LINE), 1, b"", told);
     let mut long = Vec::new(rt.alloc());
     for _ in 0..1_u32 << 20 {
         long.push(b' ')?;
     }
     let told = b"error: report is too long for a report\n";
-    let long = files_of(rt.alloc(), BOOK, long.as_slice());
+    let long = files_of(BOOK, long.as_slice());
     ends(&rt, &line, long, 1, b"", told);
     Ok(())
 }
@@ -330,14 +351,14 @@ fn a_line_is_refused(rt: HostRuntime) {
             ..line_of("book")
         };
         let told = b"error: a plan can't be kept in its book or in -\n";
-        ends(&rt, &line, files_of(rt.alloc(), BOOK, REPORT), 2, b"", told);
+        ends(&rt, &line, files_of(BOOK, REPORT), 2, b"", told);
     }
     let line = PlanLine {
         start: Some("-"),
         ..line_of("-")
     };
     let told = b"error: only one of the paths may be -\n";
-    ends(&rt, &line, files_of(rt.alloc(), BOOK, REPORT), 2, b"", told);
+    ends(&rt, &line, files_of(BOOK, REPORT), 2, b"", told);
 }
 
 #[test]
@@ -347,23 +368,23 @@ fn want_of_memory_is_told(rt: HostRuntime) {
         ..line_of("book")
     };
     let told = b"error: memory\n";
-    ends(&rt, &line, files_of(rt.alloc(), BOOK, REPORT), 3, b"", told);
+    ends(&rt, &line, files_of(BOOK, REPORT), 3, b"", told);
 }
 
 #[test]
 fn a_file_that_fails_is_told(rt: HostRuntime) {
     let none = line_of("none");
     let told = b"error: none can't be opened\n";
-    ends(&rt, &none, files_of(rt.alloc(), BOOK, REPORT), 4, b"", told);
+    ends(&rt, &none, files_of(BOOK, REPORT), 4, b"", told);
     let line = PlanLine {
         start: Some("report"),
         ..line_of("book")
     };
-    let mut broken = files_of(rt.alloc(), BOOK, REPORT);
+    let mut broken = files_of(BOOK, REPORT);
     broken.broken = "report";
     let told = b"error: report can't be read\n";
     ends(&rt, &line, broken, 4, b"", told);
-    let mut broken = files_of(rt.alloc(), BOOK, REPORT);
+    let mut broken = files_of(BOOK, REPORT);
     broken.broken = "-";
     let told = b"error: read\n";
     ends(&rt, &line_of("-"), broken, 4, b"", told);
@@ -375,19 +396,12 @@ fn a_plan_that_is_not_kept_is_told(rt: HostRuntime) {
         keep: Some("another"),
         ..line_of("book")
     };
-    ends(
-        &rt,
-        &line,
-        files_of(rt.alloc(), BOOK, REPORT),
-        4,
-        REPORT,
-        b"",
-    );
+    ends(&rt, &line, files_of(BOOK, REPORT), 4, REPORT, b"");
 }
 
 #[test]
 fn a_writer_that_fails_is_told(rt: HostRuntime) {
-    let mut files = Files::new(files_of(rt.alloc(), BOOK, REPORT));
+    let mut files = Files::new(files_of(BOOK, REPORT));
     let mut errors = Watched::new(Vec::new(rt.alloc()));
     let mut watcher = Told {
         unkept: 0,

@@ -12,7 +12,7 @@ returns-in-Ok-2-clause-bytes g c =
     let limit = c.take.result.limit in
     let given : IfSome (option_map (take limit) (g.S.Input.Read.remaining c.take.result.inner)) (λ taken. items ≡ taken) = search rules in
     let same : g.S.Input.Read.remaining c.take.result.inner ≡ known =
-    ap g.S.Input.Read.remaining c.take.ensures.inner ∙ c.in-Ok.ensures in
+    ap g.S.Input.Read.remaining c.take.ensures.inner ∙ c.in-Ok.ensures.bytes in
     let of_file : IfSome (option_map (take limit) known) (λ taken. items ≡ taken) =
     subst (λ it. IfSome (option_map (take limit) it) (λ taken. items ≡ taken)) same given in
     let is : IfSome (option_map (take MOST_REPORT_BYTES) known) (λ taken. items ≡ taken) =
