@@ -11,7 +11,7 @@ ghost use Rattle.roster_search_regions.specs.Regions.{AllowedLine, IsIn, IsInRan
 ghost use Rattle.roster_search_regions.specs.Trees.{next_path, IsLimited};
 ghost use Rattle.roster_search_regions.specs.Writing.{IsWriting};
 
-use crate::choice::{Choice, MOST_EXTRA, MOST_SCALE};
+use crate::choice::{Choice, FAIR_DUAL_PRICE, MOST_EXTRA, MOST_SCALE};
 use crate::parts::{above, times};
 use crate::path::Path;
 use crate::region::Region;
@@ -205,7 +205,19 @@ fn tree_of(
     copy_of(alloc, table.lines(k), range, scale)
 }
 
-/// So many parts of a cost unit that this number of units can be counted in them.
+/// The greatest penalty, and 1 at least.
+fn greatest_penalty(problem: &Problem) -> u64
+    ensures some { 0 < result }
+    ensures most { result ≤ most_extra }
+{
+    let mut greatest = 1;
+    for p in 0..problem.pairings().len() {
+        greatest = larger(greatest, u64::from(problem.pairing(p).penalty));
+    }
+    greatest
+}
+
+/// So many parts of a cost unit that prices about as high as this number of units can be told in them.
 fn scale_for(greatest: u64) -> u32
     requires some { 0 < greatest }
     requires most { greatest ≤ most_extra }
@@ -213,16 +225,16 @@ fn scale_for(greatest: u64) -> u32
     ensures most { result ≤ MOST_SCALE }
     ensures room { result * greatest ≤ MOST_EXTRA }
 {
-    let parts = MOST_EXTRA / greatest;
+    let parts = FAIR_DUAL_PRICE / greatest;
     if parts < u64::from(MOST_SCALE) {
-        parts as u32
+        (parts as u32).max(1)
     } else {
         MOST_SCALE
     }
 }
 
 /// How many parts a cost unit is counted in: as many as there is room for at the lines before the end of
-/// each person's range.
+/// each person's range, and in dual prices of the size of these lines' costs and of penalties.
 pub(crate) fn scale_of(problem: &Problem, table: &Table, ranges: &[(usize, usize)]) -> u32
     requires table { AreListed problem.now table.now }
     requires ranges { length ranges.now ≡ length table.now }
@@ -236,7 +248,7 @@ pub(crate) fn scale_of(problem: &Problem, table: &Table, ranges: &[(usize, usize
 {
     problem.is_sound();
     lines_are_near();
-    let mut greatest = 1;
+    let mut greatest = greatest_penalty(problem);
     for k in 0..problem.persons().len() {
         greatest = larger(greatest, greatest_extra(table.lines(k), ranges[k].1));
     }
