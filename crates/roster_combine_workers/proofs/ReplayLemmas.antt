@@ -1,9 +1,10 @@
 -- What a replay keeps, and that it ends at rest. Each event but `Finish` leaves the finished spans as they
 -- are, and `finish` lists a part for its worker (`replays-finish`). After the last step nobody has a span,
 -- and worker 0 takes and finishes what is pending.
-use Rattle.std.proofs.Common.{◌≡◌, ℕ, ◌<◌, ◌==◌, Bool, true, false, List, [], ◌∷◌, ◌++◌, length, map, replicate, refl, sym, ap, ◌∙◌, subst, arith, Option, Some, None, inl, inr}
-use Rattle.std.specs.Prelude.{All, if◌then◌else◌, slice_get, slice_index_or, slice_set}
+use Rattle.std.proofs.Common.{◌≡◌, ℕ, ◌<◌, ◌==◌, Bool, true, false, List, [], ◌∷◌, ◌++◌, length, map, replicate, refl, sym, ap, ◌∙◌, subst, arith, Option, Some, None, Result, Ok, Err, inl, inr}
+use Rattle.std.specs.Prelude.{◌&&◌, All, OnOk, if◌then◌else◌, slice_get, slice_index_or, slice_set}
 use Rattle.std.proofs.lemmas.Bool.{cases_Bool, eq-eqb, eqb-true}
+use Rattle.std.proofs.lemmas.Cmp.{nat_list_eq_equiv}
 use Rattle.std.proofs.lemmas.List.{append-nil, get_or-replicate, get_or-set_other, get_or-set_same, length-replicate, length-set, map_push}
 use Rattle.std.proofs.lemmas.List.Elements.{All-from_get_or, All-get_or, All-nil, All-push, All-replicate, All-same, All-set, All-weaker}
 use Rattle.roster_model.specs.Problem.{Problem}
@@ -12,6 +13,8 @@ use Rattle.roster_model.specs.Settled.{IsHeld}
 use Rattle.roster_subtreepool_spans.specs.Spans.{Span}
 use Rattle.roster_subtreepool.specs.States.{IsAtRest, SettledSpan, State, held, opening, step}
 use Rattle.roster_subtreepool.specs.declared.event.Event.TheVariants.{Finish}
+use Rattle.roster_subtreepool.specs.Refusals.{hand_fault, is_held, is_same, told}
+use Rattle.roster_subtreepool.specs.declared.fault.PoolFault.TheVariants.{Memory, NotYours}
 use Rattle.roster_subtreepool.proofs.StepLemmas.{finish-is, step-keeps}
 use Rattle.roster_subtreepool.proofs.TimesLemmas.{held_within}
 use Rattle.roster_incumbent.specs.Kept.{less_of}
@@ -147,3 +150,24 @@ first_of (span ∷ rest) some = (span, refl)
 pub at_rest : (s : State) → IsIdle s → s.pending ≡ [] → IsAtRest s
 at_rest s idle none =
     record { pending = none; hands = All-from_get_or (λ hand. hand ≡ None) s.hands None (λ k within. idle k) }
+
+-- ---- what the pool refuses
+
+same_span : (span : Span) → is_same span span ≡ true
+same_span span =
+    ap (λ b. b && (span.lo == span.lo) && (span.hi == span.hi)) (nat_list_eq_equiv.refl span.path)
+    ∙ ap (λ b. b && (span.hi == span.hi)) (eq-eqb span.lo span.lo refl)
+    ∙ eq-eqb span.hi span.hi refl
+
+-- a span goes out of the hand that has it, but for want of memory
+pub told-own : (s : State) (worker : ℕ) (span : Span) → held s worker ≡ Some span
+    → told (hand_fault s worker span) ≡ Memory
+told-own s worker span has =
+    ap (λ hand. told (if is_held hand span then None else Some NotYours)) has
+    ∙ ap (λ b. told (if b then None else Some NotYours)) (same_span span)
+
+-- what is refused for no other cause than this doesn't end well
+pub never-ok : {A E Cause : Type 0} (Wanted : Type 0) (ended : Result A E) → OnOk ended (¬ Cause) → Cause
+    → OnOk ended Wanted
+never-ok Wanted (Ok value) never cause = absurd (never cause)
+never-ok Wanted (Err error) never cause = tt

@@ -1,6 +1,6 @@
 //! A pool in which one thread does what a schedule says.
 
-ghost use Rattle.std.specs.Prelude.{◌≡◌, ◌+◌, ◌<◌, ◌≤◌, [], ℕ, IfOk, None, OnOk, Some, length, map};
+ghost use Rattle.std.specs.Prelude.{◌≡◌, ◌≢◌, ◌+◌, ◌<◌, ◌≤◌, [], ℕ, IfOk, None, OnOk, Some, length, map};
 ghost use Rattle.std.specs.Prelude.{replicate, vec_capacity, vec_len};
 ghost use Rattle.std.specs.Arc.{arc_value};
 ghost use Rattle.roster_lines_table.specs.Person.{IsTableOf};
@@ -179,14 +179,11 @@ impl<'a, L: Ledger, F: SpanSearch> Stage<'a, L, F> {
         let Some(piece) = self.pool.in_hand(worker)? else {
             return Ok(());
         };
-        match self.pool.back(worker, piece) {
-            Ok(()) => Ok(()),
-            // The piece is the one in hand, so nothing but memory can be wanting.
-            Err((_, piece)) => {
-                piece.forgo();
-                Err(AllocError)
-            }
+        if let Err((fault, piece)) = self.pool.back(worker, piece) {
+            piece.forgo();
+            return refused(fault);
         }
+        Ok(())
     }
 
     /// The worker searches its span.
@@ -233,8 +230,7 @@ impl<'a, L: Ledger, F: SpanSearch> Stage<'a, L, F> {
     {
         match self.pool.take(0, 0) {
             Ok(piece) => self.settle(0, piece, 1),
-            // Worker 0 is there and has nothing, so nothing but memory can be wanting.
-            Err(_) => Err(AllocError),
+            Err(fault) => refused(fault),
         }
     }
 
@@ -294,10 +290,9 @@ impl<'a, L: Ledger, F: SpanSearch> Stage<'a, L, F> {
                 self.lists[worker].push_reserved(settled);
                 Ok(())
             }
-            // The piece is the one in hand, so nothing but memory can be wanting.
-            Err((_, done)) => {
+            Err((fault, done)) => {
                 forgo(done);
-                Err(AllocError)
+                refused(fault)
             }
         }
     }
@@ -389,7 +384,9 @@ fn split(split: Result<Piece, (PoolFault, Piece)>) -> Result<(), AllocError> {
 }
 
 /// What becomes of a step that the pool refuses: nothing, but for want of memory.
-fn refused(fault: PoolFault) -> Result<(), AllocError> {
+fn refused(fault: PoolFault) -> Result<(), AllocError>
+    ensures { OnOk result (fault ≢ PoolFault.Memory) }
+{
     match fault {
         PoolFault::Memory => Err(AllocError),
         PoolFault::NotYours | PoolFault::CannotSplit | PoolFault::Nothing => Ok(()),

@@ -9,7 +9,7 @@ use Rattle.roster_subtreepool.specs.States.{SettledSpan, Played, held}
 use Rattle.roster_subtreepool.proofs.TimesLemmas.{held_within}
 use Rattle.roster_combine_workers.specs.Parts.{IsSettled, Task}
 use Rattle.roster_combine_workers.specs.Replays.{IsReplaying, Replay}
-use Rattle.roster_combine_workers.proofs.ReplayLemmas.{replays-finish}
+use Rattle.roster_combine_workers.proofs.ReplayLemmas.{never-ok, replays-finish, told-own}
 use Rattle.roster_combine_workers.proofs.stage.Stage.finish.Goals as goal
 
 abbrev items : Vec SettledSpan Global → List SettledSpan
@@ -92,3 +92,10 @@ invariant_of-self-in-Ok g c =
           ∙ c.self.invariant.4,
       c.self.invariant.5,
     )
+
+-- the span is the one in hand, so nothing but memory is wanting
+pub returns-in-Err-finish-clause-step : goal.returns-in-Err-finish-clause-step
+returns-in-Err-finish-clause-step g c =
+    let has = subst (λ (replay : Replay). held replay.state c.args.worker ≡ Some c.args.done.piece) (sym c.self.view_is) c.requires.held in
+    never-ok _ c.refused.result c.refused.ensures
+    (c.in-Err-finish.ensures.fault ∙ told-own c.self.inside.pool.state c.args.worker c.args.done.piece has)
