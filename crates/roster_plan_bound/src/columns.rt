@@ -11,6 +11,8 @@ use std::alloc::{AllocError, Global};
 pub(crate) struct Hints {
     /// How far above the least one sets are to be listed, in parts of a cost unit.
     pub(crate) reach: i64,
+    /// How dear the month is.
+    pub(crate) dear: i64,
     /// Whether each label is judged: cheap ones often broke a rule that labels don't know of.
     pub(crate) is_strict: bool,
     /// What a minute of flight is worth to the table that last said most, in parts of a cost unit.
@@ -22,10 +24,11 @@ pub(crate) struct Hints {
 }
 
 impl Hints {
-    /// Those of the first look.
-    fn first() -> Hints {
+    /// Those of the first look in a month so dear.
+    fn first(dear: i64) -> Hints {
         Hints {
-            reach: FIRST_REACH,
+            reach: FIRST_REACH.wrapping_mul(dear),
+            dear,
             is_strict: false,
             worth: 0,
             step: 0,
@@ -52,8 +55,15 @@ impl Columns {
             costs: Vec::new(alloc),
             ends: Vec::new(alloc),
             places: Vec::new(alloc),
-            hints: Hints::first(),
+            hints: Hints::first(1),
         }
+    }
+
+    /// None so far, in a month so dear.
+    pub(crate) fn of_dear(alloc: Global, dear: i64) -> Columns {
+        let mut columns = Columns::new(alloc);
+        columns.hints = Hints::first(dear);
+        columns
     }
 
     /// How many there are.

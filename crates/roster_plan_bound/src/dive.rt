@@ -7,6 +7,7 @@ ghost use Rattle.roster_plan_bound.specs.Reduced.{ArePrices};
 
 use crate::choosing::{Choice, greatest, next_of, sums_of};
 use crate::columns::Columns;
+use crate::dearness::dearness;
 use crate::lists::amount_at;
 use crate::master::{Covered, ascend, ascend_with_shares, counts_of};
 use crate::own_cost::own_cost;
@@ -16,7 +17,7 @@ use crate::persons::{Seen, check, renew_all};
 use crate::pricing::Pricing;
 use crate::rising::limited;
 use crate::tuning::{
-    DIVE_PACE, DIVE_SOFTNESS, FEW_COLUMNS, LEAST_DIVE_SHARE, LOOKS_A_DIVE, ONE, SURE_SHARE,
+    COUNTED_SOFTNESS, FEW_COLUMNS, LEAST_DIVE_SHARE, LOOKS_A_DIVE, ONE, SURE_SHARE,
 };
 use roster_problem::{Problem, open_number};
 use std::alloc::{AllocError, Global};
@@ -162,7 +163,7 @@ impl<'a> Dive<'a> {
     ) -> Result<(), AllocError>
         requires { 0 < threads }
     {
-        let mut pace = DIVE_PACE;
+        let mut pace = self.pace();
         for _ in 0..looks {
             if self.left.is_empty() || !self.pays() {
                 break;
@@ -193,6 +194,11 @@ impl<'a> Dive<'a> {
         Ok(())
     }
 
+    /// How prices move from one look to the next.
+    fn pace(&self) -> Pace {
+        Pace::of_dive(dearness(self.pricing.problem()))
+    }
+
     /// Whether there may be one more look, which is then counted.
     fn pays(&mut self) -> bool {
         let pairs = (self.left.len() as u64).saturating_mul(self.free.len() as u64);
@@ -212,10 +218,8 @@ impl<'a> Dive<'a> {
     ) -> Result<Vec<Choice>, AllocError>
         requires { 0 < threads }
     {
-        let pace = Pace {
-            softness: DIVE_SOFTNESS,
-            ..DIVE_PACE
-        };
+        let mut pace = self.pace();
+        pace.softness = COUNTED_SOFTNESS.wrapping_mul(pace.dear);
         let mut sums = sums_of(alloc, &self.seen)?;
         self.prices = ascend_with_shares(
             rt,

@@ -36,12 +36,14 @@
 //! - `gap`: lines that a roster may have which costs little more than a bound
 //! - `lists`: what stands at a place of a list
 //! - `tuning`: the numbers that decide how good a bound is
+//! - `dearness`: by how much they are multiplied
 #![tactic(auto)]
 
 mod behind;
 mod choosing;
 mod columns;
 mod days_off;
+mod dearness;
 mod dive;
 mod draft;
 mod gap;

@@ -91,7 +91,7 @@ pub(crate) fn ascend_with_shares<R: Threads + Sync>(
     let mut portions = Vec::new(alloc);
     for nth in 0..pace.steps {
         if nth % STEPS_A_CHOICE == 0 {
-            near = chosen(rt, alloc, threads, seen, &way, stride)?;
+            near = chosen(rt, alloc, threads, seen, &way, pace)?;
             portions = portions_of(alloc, threads, &near, center.len())?;
         }
         if is_counted(nth, pace.steps) {
@@ -126,11 +126,11 @@ fn chosen<R: Threads + Sync>(
     threads: usize,
     seen: &[Seen],
     way: &Way,
-    stride: i64,
+    pace: Pace,
 ) -> Result<Vec<Near>, AllocError>
     requires { 0 < threads }
 {
-    let within = reach_of(way.softness, stride);
+    let within = reach_of(way.softness, pace);
     let mut near = Vec::new(alloc);
     near.resize_with(
         seen.len(),
@@ -148,11 +148,13 @@ fn chosen<R: Threads + Sync>(
 }
 
 /// How far above the least a column is near: where it has a share, or gets one if prices move by a stride.
-fn reach_of(softness: i64, stride: i64) -> i64 {
+fn reach_of(softness: i64, pace: Pace) -> i64 {
+    let fine = FINE.wrapping_mul(pace.dear);
+    let stride = pace.stride.wrapping_mul(FINE);
     softness
         .saturating_mul(NEAR_SOFTNESSES)
-        .max(LEAST_NEAR.wrapping_mul(FINE))
-        .saturating_add(stride.min(MOST_NEAR_STRIDE.wrapping_mul(FINE)))
+        .max(LEAST_NEAR.wrapping_mul(fine))
+        .saturating_add(stride.min(MOST_NEAR_STRIDE.wrapping_mul(fine)))
 }
 
 /// Adds the shares of the columns of each person who has sums.

@@ -30,12 +30,12 @@ impl Seen {
     }
 }
 
-/// Of so many persons, before the first look.
-pub(crate) fn unseen(alloc: Global, count: usize) -> Result<Vec<Seen>, AllocError>
+/// Of so many persons, before the first look, in a month so dear.
+pub(crate) fn unseen(alloc: Global, count: usize, dear: i64) -> Result<Vec<Seen>, AllocError>
     ensures { IfOk result (λ seen. vec_len seen ≡ count) }
 {
     let mut seen = Vec::new(alloc);
-    seen.resize_with(count, || Seen::before(Columns::new(alloc)))?;
+    seen.resize_with(count, || Seen::before(Columns::of_dear(alloc, dear)))?;
     Ok(seen)
 }
 

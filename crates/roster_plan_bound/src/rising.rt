@@ -9,6 +9,7 @@ ghost use Rattle.roster_bases.specs.Homes.{EachHomeRoster, IsHome, IsHomeBound};
 ghost use Rattle.roster_plan_bound.specs.Looks.{IsLook};
 ghost use Rattle.roster_plan_bound.specs.Reduced.{ArePrices};
 
+use crate::dearness::dearness;
 use crate::dive::{Dive, DivePlan, whole};
 use crate::gap::lines_of_gap;
 use crate::lists::amount_at;
@@ -247,7 +248,8 @@ impl<'a> PricedBound<'a> {
     {
         let problem = pricing.problem();
         let persons = persons_of(alloc, problem, base)?;
-        let mut seen = unseen(alloc, persons.len())?;
+        let dear = dearness(problem);
+        let mut seen = unseen(alloc, persons.len(), dear)?;
         let prices = no_prices(alloc, problem)?;
         let look = pricing.look(rt, alloc, threads, base, &persons, &prices, 0, &mut seen)?;
         let claimed = no_prices(alloc, problem)?;
@@ -262,7 +264,7 @@ impl<'a> PricedBound<'a> {
             parts: look.parts,
             claimed,
             claim: i64::MIN,
-            pace: Pace::first(),
+            pace: Pace::first(dear),
             idle: 0,
             unshown: 0,
             trust: 1,

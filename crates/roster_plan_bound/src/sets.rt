@@ -118,7 +118,7 @@ pub(crate) fn renew_sets(
 fn labelled_of(columns: &Columns, prices: &[i64], is_small: bool) -> Labelled {
     Labelled {
         least: columns.least_value(prices),
-        reach: columns.hints.reach.clamp(LEAST_REACH, MOST_REACH),
+        reach: columns.hints.reach.max(LEAST_REACH),
         is_strict: columns.hints.is_strict,
         many: 0,
         worth: if is_small {
@@ -247,7 +247,7 @@ fn renew(
 ) -> Result<(), AllocError> {
     let mut known = found;
     known.hints = Hints {
-        reach: next_reach(labelled.reach, labelled.many),
+        reach: next_reach(labelled.reach, labelled.many, columns.hints.dear),
         is_strict: labelled.is_strict,
         ..columns.hints
     };
@@ -260,13 +260,13 @@ fn renew(
     Ok(())
 }
 
-/// How far the next labels reach after so many sets were found.
-fn next_reach(reach: i64, many: usize) -> i64 {
+/// How far the next labels reach after so many sets were found, in a month so dear.
+fn next_reach(reach: i64, many: usize, dear: i64) -> i64 {
     if many > MANY_LISTED {
         return (reach.wrapping_mul(7) / 10).max(LEAST_REACH);
     }
     if many < FEWEST_LISTED {
-        return (reach.wrapping_mul(13) / 10).min(MOST_REACH);
+        return (reach.wrapping_mul(13) / 10).min(MOST_REACH.wrapping_mul(dear));
     }
     reach
 }

@@ -1,7 +1,6 @@
 //! Numbers that were found by measuring. Each may be another one: no bound rests on them, only how good it
-//! is.
-
-use crate::pace::Pace;
+//! is. Amounts for a month whose penalties are some thousand units: for a dearer one the first and the greatest of
+//! reach, near, softness and stride are as many times as much (`dearness`).
 
 /// One, in shares.
 pub(crate) const ONE: i64 = 1 << 16;
@@ -114,15 +113,16 @@ pub(crate) const FEWEST_LISTED: usize = 60;
 
 pub(crate) const MANY_LISTED: usize = 200;
 
-/// How prices move in a dive from one look to the next.
-pub(crate) const DIVE_PACE: Pace = Pace {
-    stride: 60 * 64,
-    softness: 20 * 64,
-    steps: 150,
-};
+/// How far prices move in a dive from one look to the next, how soft covers are at first, in parts of a cost unit,
+/// and how often prices move.
+pub(crate) const DIVE_STRIDE: i64 = 60 * 64;
+
+pub(crate) const DIVE_SOFTNESS: i64 = 20 * 64;
+
+pub(crate) const DIVE_STEPS: u32 = 150;
 
 /// How soft covers are at first where shares are counted, in parts of a cost unit.
-pub(crate) const DIVE_SOFTNESS: i64 = 5 * 64;
+pub(crate) const COUNTED_SOFTNESS: i64 = 5 * 64;
 
 /// How many looks there are each time that some got their columns.
 pub(crate) const LOOKS_A_DIVE: u32 = 4;

@@ -1,0 +1,21 @@
+//! How dear the pairings of a month are. Nothing rests on it.
+
+use roster_problem::Problem;
+
+/// What a pairing costs that stays open, about, in the months that the numbers of `tuning` were found with, in cost
+/// units.
+const USUAL_PENALTY: u64 = 8_192;
+
+/// No month counts as dearer than so many times that.
+const MOST_DEARNESS: u64 = 1 << 20;
+
+/// How many times as dear it is as in those months to leave a pairing open, in the mean; 1 at least.
+pub(crate) fn dearness(problem: &Problem) -> i64 {
+    let mut sum: u64 = 0;
+    let mut count: u64 = 1;
+    for pairing in problem.pairings() {
+        sum = sum.wrapping_add(u64::from(pairing.penalty));
+        count = count.wrapping_add(1);
+    }
+    (sum / count.max(1) / USUAL_PENALTY).clamp(1, MOST_DEARNESS) as i64
+}
