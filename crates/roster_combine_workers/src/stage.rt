@@ -1,7 +1,7 @@
 //! A pool in which one thread does what a schedule says.
 
-ghost use Rattle.std.specs.Prelude.{◌≡◌, ◌≢◌, ◌+◌, ◌<◌, ◌≤◌, [], ℕ, IfOk, None, OnOk, Some, length, map};
-ghost use Rattle.std.specs.Prelude.{replicate, vec_capacity, vec_len};
+ghost use Rattle.std.specs.Prelude.{◌≡◌, ◌≢◌, ◌+◌, ◌<◌, ◌≤◌, [], ℕ, IfErr, IfOk, IsErrAnd, None, OnErr, OnOk, Some};
+ghost use Rattle.std.specs.Prelude.{length, map, replicate, vec_capacity, vec_len};
 ghost use Rattle.std.specs.Arc.{arc_value};
 ghost use Rattle.roster_lines_table.specs.Person.{IsTableOf};
 ghost use Rattle.roster_incumbent.specs.Kept.{less_of};
@@ -370,7 +370,10 @@ fn room_for(list: &mut Vec<Settled>) -> Result<(), AllocError>
 }
 
 /// What becomes of a step that splits a span: the hand keeps what it has, whether it was split or not.
-fn split(split: Result<Piece, (PoolFault, Piece)>) -> Result<(), AllocError> {
+fn split(split: Result<Piece, (PoolFault, Piece)>) -> Result<(), AllocError>
+    ensures passed { OnOk result (IfErr split (λ refused. refused.0 ≢ PoolFault.Memory)) }
+    ensures memory { OnErr result (IsErrAnd split (λ refused. refused.0 ≡ PoolFault.Memory)) }
+{
     match split {
         Ok(piece) => {
             piece.forgo();
@@ -385,7 +388,8 @@ fn split(split: Result<Piece, (PoolFault, Piece)>) -> Result<(), AllocError> {
 
 /// What becomes of a step that the pool refuses: nothing, but for want of memory.
 fn refused(fault: PoolFault) -> Result<(), AllocError>
-    ensures { OnOk result (fault ≢ PoolFault.Memory) }
+    ensures passed { OnOk result (fault ≢ PoolFault.Memory) }
+    ensures memory { OnErr result (fault ≡ PoolFault.Memory) }
 {
     match fault {
         PoolFault::Memory => Err(AllocError),

@@ -1,6 +1,6 @@
 //! What a worker does.
 
-ghost use Rattle.std.specs.Prelude.{◌≡◌, ◌+◌, IfOk, IfSome, MatchOption};
+ghost use Rattle.std.specs.Prelude.{◌≡◌, ◌≢◌, ◌+◌, IfOk, IfSome, MatchOption, OnErr, OnOk};
 ghost use Rattle.std.specs.Prelude.{vec_len};
 ghost use Rattle.std.specs.Arc.{arc_value};
 ghost use Rattle.roster_lines_table.specs.Person.{IsTableOf};
@@ -214,7 +214,10 @@ impl<'a, R: Wait, L: Ledger, F: SpanSearch, G: Gate> Worker<'a, R, L, F, G> {
     }
 
     /// Stops a pool that refused a call for another cause than memory.
-    fn refused(&self, fault: PoolFault) -> Result<(), AllocError> {
+    fn refused(&self, fault: PoolFault) -> Result<(), AllocError>
+        ensures passed { OnOk result (fault ≢ PoolFault.Memory) }
+        ensures memory { OnErr result (fault ≡ PoolFault.Memory) }
+    {
         match fault {
             PoolFault::Memory => Err(AllocError),
             PoolFault::NotYours | PoolFault::CannotSplit | PoolFault::Nothing => {

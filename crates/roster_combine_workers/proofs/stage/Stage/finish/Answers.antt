@@ -97,5 +97,5 @@ invariant_of-self-in-Ok g c =
 pub returns-in-Err-finish-clause-step : goal.returns-in-Err-finish-clause-step
 returns-in-Err-finish-clause-step g c =
     let has = subst (λ (replay : Replay). held replay.state c.args.worker ≡ Some c.args.done.piece) (sym c.self.view_is) c.requires.held in
-    never-ok _ c.refused.result c.refused.ensures
+    never-ok _ c.refused.result c.refused.ensures.passed
     (c.in-Err-finish.ensures.fault ∙ told-own c.self.inside.pool.state c.args.worker c.args.done.piece has)
