@@ -12,6 +12,7 @@ use Rattle.roster_model.specs.Problem.{Problem}
 use Rattle.roster_model.specs.Record.{place_named}
 use Rattle.roster_model.specs.declared.limits.TheConstants.{MOST_PAIRINGS}
 use Rattle.roster_desk_reports.specs.Text.{Given, is_crew, lines_of, names_of, numbered_by_text, text_of, texts, word_at, words_of}
+use Rattle.roster_desk_reports.specs.declared.report.CrewLine.{CrewLine}
 use Rattle.roster_desk_reports.specs.declared.fault.ReportFault.{ReportFault}
 use Rattle.roster_desk_reports.specs.declared.fault.ReportFault.TheVariants.{At, Memory}
 use Rattle.roster_desk_reports.specs.declared.fault.Wrong.{Wrong}
@@ -159,3 +160,22 @@ abbrev pub fault_of_report : Problem → List ℕ → Option Told
 fault_of_report problem text =
     option_or (fault_of_text text)
     (option_or (month_fault problem (heading_of text)) (placing_fault problem [] (numbered_by_text text)))
+
+-- ---- lines that can't be made records
+
+-- one of the lines gives the name
+abbrev pub is_given : List CrewLine → List ℕ → Bool
+is_given lines name = list_any (λ crew. list_any (bytes_eq name) crew.pairings.items) lines
+
+-- what is wrong with the names of a line behind lines and names before: one is given a second time
+abbrev pub twice_fault : List CrewLine → List (List ℕ) → List (List ℕ) → Option Wrong
+twice_fault lines before [] = None
+twice_fault lines before (name ∷ rest) =
+    if is_given lines name || list_any (bytes_eq name) before then Some GivenTwice
+    else twice_fault lines (before ++ name ∷ []) rest
+
+-- the first of the lines behind those before
+abbrev pub records_fault : List CrewLine → List CrewLine → Option Told
+records_fault before [] = None
+records_fault before (crew ∷ rest) =
+    told_or crew.line (twice_fault before [] crew.pairings.items) (records_fault (before ++ crew ∷ []) rest)
