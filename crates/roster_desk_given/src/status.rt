@@ -1,8 +1,8 @@
 //! How a run ends.
 
-ghost use Rattle.std.specs.Prelude.{◌≡◌};
+ghost use Rattle.std.specs.Prelude.{◌≡◌, option_map};
 ghost use Rattle.std.specs.Process.{exit_status};
-ghost use Rattle.roster_desk_given.specs.Status.{exit_number};
+ghost use Rattle.roster_desk_given.specs.Status.{exit_number, message_text};
 
 use roster_desk_reports::Wrong;
 use std::process::ExitCode;
@@ -45,7 +45,9 @@ impl Status {
     }
 
     /// What standard error is told, if anything. That a report is refused is told by whoever has its path.
-    pub fn message(self) -> Option<&'static str> {
+    pub fn message(self) -> Option<&'static str>
+        ensures { option_map (λ text. text.now) result ≡ message_text self }
+    {
         match self {
             Status::Answered | Status::Refused | Status::StartRefused { .. } | Status::Closed =>
                 None,
