@@ -12,10 +12,9 @@ const MOST_DEARNESS: u64 = 1 << 20;
 /// How many times as dear it is as in those months to leave a pairing open, in the mean; 1 at least.
 pub(crate) fn dearness(problem: &Problem) -> i64 {
     let mut sum: u64 = 0;
-    let mut count: u64 = 1;
     for pairing in problem.pairings() {
         sum = sum.wrapping_add(u64::from(pairing.penalty));
-        count = count.wrapping_add(1);
     }
-    (sum / count.max(1) / USUAL_PENALTY).clamp(1, MOST_DEARNESS) as i64
+    let count = problem.pairings().len().max(1) as u64;
+    (sum / count / USUAL_PENALTY).clamp(1, MOST_DEARNESS) as i64
 }
