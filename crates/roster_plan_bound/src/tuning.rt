@@ -1,6 +1,6 @@
 //! Numbers that were found by measuring. Each may be another one: no bound rests on them, only how good it
-//! is. Amounts for a month whose penalties are some thousand units: for a dearer one the first and the greatest of
-//! reach, near, softness and stride are as many times as much (`dearness`).
+//! is. Amounts for a month whose penalties are some thousand units: for a dearer one those of reach, near, softness and
+//! stride are as many times as much (`dearness`), but for the least reach, softness and stride.
 
 /// One, in shares.
 pub(crate) const ONE: i64 = 1 << 16;
