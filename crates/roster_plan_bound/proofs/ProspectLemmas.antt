@@ -1,36 +1,37 @@
 -- What paths bring: each line is a path, and tables say what paths bring at least.
-use Rattle.std.proofs.Common.{◌≡◌, ℕ, zero, suc, ◌+◌, ◌-◌, ◌*◌, ◌<◌, ◌≤◌, true, false, ◌||◌, eqb, List, [], ◌∷◌, ◌++◌, length, get_or, Some, sym, ap, ◌∙◌, subst, inl, inr, arith, ℤ, pos, negsuc, neg_ℤ, ◌+ℤ◌, ◌-ℤ◌, ◌*ℤ◌, ◌≤ℤ◌, ◌^◌, append_assoc, w64, to_z, of_z, FitsSigned}
-use Rattle.std.proofs.Math.IntN.{*ℤ-zero}
+use Rattle.std.proofs.Common.{◌≡◌, ℕ, zero, suc, ◌+◌, ◌-◌, ◌*◌, ◌<◌, ◌≤◌, ◌⊎◌, true, false, ◌||◌, eqb, List, [], ◌∷◌, ◌++◌, length, get_or, Some, refl, sym, ap, ◌∙◌, subst, inl, inr, arith, ℤ, pos, negsuc, neg_ℤ, ◌+ℤ◌, ◌-ℤ◌, ◌*ℤ◌, ◌≤ℤ◌, ◌^◌, append_assoc, w64, to_z, of_z, FitsSigned}
+use Rattle.std.proofs.Math.IntN.{*ℤ-negsuc, *ℤ-zero}
 use Rattle.std.proofs.Math.Nat.{mul-le-mul_left, mul-le-mul_right, mul-add}
+use Rattle.roster_model.specs.declared.profile.TheConstants.{MOST_FLIGHT_IN_12_MONTHS, MOST_FLIGHT_IN_A_YEAR}
 use Rattle.std.specs.Prelude.{All, slice_get, slice_index, unsigned_abs, unwrap_or}
-use Rattle.std.specs.List.{list_any, AllByRecursion, IsDistinct}
+use Rattle.std.specs.List.{list_any, sum_by, AllByRecursion, IsDistinct}
 use Rattle.std.specs.List.Sorted.{IsStrictlyIncreasing}
 use Rattle.std.proofs.lemmas.Bool.{cases_eq, cases_lt, false≢true, ne_eqb}
 use Rattle.std.proofs.lemmas.Int.{ints, fits_signed_from_abs, to_z-of_z, unsigned_abs-mul}
 use Rattle.std.proofs.lemmas.List.Elements.{All-head, All-tail}
-use Rattle.std.proofs.lemmas.List.Sums.{sum_by-cons}
+use Rattle.std.proofs.lemmas.List.Sums.{sum_by-append, sum_by-cons}
 use Rattle.std.proofs.lemmas.Map.Steps.{length-le_from_distinct_below}
 use Rattle.std.proofs.lemmas.Option.{slice_get-get_or}
 use Rattle.roster_model.specs.declared.limits.TheConstants.{MOST_PAIRINGS, MOST_WEIGHT}
 use Rattle.roster_model.specs.Costs.{distance, flight_of, total}
 use Rattle.roster_model.specs.Lines.{IsLine}
-use Rattle.roster_model.specs.Problem.{Problem, target_of, units_of, weight_of}
-use Rattle.roster_model.specs.Rules.{is_among}
+use Rattle.roster_model.specs.Problem.{Problem, eleven_of, target_of, units_of, weight_of, year_of}
+use Rattle.roster_model.specs.Rules.{is_among, FlightYear, Flight12, IsLegal, LimitRule}
 use Rattle.roster_model.proofs.CostLemmas.{total-nil, total-cons, total-append}
 use Rattle.roster_model.proofs.SetLemmas.{is_among-append, All-is_among, All-from_is_among}
 use Rattle.roster_cost.specs.Amounts.{minutes_of_pairing, IsWithin}
 use Rattle.roster_lines.specs.Listing.{AreFlights, ArePartsLegal}
-use Rattle.roster_plan_bound.specs.declared.parts.TheConstants.{MOST_BEHIND, MOST_CHAIN_VALUE, MOST_LEAST, MOST_SHORT, PARTS}
+use Rattle.roster_plan_bound.specs.declared.parts.TheConstants.{MOST_BEHIND, MOST_CHAIN_VALUE, MOST_FIXED, MOST_LEAST, MOST_SHORT, PARTS}
 use Rattle.roster_plan_bound.specs.declared.prospect.WorthTable.{WorthTable}
 use Rattle.roster_plan_bound.specs.declared.rows_behind.OwedRows.{OwedRows}
 use Rattle.roster_plan_bound.specs.declared.timeline.Timeline.{Timeline}
 use Rattle.roster_plan_bound.specs.Behinds.{row_at, row_for}
 use Rattle.roster_plan_bound.specs.Chains.{value_at}
 use Rattle.roster_plan_bound.specs.Networks.{missed_at, AreValues}
-use Rattle.roster_plan_bound.specs.Prospects.{flight_along, gain_of, short_of, term_of, AreWorth, IsAhead, IsLeastPath, IsTable}
+use Rattle.roster_plan_bound.specs.Prospects.{gain_of, short_of, term_of, AreWorth, IsAhead, IsFixed, IsLeastPath, IsTable}
 use Rattle.roster_plan_bound.specs.Ranked.{IsRanked}
 use Rattle.roster_plan_bound.specs.Reduced.{reduced}
-use Rattle.roster_plan_bound.specs.Timelines.{rank_of, IsTimeline}
+use Rattle.roster_plan_bound.specs.Timelines.{flight_along, rank_of, spare_flight, IsPath, IsTimeline}
 use Rattle.roster_plan_bound.proofs.ChainLemmas.{single_among, total_values, AddsFlight}
 use Rattle.roster_plan_bound.proofs.RankedLemmas.{ranked_of, ranked-above, ranked-every, ranked-rest, AreTold}
 
@@ -81,6 +82,10 @@ turned (pos c) (suc d) = omega (arith, ints)
 turned (negsuc c) zero = omega (arith, ints)
 turned (negsuc c) (suc d) = omega (arith, ints)
 
+turned_product : (w d : ℕ) → negsuc w *ℤ pos d ≡ neg_ℤ (pos (suc w * d))
+turned_product w zero = omega (arith, ints)
+turned_product w (suc d) = omega (arith, ints)
+
 times_less : (c : ℤ) (a b : ℕ) → c *ℤ (pos a -ℤ pos b) ≡ (c *ℤ pos a) -ℤ (c *ℤ pos b)
 times_less c a b =
     elim (cases_lt a b) [
@@ -101,29 +106,6 @@ times_less c a b =
     ]
 
 -- ---- what it costs to miss a target
-
--- By a worth within the weight, so much flight beyond a target costs no more than the weight of what it is away.
-worth_below : (worth : ℤ) (weight fixed target flight : ℕ) → IsWithin weight worth
-    → ((worth *ℤ (pos fixed -ℤ pos target)) +ℤ (worth *ℤ pos flight)) ≤ℤ pos (weight * distance (fixed + flight) target)
-worth_below worth weight fixed target flight within =
-    let apart : ℕ = distance (fixed + flight) target in
-    let near = times_within worth (pos apart) weight apart within (omega (arith, ints), omega (arith, ints)) in
-    let low = near.0 in
-    let high = near.1 in
-    let parted = times_less worth fixed target in
-    let whole = times_more worth fixed flight in
-    elim (cases_lt (fixed + flight) target) [
-      | inl below ↦
-          let there : target ≡ (fixed + flight) + apart = omega (arith, below) in
-          let split : worth *ℤ pos target ≡ (worth *ℤ pos (fixed + flight)) +ℤ (worth *ℤ pos apart) =
-          ap (λ n. worth *ℤ pos n) there ∙ times_more worth (fixed + flight) apart in
-          omega (arith, ints, parted, whole, split, low)
-      | inr above ↦
-          let there : fixed + flight ≡ target + apart = omega (arith, above) in
-          let split : worth *ℤ pos (fixed + flight) ≡ (worth *ℤ pos target) +ℤ (worth *ℤ pos apart) =
-          ap (λ n. worth *ℤ pos n) there ∙ times_more worth target apart in
-          omega (arith, ints, parted, whole, split, high)
-    ]
 
 pub distance_abs : (a b : ℕ) → unsigned_abs (pos a -ℤ pos b) ≡ distance a b
 distance_abs a b =
@@ -172,6 +154,112 @@ term_is problem k flight weight short is far =
     let second = fixed_is problem k weight short is far in
     omega (arith, ints, first, second)
 
+times_plus : (c z : ℤ) (n : ℕ) → c *ℤ (z +ℤ pos n) ≡ (c *ℤ z) +ℤ (c *ℤ pos n)
+times_plus c (pos a) n = times_more c a n
+times_plus c (negsuc a) n =
+    let here : negsuc a +ℤ pos n ≡ pos n -ℤ pos (suc a) = omega (arith, ints) in
+    let other : c *ℤ negsuc a ≡ neg_ℤ (c *ℤ pos (suc a)) = *ℤ-negsuc c a in
+    ap (λ z. c *ℤ z) here ∙ times_less c n (suc a) ∙ omega (arith, ints, other)
+
+-- a worth within the weight, at the target
+pub fixed_near : (worth weight short : ℤ) (spare : ℕ) (fixed : ℤ) → neg_ℤ weight ≤ℤ worth → worth ≤ℤ weight
+    → fixed ≡ (worth *ℤ short) -ℤ (weight *ℤ pos (unsigned_abs short)) → IsFixed worth weight short spare fixed
+fixed_near worth (pos m) short spare fixed low high is flight few =
+    let away : ℤ = short +ℤ pos flight in
+    let own = within_abs (unsigned_abs away) away (omega arith) in
+    let most = times_within worth away m (unsigned_abs away) (low, high) own in
+    let above = most.1 in
+    omega (arith, ints, is, above, times_plus worth short flight)
+fixed_near worth (negsuc m) short spare fixed low high is flight few = absurd (omega (arith, ints, low, high))
+
+abs_more : (z : ℤ) (d : ℕ) → unsigned_abs (z +ℤ pos d) ≤ unsigned_abs z + d
+abs_more (pos n) d = omega (arith, ints)
+abs_more (negsuc n) d =
+    elim (cases_lt n d) [
+      | inl more ↦
+          let here : negsuc n +ℤ pos d ≡ pos (d - suc n) = omega (arith, ints, more) in
+          subst (λ z. unsigned_abs z ≤ suc n + d) (sym here) (omega arith)
+      | inr less ↦
+          let here : negsuc n +ℤ pos d ≡ negsuc (n - d) = omega (arith, ints, less) in
+          subst (λ z. unsigned_abs z ≤ suc n + d) (sym here) (omega arith)
+    ]
+
+abs_less : (z : ℤ) (d : ℕ) → z ≤ℤ pos 0 → unsigned_abs (z -ℤ pos d) ≡ unsigned_abs z + d
+abs_less (pos zero) zero low = omega (arith, ints)
+abs_less (pos zero) (suc d) low = omega (arith, ints)
+abs_less (pos (suc n)) d low = absurd (omega (arith, ints, low))
+abs_less (negsuc n) d low =
+    let here : negsuc n -ℤ pos d ≡ negsuc (n + d) = omega (arith, ints) in
+    ap unsigned_abs here ∙ omega arith
+
+product_more : (worth : ℤ) (m d : ℕ) → pos m ≤ℤ worth → pos (m * d) ≤ℤ (worth *ℤ pos d)
+product_more (pos w) m d more =
+    let few : m ≤ w = omega (arith, ints, more) in
+    let scaled = mul-le-mul_right d few in
+    omega (arith, ints, scaled)
+product_more (negsuc w) m d more = absurd (omega (arith, ints, more))
+
+product_less : (worth : ℤ) (m d : ℕ) → neg_ℤ (pos m) ≤ℤ worth → neg_ℤ (pos (m * d)) ≤ℤ (worth *ℤ pos d)
+product_less (pos w) m d low = omega (arith, ints)
+product_less (negsuc w) m d low =
+    let few : suc w ≤ m = omega (arith, ints, low) in
+    let scaled = mul-le-mul_right d few in
+    let turned_here : negsuc w *ℤ pos d ≡ neg_ℤ (pos (suc w * d)) = turned_product w d in
+    omega (arith, ints, scaled, turned_here)
+
+-- a worth beyond the weight, or any if all flight that may be spared leaves the person below the target: no more
+-- flight may be spared
+pub fixed_spent : (worth weight short : ℤ) (spare : ℕ) (near fixed : ℤ) → pos 0 ≤ℤ weight → neg_ℤ weight ≤ℤ worth
+    → (weight ≤ℤ worth) ⊎ ((short +ℤ pos spare) ≤ℤ pos 0)
+    → near ≡ (weight *ℤ pos (unsigned_abs (short +ℤ pos spare))) -ℤ (weight *ℤ pos (unsigned_abs short))
+    → fixed ≡ near -ℤ (worth *ℤ pos spare) → IsFixed worth weight short spare fixed
+fixed_spent worth (negsuc m) short spare near fixed heavy low one is less flight few = absurd (omega (arith, ints, heavy))
+fixed_spent worth (pos m) short spare near fixed heavy low one is less flight few =
+    let d : ℕ = spare - flight in
+    let there : spare ≡ flight + d = omega (arith, few) in
+    let whole : worth *ℤ pos spare ≡ (worth *ℤ pos flight) +ℤ (worth *ℤ pos d) =
+    ap (λ n. worth *ℤ pos n) there ∙ times_more worth flight d in
+    let away : ℕ = unsigned_abs (short +ℤ pos flight) in
+    let last : ℕ = unsigned_abs (short +ℤ pos spare) in
+    elim one [
+      | inl dear ↦
+          let more : short +ℤ pos spare ≡ (short +ℤ pos flight) +ℤ pos d = omega (arith, ints, there) in
+          let apart : last ≤ away + d = subst (λ z. unsigned_abs z ≤ away + d) (sym more) (abs_more (short +ℤ pos flight) d) in
+          let scaled = mul-le-mul_left m apart in
+          let split = mul-add m away d in
+          omega (arith, ints, is, less, whole, scaled, split, product_more worth m d dear)
+      | inr below ↦
+          let fewer : short +ℤ pos flight ≡ (short +ℤ pos spare) -ℤ pos d = omega (arith, ints, there) in
+          let apart : away ≡ last + d = ap unsigned_abs fewer ∙ abs_less (short +ℤ pos spare) d below in
+          let scaled : m * away ≡ m * (last + d) = ap (λ n. m * n) apart in
+          let split = mul-add m last d in
+          omega (arith, ints, is, less, whole, scaled, split, product_less worth m d low)
+    ]
+
+abs_least : (weight : ℤ) (n : ℕ) → pos 0 ≤ℤ weight → pos 0 ≤ℤ (weight *ℤ pos n)
+abs_least (pos m) n some = omega (arith, ints)
+abs_least (negsuc m) n some = absurd (omega (arith, ints, some))
+
+-- what it costs if all flight is flown that may be spared
+pub spent_within : (weight short : ℤ) (spare : ℕ) → pos 0 ≤ℤ weight → weight ≤ℤ pos (PARTS * MOST_WEIGHT)
+    → IsWithin MOST_SHORT short → spare ≤ MOST_FLIGHT_IN_A_YEAR
+    → IsWithin MOST_FIXED ((weight *ℤ pos (unsigned_abs (short +ℤ pos spare))) -ℤ (weight *ℤ pos (unsigned_abs short)))
+spent_within weight short spare some few near little =
+    let heavy : IsWithin (PARTS * MOST_WEIGHT) weight = (omega (arith, ints, some), few) in
+    let low_short = near.0 in
+    let high_short = near.1 in
+    let far : IsWithin (MOST_SHORT + MOST_FLIGHT_IN_A_YEAR) (short +ℤ pos spare) =
+    (omega (arith, ints, low_short), omega (arith, ints, high_short, little)) in
+    let apart = pos_within (MOST_SHORT + MOST_FLIGHT_IN_A_YEAR) (unsigned_abs (short +ℤ pos spare)) (abs_within (MOST_SHORT + MOST_FLIGHT_IN_A_YEAR) (short +ℤ pos spare) far) in
+    let away = pos_within MOST_SHORT (unsigned_abs short) (abs_within MOST_SHORT short near) in
+    let first = times_within weight (pos (unsigned_abs (short +ℤ pos spare))) (PARTS * MOST_WEIGHT) (MOST_SHORT + MOST_FLIGHT_IN_A_YEAR) heavy apart in
+    let second = times_within weight (pos (unsigned_abs short)) (PARTS * MOST_WEIGHT) MOST_SHORT heavy away in
+    let least = abs_least weight (unsigned_abs (short +ℤ pos spare)) some in
+    let least_second = abs_least weight (unsigned_abs short) some in
+    let high = first.1 in
+    let high_second = second.1 in
+    (omega (arith, ints, least, high_second), omega (arith, ints, high, least_second))
+
 -- ---- what a path brings
 
 pub worths_are : (problem : Problem) (k : ℕ) (units values : List ℤ) (flights : List ℕ) (worth : ℤ)
@@ -206,15 +294,14 @@ total_worth problem k units values worth are (p ∷ rest) inside =
 
 -- no less than a table says
 table_below : (problem : Problem) (k : ℕ) (timeline : Timeline) (units : List ℤ) (table : WorthTable)
-    → (is : IsTable problem k timeline units table) → (path : List ℕ)
-    → All (λ p. p < length problem.pairings) path
+    → (is : IsTable problem k timeline units table) → (path : List ℕ) → IsPath problem k timeline path
     → (total (value_at is.values) path +ℤ table.fixed) ≤ℤ gain_of problem k units path
-table_below problem k timeline units table is path inside =
-    let brought = total_worth problem k units is.values table.worth is.worths path inside in
-    let fixed : ℕ = flight_of problem k [] in
+table_below problem k timeline units table is path of =
+    let brought = total_worth problem k units is.values table.worth is.worths path of.places in
     let flight : ℕ = flight_along problem k path in
-    let below = worth_below table.worth (PARTS * weight_of problem) fixed (target_of problem k) flight is.weighed in
-    omega (arith, ints, brought, below, is.fixed, missed_is problem k (fixed + flight))
+    let at = is.fixed flight of.spare in
+    let term = term_is problem k flight (pos (PARTS * weight_of problem)) (short_of problem k) refl refl in
+    omega (arith, ints, brought, at, term)
 
 pub rows_within : (problem : Problem) (k : ℕ) (timeline : Timeline) (units : List ℤ) (table : WorthTable)
     → IsTable problem k timeline units table → (need : ℕ)
@@ -233,7 +320,7 @@ pub begun_below : (problem : Problem) (k : ℕ) (timeline : Timeline) (units : L
     → IsLeastPath problem k timeline units amount
 begun_below problem k timeline units table amount is told path of =
     let behind = is.behind.begun path of in
-    let below = table_below problem k timeline units table is path of.places in
+    let below = table_below problem k timeline units table is path of in
     omega (arith, ints, told, behind, below)
 
 abbrev no_rows : OwedRows
@@ -261,8 +348,19 @@ ahead_below problem k timeline units table value flight q class need amount is p
     ap (total (value_at is.values)) (sym joined) ∙ total-append (value_at is.values) front rest in
     let same : table.worth *ℤ pos (flight_along problem k front) ≡ table.worth *ℤ pos flight =
     ap (λ n. table.worth *ℤ pos n) (sym flown) in
-    let below = table_below problem k timeline units table is whole of.places in
+    let below = table_below problem k timeline units table is whole of in
     omega (arith, ints, told, behind, first, split, same, brought, below)
+
+-- no path begins with more flight than limits leave
+pub none_beyond : (problem : Problem) (k : ℕ) (timeline : Timeline) (flight q : ℕ) (before rest : List ℕ)
+    → IsPath problem k timeline (before ++ q ∷ rest) → flight ≡ flight_along problem k (before ++ q ∷ [])
+    → spare_flight problem k < flight → ⊥
+none_beyond problem k timeline flight q before rest of flown more =
+    let minutes : ℕ → ℕ = minutes_of_pairing problem k in
+    let joined : sum_by minutes ((before ++ q ∷ []) ++ rest) ≡ flight_along problem k (before ++ q ∷ rest) =
+    ap (sum_by minutes) (append_assoc before (q ∷ []) rest) in
+    let parted = sum_by-append minutes (before ++ q ∷ []) rest in
+    omega (arith, more, flown, joined, parted, of.spare)
 
 -- ---- what no path brings less than, whatever the tables
 
@@ -328,6 +426,20 @@ told_apart problem k timeline parts is set line p q among_p among_q same =
     ap (λ o. unwrap_or o p)
     (sym (is.order p (alone p among_p)) ∙ ap (slice_get timeline.order.items) same ∙ is.order q (alone q among_q))
 
+-- no more flight comes to the fixed one than limits leave
+within_limits : (problem : Problem) (k : ℕ) (set : List ℕ) (flight : ℕ) → IsLegal problem k set
+    → flight_of problem k [] + flight ≡ flight_of problem k set → flight ≤ spare_flight problem k
+within_limits problem k set flight legal adds =
+    elim legal [
+      | inl none ↦
+          let same : flight_of problem k set ≡ flight_of problem k [] = ap (flight_of problem k) none in
+          omega (arith, adds, same)
+      | inr holds ↦
+          let year : year_of problem k + flight_of problem k set ≤ MOST_FLIGHT_IN_A_YEAR = holds (LimitRule FlightYear) in
+          let twelve : eleven_of problem k + flight_of problem k set ≤ MOST_FLIGHT_IN_12_MONTHS = holds (LimitRule Flight12) in
+          omega (arith, adds, year, twelve)
+    ]
+
 -- no line has a lower reduced cost than all paths bring
 pub line_above : (problem : Problem) (prices : List ℤ) (k : ℕ) (timeline : Timeline) (units : List ℤ) (least : ℤ)
     → ArePartsLegal problem k → ((set : List ℕ) → IsStrictlyIncreasing set → AddsFlight problem k set)
@@ -337,15 +449,16 @@ pub line_above : (problem : Problem) (prices : List ℤ) (k : ℕ) (timeline : T
 line_above problem prices k timeline units least parts adds is are below set line =
     let of = ranked_of (rank_of timeline) set line.ascending (told_apart problem k timeline parts is set line) in
     let path : List ℕ = of.list in
+    let flight : flight_of problem k [] + flight_along problem k path ≡ flight_of problem k set =
+    ap (λ n. flight_of problem k [] + n) (of.sums (minutes_of_pairing problem k)) ∙ sym (adds set line.ascending) in
     let here = below path (record {
       legal = parts set path (λ p among. sym (of.members p) ∙ among) line.legal;
       ranked = of.ranked;
       places = ranked-every (rank_of timeline) (λ p. p < length problem.pairings) set of line.places;
+      spare = within_limits problem k set (flight_along problem k path) line.legal flight;
     }) in
     let brought = total_values problem prices k units are set line.places in
     let same = of.totals (value_at units) in
-    let flight : flight_of problem k [] + flight_along problem k path ≡ flight_of problem k set =
-    ap (λ n. flight_of problem k [] + n) (of.sums (minutes_of_pairing problem k)) ∙ sym (adds set line.ascending) in
     let missed : missed_at problem k (flight_of problem k [] + flight_along problem k path) ≡ missed_at problem k (flight_of problem k set) =
     ap (missed_at problem k) flight in
     omega (arith, ints, here, brought, same, missed, total-nil (units_of problem k))

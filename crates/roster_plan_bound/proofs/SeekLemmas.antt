@@ -24,11 +24,11 @@ use Rattle.roster_plan_bound.specs.declared.parts.TheConstants.{MOST_CHAIN_VALUE
 use Rattle.roster_plan_bound.specs.declared.seek.End.{End}
 use Rattle.roster_plan_bound.specs.declared.seek.Spot.{Spot}
 use Rattle.roster_plan_bound.specs.Chains.{value_at}
-use Rattle.roster_plan_bound.specs.Prospects.{flight_along, term_of, IsAhead, IsLeastPath, Outlook}
+use Rattle.roster_plan_bound.specs.Prospects.{term_of, IsAhead, IsLeastPath, Outlook}
 use Rattle.roster_plan_bound.specs.Ranked.{IsRanked}
 use Rattle.roster_plan_bound.specs.Seeks.{gain, EndsAt, IsClassWith, IsEndWith, IsLeastBelow, IsLeastFrom, IsLeastWith, IsNeedWith, IsNextSpot, IsOnward, IsSpot, IsStart, LeadsTo}
 use Rattle.roster_plan_bound.specs.Spans.{IsBegun}
-use Rattle.roster_plan_bound.specs.Timelines.{begin_of, class_of, later_than, low_of, rank_of, IsOwed, IsPath, IsTimeline}
+use Rattle.roster_plan_bound.specs.Timelines.{begin_of, class_of, flight_along, later_than, low_of, rank_of, IsOwed, IsPath, IsTimeline}
 use Rattle.roster_plan_bound.proofs.RankedLemmas.{ranked-above, ranked-rest}
 
 -- ---- lists

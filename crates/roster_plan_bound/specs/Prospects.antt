@@ -1,6 +1,5 @@
 -- What paths of a person bring at some prices, and tables that say what all of them bring at least.
-use Rattle.std.specs.Prelude.{◌≡◌, ℕ, ◌+◌, ◌*◌, ◌<◌, ◌≤◌, List, ◌∷◌, ◌++◌, [], length, ℤ, pos, ◌+ℤ◌, ◌-ℤ◌, ◌*ℤ◌, ◌≤ℤ◌, All}
-use Rattle.std.specs.List.{sum_by}
+use Rattle.std.specs.Prelude.{◌≡◌, ℕ, ◌+◌, ◌*◌, ◌<◌, ◌≤◌, List, ◌∷◌, ◌++◌, [], length, ℤ, pos, ◌+ℤ◌, ◌-ℤ◌, ◌*ℤ◌, ◌≤ℤ◌, neg_ℤ, unsigned_abs, All}
 use Rattle.roster_model.specs.Costs.{flight_of, total}
 use Rattle.roster_model.specs.Problem.{Problem, target_of, weight_of}
 use Rattle.roster_cost.specs.Amounts.{minutes_of_pairing, IsWithin}
@@ -12,11 +11,7 @@ use Rattle.roster_plan_bound.specs.Chains.{value_at}
 use Rattle.roster_plan_bound.specs.Networks.{missed_at, AreValues}
 use Rattle.roster_plan_bound.specs.Reduced.{ArePrices}
 use Rattle.roster_plan_bound.specs.Spans.{IsBegun}
-use Rattle.roster_plan_bound.specs.Timelines.{begin_of, class_of, AreValued, IsOwed, IsPath, IsTimeline}
-
--- the minutes of flight of a path's pairings
-abbrev pub flight_along : Problem → ℕ → List ℕ → ℕ
-flight_along problem k path = sum_by (minutes_of_pairing problem k) path
+use Rattle.roster_plan_bound.specs.Timelines.{begin_of, class_of, flight_along, spare_flight, AreValued, IsOwed, IsPath, IsTimeline}
 
 -- what so much flight beyond the fixed one costs, targets as they are, in parts of a cost unit
 abbrev pub term_of : Problem → ℕ → ℕ → ℤ
@@ -42,8 +37,13 @@ pub record AreWorth (problem : Problem) (k : ℕ) (units : List ℤ) (worth : �
   pub each : (p : ℕ) → p < length problem.pairings
       → value_at values p ≡ value_at units p +ℤ (worth *ℤ pos (minutes_of_pairing problem k p))
 
--- A table at what a minute of flight costs. To miss the target costs no less, since a minute costs no more
--- than the weight on either side.
+-- By the worth so much flight beyond a target costs no less, if there is no more than may be spared.
+abbrev pub IsFixed : ℤ → ℤ → ℤ → ℕ → ℤ → Type 0
+IsFixed worth weight short spare fixed =
+    (flight : ℕ) → flight ≤ spare → ((worth *ℤ pos flight) +ℤ fixed)
+    ≤ℤ ((weight *ℤ pos (unsigned_abs (short +ℤ pos flight))) -ℤ (weight *ℤ pos (unsigned_abs short)))
+
+-- A table at what a minute of flight costs. To miss the target costs no less, by the flight that limits leave.
 pub record IsTable (problem : Problem) (k : ℕ) (timeline : Timeline) (units : List ℤ)
     (table : WorthTable) : Type 0 where
   pub values : List ℤ
@@ -51,14 +51,13 @@ pub record IsTable (problem : Problem) (k : ℕ) (timeline : Timeline) (units : 
   pub valued : AreValued problem k timeline values
   pub behind : AreBehind problem k timeline values table.behind
   pub small : IsWithin MOST_WORTH table.worth
-  pub weighed : IsWithin (PARTS * weight_of problem) table.worth
-  pub fixed : table.fixed ≡ (table.worth *ℤ short_of problem k)
-      -ℤ missed_at problem k (flight_of problem k [])
+  pub fixed : IsFixed table.worth (pos (PARTS * weight_of problem)) (short_of problem k) (spare_flight problem k)
+      table.fixed
   pub near : IsWithin MOST_LEAST table.fixed
 
 -- a person's timeline, what each pairing brings at the prices, and tables
 pub record IsProspect (problem : Problem) (k : ℕ) (timeline : Timeline) (prices units : List ℤ)
-    (tables : List WorthTable) (weight short : ℤ) : Type 0 where
+    (tables : List WorthTable) (weight short : ℤ) (spare : ℕ) : Type 0 where
   pub person : k < length problem.persons
   pub is_timeline : IsTimeline problem k timeline
   pub are_prices : ArePrices problem prices
@@ -67,6 +66,7 @@ pub record IsProspect (problem : Problem) (k : ℕ) (timeline : Timeline) (price
   pub is_weight : weight ≡ pos (PARTS * weight_of problem)
   pub is_short : short ≡ short_of problem k
   pub small : IsWithin MOST_SHORT short
+  pub is_spare : spare ≡ spare_flight problem k
 
 -- What begins with some path that ends with pairing q brings no less, if the path has that value and flight,
 -- since the instant of the class no recurrent rest lies before its end, and so many pairs of days off still

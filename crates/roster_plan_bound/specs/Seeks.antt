@@ -9,9 +9,9 @@ use Rattle.roster_plan_bound.specs.declared.seek.End.{End}
 use Rattle.roster_plan_bound.specs.declared.seek.Spot.{Spot}
 use Rattle.roster_plan_bound.specs.declared.timeline.Timeline.{Timeline}
 use Rattle.roster_plan_bound.specs.Chains.{value_at}
-use Rattle.roster_plan_bound.specs.Prospects.{flight_along, gain_of, Outlook}
+use Rattle.roster_plan_bound.specs.Prospects.{gain_of, Outlook}
 use Rattle.roster_plan_bound.specs.Spans.{IsBegun}
-use Rattle.roster_plan_bound.specs.Timelines.{begin_of, class_of, need_behind, need_first, unrested_after, IsOwed, IsPath}
+use Rattle.roster_plan_bound.specs.Timelines.{begin_of, class_of, flight_along, need_behind, need_first, unrested_after, IsOwed, IsPath}
 
 -- what a path brings
 abbrev pub gain : Outlook → List ℕ → ℤ

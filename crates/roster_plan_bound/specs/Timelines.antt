@@ -1,12 +1,15 @@
 -- The pairings of a person in order of time.
-use Rattle.std.specs.Prelude.{◌≡◌, ℕ, ◌-◌, ◌<◌, ◌≤◌, List, [], length, slice_get, slice_index, slice_index_or, true, Some, ℤ, All}
-use Rattle.roster_model.specs.Problem.{Problem, home_of}
+use Rattle.std.specs.Prelude.{◌≡◌, ℕ, ◌-◌, ◌<◌, ◌≤◌, min, List, [], length, slice_get, slice_index, slice_index_or, true, Some, ℤ, All}
+use Rattle.std.specs.List.{sum_by}
+use Rattle.roster_model.specs.declared.profile.TheConstants.{MOST_FLIGHT_IN_12_MONTHS, MOST_FLIGHT_IN_A_YEAR}
+use Rattle.roster_model.specs.Costs.{flight_of}
+use Rattle.roster_model.specs.Problem.{Problem, eleven_of, home_of, year_of}
 use Rattle.roster_model.specs.Rules.{duty_list, is_among, IsLegal}
 use Rattle.roster_lines.specs.Listing.{AreAlone, AreFlights}
 use Rattle.roster_plan_bound.specs.declared.days_off.DaysOff.{DaysOff}
 use Rattle.roster_plan_bound.specs.declared.timeline.Timeline.{Timeline}
 use Rattle.roster_model.specs.declared.limits.TheConstants.{LAST_INSTANT, MOST_PAIRINGS}
-use Rattle.roster_cost.specs.Amounts.{IsWithin}
+use Rattle.roster_cost.specs.Amounts.{minutes_of_pairing, IsWithin}
 use Rattle.roster_plan_bound.specs.declared.parts.TheConstants.{MOST_FLIGHT, MOST_STEP}
 use Rattle.roster_plan_bound.specs.DaysOffs.{pairs_by, HasPairsFrom}
 use Rattle.roster_plan_bound.specs.Spans.{IsBegun}
@@ -54,11 +57,23 @@ abbrev pub IsOwed : Problem → ℕ → Timeline → List ℕ → ℕ → ℕ �
 IsOwed problem k timeline set p need =
     HasPairsFrom (home_of problem k).days (duty_list problem k set) (off_of timeline p).from need
 
--- Pairings that are legal together, by their ranks.
+-- the minutes of flight of a path's pairings
+abbrev pub flight_along : Problem → ℕ → List ℕ → ℕ
+flight_along problem k path = sum_by (minutes_of_pairing problem k) path
+
+-- the minutes of flight that the limits of a calendar year and of twelve months leave the person beside the
+-- fixed ones
+abbrev pub spare_flight : Problem → ℕ → ℕ
+spare_flight problem k =
+    min (MOST_FLIGHT_IN_A_YEAR - year_of problem k) (MOST_FLIGHT_IN_12_MONTHS - eleven_of problem k)
+    - flight_of problem k []
+
+-- Pairings that are legal together, by their ranks. They have no more flight than limits leave.
 pub record IsPath (problem : Problem) (k : ℕ) (timeline : Timeline) (path : List ℕ) : Type 0 where
   pub legal : IsLegal problem k path
   pub ranked : IsRanked (rank_of timeline) path
   pub places : All (λ p. p < length problem.pairings) path
+  pub spare : flight_along problem k path ≤ spare_flight problem k
 
 -- a list for each pairing, and a class for each that is legal alone
 pub record CoversPairings (problem : Problem) (timeline : Timeline) : Type 0 where

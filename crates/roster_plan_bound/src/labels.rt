@@ -140,7 +140,7 @@ fn promised(
     }
     let end = end_with(prospect, spot, q);
     match prospect.timeline().lows.get(q) {
-        Some(low) if end.class >= *low => {
+        Some(low) if end.class >= *low && prospect.spares(end.flight) => {
             let least = match worth {
                 Some(worth) => end
                     .value

@@ -15,6 +15,9 @@ pub(crate) const MOST_TARGET_TERM: u64 = 1 << 53;
 /// The least reduced cost of a person, at most, and below 0: a term, and the values of all pairings.
 pub(crate) const MOST_LEAST: u64 = 1 << 54;
 
+/// What a table has beside its pairings at a worth within the weight, at most, and below 0.
+pub(crate) const MOST_FIXED: u64 = 3 << 52;
+
 /// More than any row has, on either side: two such amounts fit a word.
 pub(crate) const MOST_AMOUNT: u64 = 1 << 60;
 

@@ -1,21 +1,22 @@
 //! What the paths of a person bring at some prices: tables say what all of them bring at least.
 
 ghost use Rattle.std.specs.Prelude.{◌≡◌, ◌<◌, ◌≤◌, ◌+◌, ◌*◌, ◌+ℤ◌, ◌-ℤ◌, ◌*ℤ◌, ◌≤ℤ◌, ◌⊎◌, ℕ, pos, neg_ℤ};
-ghost use Rattle.std.specs.Prelude.{All, IfOk, IfSome, Some, length, slice_get, slice_index, unsigned_abs};
+ghost use Rattle.std.specs.Prelude.{false, All, IfOk, IfSome, IsTrue, Some, length, slice_get, slice_index, unsigned_abs};
 ghost use Rattle.roster_cost.specs.Amounts.{IsWithin};
 ghost use Rattle.roster_model.specs.Problem.{weight_of};
 ghost use Rattle.roster_plan_bound.specs.declared.rows_behind.OwedRows.{OwedRows};
 ghost use Rattle.roster_plan_bound.specs.Behinds.{row_at, row_for};
 ghost use Rattle.roster_plan_bound.specs.Chains.{value_at};
 ghost use Rattle.roster_plan_bound.specs.Networks.{AreValues};
-ghost use Rattle.roster_plan_bound.specs.Prospects.{short_of, term_of, IsAhead, IsLeastPath, IsTable};
+ghost use Rattle.roster_plan_bound.specs.Prospects.{short_of, term_of, IsAhead, IsFixed, IsLeastPath, IsTable};
 ghost use Rattle.roster_plan_bound.specs.Reduced.{ArePrices, IsLeastOf};
-ghost use Rattle.roster_plan_bound.specs.Timelines.{IsTimeline};
+ghost use Rattle.roster_plan_bound.specs.Timelines.{spare_flight, IsTimeline};
 
 use crate::behind::{Behind, Valued, behind_of};
+use crate::lists::amount_at;
 use crate::parts::{
-    MOST_BEHIND, MOST_CHAIN_VALUE, MOST_FLIGHT, MOST_LEAST, MOST_SHORT, MOST_STEP, MOST_SUM,
-    MOST_WORTH, PARTS,
+    MOST_BEHIND, MOST_CHAIN_VALUE, MOST_FIXED, MOST_FLIGHT, MOST_LEAST, MOST_SHORT, MOST_STEP,
+    MOST_SUM, MOST_WORTH, PARTS,
 };
 use crate::pricing::values_of;
 use crate::timeline::Timeline;
@@ -23,6 +24,9 @@ use roster_cost::fixed_flight;
 use roster_cumulative::flight_of_set;
 use roster_legal::part_of_legal_is_legal;
 use roster_model::limits::{MOST_PAIRINGS, MOST_WEIGHT};
+use roster_model::profile::{
+    MOST_FLIGHT_IN_12_MONTHS, MOST_FLIGHT_IN_28_DAYS, MOST_FLIGHT_IN_A_YEAR,
+};
 use roster_problem::Problem;
 use std::alloc::{AllocError, Global};
 use std::marker::Model;
@@ -47,6 +51,10 @@ pub(crate) struct Prospect<'a> {
     tables: Vec<WorthTable>,
     weight: i64,
     short: i64,
+    /// The minutes of flight that limits leave beside the fixed ones.
+    spare: u64,
+    /// Whether that is little.
+    is_scarce: bool,
 }
 
 impl<'a> Model for Prospect<'a> {
@@ -63,7 +71,7 @@ impl<'a> Model for Prospect<'a> {
     } };
 
     ghost invariant = { λ o. IsProspect o.problem.now o.person o.timeline.now o.prices.now o.units.items
-        o.tables.items o.weight o.short };
+        o.tables.items o.weight o.short o.spare };
 }
 
 impl<'a> Prospect<'a> {
@@ -87,6 +95,7 @@ impl<'a> Prospect<'a> {
             return Ok(None);
         };
         let units = values_of(alloc, problem, person, prices)?;
+        let spare = spare_flight(problem, person);
         Ok(Some(Prospect {
             problem,
             person,
@@ -96,6 +105,8 @@ impl<'a> Prospect<'a> {
             tables: Vec::new(alloc),
             weight: minute_weight(problem),
             short,
+            spare,
+            is_scarce: is_scarce(timeline, spare),
         }))
     }
 
@@ -130,8 +141,9 @@ impl<'a> Prospect<'a> {
         self.units.as_slice()
     }
 
-    /// Makes the table at what a minute of flight costs, or at the nearest worth that is no more than the
-    /// weight, on either side. If memory runs out, nothing has changed.
+    /// Makes the table at what a minute of flight costs, or at the nearest worth that may be: no more than the
+    /// weight, on either side, but any above it if limits leave little flight. If memory runs out, nothing has
+    /// changed.
     pub(crate) fn add(&mut self, alloc: Global, worth: i64) -> Result<(), AllocError>
         ensures { self.new ≡ self.old }
     {
@@ -173,7 +185,7 @@ impl<'a> Prospect<'a> {
             (IsTable self.now.problem self.now.person self.now.timeline self.now.units) }
     {
         self.problem.is_sound();
-        let worth = near_worth(worth, self.weight);
+        let worth = near_worth(worth, self.weight, self.is_scarce);
         let values = worth_values(alloc, &self.units, &self.timeline.flights, worth)?;
         let valued = Valued {
             problem: self.problem,
@@ -182,7 +194,7 @@ impl<'a> Prospect<'a> {
             values: &values,
         };
         let behind = behind_of(alloc, &valued)?;
-        let fixed = fixed_at(worth, self.weight, self.short);
+        let fixed = fixed_at(worth, self.weight, self.short, self.spare);
         Ok(WorthTable {
             worth,
             fixed,
@@ -205,7 +217,7 @@ impl<'a> Prospect<'a> {
 
     /// What a path brings at least that begins with pairings of that value and flight, of which `q` is the
     /// last one. Since the instant of the class no recurrent rest lies before its end, and so many pairs of
-    /// days off still have to come.
+    /// days off still have to come. No path has more flight than limits leave.
     pub(crate) fn ahead(&self, value: i64, flight: u64, q: usize, class: usize, need: usize) -> i64
         requires pairing { q < length self.now.problem.pairings }
         requires value { IsWithin (MOST_PAIRINGS * MOST_CHAIN_VALUE) value }
@@ -214,6 +226,9 @@ impl<'a> Prospect<'a> {
             class need result }
     {
         self.problem.is_sound();
+        if flight > self.spare {
+            return i64::MAX;
+        }
         let mut least = -(MOST_LEAST as i64);
         for i in 0..self.tables.len() {
             least = greater(least, self.tables[i].ahead(value, flight, q, class, need));
@@ -239,6 +254,34 @@ impl<'a> Prospect<'a> {
         part_of_legal_is_legal();
         flight_of_set();
         self.problem.is_sound();
+    }
+
+    /// Whether limits leave so much flight.
+    pub(crate) fn spares(&self, flight: u64) -> bool {
+        flight <= self.spare
+    }
+
+    /// Whether limits leave little flight, so that it may be worth more than the weight.
+    pub(crate) fn is_scarce(&self) -> bool {
+        self.is_scarce
+    }
+
+    /// How much a minute of flight is worth, about: the weight, or, if limits leave little flight, what the pairings
+    /// that bring something bring by the minute.
+    pub(crate) fn usual_worth(&self) -> i64 {
+        if !self.is_scarce {
+            return self.weight;
+        }
+        let mut saved: i64 = 0;
+        let mut minutes: u64 = 0;
+        for q in &self.timeline.order {
+            let units = amount_at(&self.units, *q);
+            if units < 0 {
+                saved = saved.wrapping_sub(units);
+                minutes = minutes.wrapping_add(flight_at(&self.timeline.flights, *q));
+            }
+        }
+        (saved / (minutes.max(1).min(MOST_WORTH) as i64)).max(self.weight)
     }
 
     /// The prices.
@@ -308,6 +351,35 @@ fn beyond_target(problem: &Problem, k: usize) -> Option<i64>
     Some(short)
 }
 
+/// The minutes of flight that the limits of a calendar year and of twelve months leave person `k` beside the fixed
+/// ones.
+fn spare_flight(problem: &Problem, k: usize) -> u64
+    requires { k < length problem.now.persons }
+    ensures value { result ≡ spare_flight problem.now k }
+{
+    let person = problem.person(k);
+    let year = MOST_FLIGHT_IN_A_YEAR.saturating_sub(u64::from(person.year));
+    let twelve = MOST_FLIGHT_IN_12_MONTHS.saturating_sub(u64::from(person.eleven));
+    year.min(twelve).saturating_sub(fixed_flight(problem, k))
+}
+
+/// Whether so much flight is less than pairings have that are legal alone, and than a person may have in any 28 days.
+fn is_scarce(timeline: &Timeline, spare: u64) -> bool {
+    let mut minutes: u64 = 0;
+    for q in &timeline.order {
+        minutes = minutes.wrapping_add(flight_at(&timeline.flights, *q));
+    }
+    spare < minutes.min(MOST_FLIGHT_IN_28_DAYS)
+}
+
+/// The flight at a place of the list; nothing if there is no such place.
+fn flight_at(flights: &[u64], p: usize) -> u64 {
+    match flights.get(p) {
+        Some(flight) => *flight,
+        None => 0,
+    }
+}
+
 /// What a minute costs by which the target is missed.
 fn minute_weight(problem: &Problem) -> i64
     ensures { result ≡ pos (PARTS * weight_of problem.now) }
@@ -315,14 +387,22 @@ fn minute_weight(problem: &Problem) -> i64
     (PARTS * u64::from(problem.weight())) as i64
 }
 
-/// The nearest worth that is no more than the weight, on either side.
-fn near_worth(worth: i64, weight: i64) -> i64
+/// The nearest worth that may be: no more than the weight, on either side, or any above it if flight is scarce.
+fn near_worth(worth: i64, weight: i64, is_scarce: bool) -> i64
     requires { (pos 0 ≤ℤ weight) × (weight ≤ℤ pos (PARTS * MOST_WEIGHT)) }
     ensures small { IsWithin MOST_WORTH result }
-    ensures weighed { (neg_ℤ weight ≤ℤ result) × (result ≤ℤ weight) }
+    ensures weighed { neg_ℤ weight ≤ℤ result }
 {
-    let most = weight.min(MOST_WORTH as i64);
-    worth.clamp(-most, most)
+    let near = weight.min(MOST_WORTH as i64);
+    worth.clamp(-near, most_worth(near, is_scarce))
+}
+
+/// The greatest worth that may be, if this is the greatest one within the weight.
+fn most_worth(near: i64, is_scarce: bool) -> i64
+    requires { near ≤ℤ pos MOST_WORTH }
+    ensures { (near ≤ℤ result) × (result ≤ℤ pos MOST_WORTH) }
+{
+    if is_scarce { MOST_WORTH as i64 } else { near }
 }
 
 /// What each pairing brings if each minute of flight costs so much.
@@ -359,15 +439,66 @@ fn worth_value(units: i64, flight: u64, worth: i64) -> i64
     units + worth * flight as i64
 }
 
-/// What a table has beside its pairings: by the worth, so much flight beyond the target costs no less.
-fn fixed_at(worth: i64, weight: i64, short: i64) -> i64
+/// What a table has beside its pairings: by the worth, so much flight beyond the target costs no less, if there is no
+/// more than may be spared.
+fn fixed_at(worth: i64, weight: i64, short: i64, spare: u64) -> i64
+    requires small { IsWithin MOST_WORTH worth }
+    requires low { neg_ℤ weight ≤ℤ worth }
+    requires weight { (pos 0 ≤ℤ weight) × (weight ≤ℤ pos (PARTS * MOST_WEIGHT)) }
+    requires short { IsWithin MOST_SHORT short }
+    requires spare { spare ≤ MOST_FLIGHT_IN_A_YEAR }
+    ensures value { IsFixed worth weight short spare result }
+    ensures within { IsWithin MOST_LEAST result }
+{
+    if is_spent(worth, weight, short, spare) {
+        return less_spare(spent_term(weight, short, spare), worth, spare);
+    }
+    fixed_within(worth, weight, short)
+}
+
+/// Whether, by the worth, it costs least to fly all that may be spared: a minute costs more than the weight, or the
+/// person is below the target even then.
+fn is_spent(worth: i64, weight: i64, short: i64, spare: u64) -> bool
+    requires short { IsWithin MOST_SHORT short }
+    requires spare { spare ≤ MOST_FLIGHT_IN_A_YEAR }
+    ensures yes { IsTrue result → (weight ≤ℤ worth) ⊎ ((short +ℤ pos spare) ≤ℤ pos 0) }
+    ensures no { result ≡ false → worth ≤ℤ weight }
+{
+    worth > weight || short + (spare as i64) < 0
+}
+
+/// What so much flight costs, if it is all that may be spared.
+fn spent_term(weight: i64, short: i64, spare: u64) -> i64
+    requires weight { (pos 0 ≤ℤ weight) × (weight ≤ℤ pos (PARTS * MOST_WEIGHT)) }
+    requires short { IsWithin MOST_SHORT short }
+    requires spare { spare ≤ MOST_FLIGHT_IN_A_YEAR }
+    ensures value { result ≡ (weight *ℤ pos (unsigned_abs (short +ℤ pos spare)))
+        -ℤ (weight *ℤ pos (unsigned_abs short)) }
+    ensures within { IsWithin MOST_FIXED result }
+{
+    missed_more(weight, short, spare)
+}
+
+/// The same for a worth within the weight, however much flight there is.
+fn fixed_within(worth: i64, weight: i64, short: i64) -> i64
     requires worth { IsWithin MOST_WORTH worth }
     requires weight { (pos 0 ≤ℤ weight) × (weight ≤ℤ pos (PARTS * MOST_WEIGHT)) }
     requires short { IsWithin MOST_SHORT short }
     ensures value { result ≡ (worth *ℤ short) -ℤ (weight *ℤ pos (unsigned_abs short)) }
-    ensures within { IsWithin MOST_LEAST result }
+    ensures within { IsWithin MOST_FIXED result }
 {
     worth * short - weight * short.abs()
+}
+
+/// What is left without what the flight that may be spared costs by the worth.
+fn less_spare(fixed: i64, worth: i64, spare: u64) -> i64
+    requires fixed { IsWithin MOST_FIXED fixed }
+    requires worth { IsWithin MOST_WORTH worth }
+    requires spare { spare ≤ MOST_FLIGHT_IN_A_YEAR }
+    ensures value { result ≡ fixed -ℤ (worth *ℤ pos spare) }
+    ensures within { IsWithin MOST_LEAST result }
+{
+    fixed - worth * spare as i64
 }
 
 /// What so much flight beyond the fixed one costs.

@@ -9,7 +9,7 @@ ghost use Rattle.roster_plan_bound.specs.Timelines.{IsTimeline};
 
 use crate::columns::{Columns, Hints};
 use crate::labels::{Labelled, is_barred, label_all};
-use crate::parts::{MOST_LEAST, PARTS};
+use crate::parts::MOST_LEAST;
 use crate::prospect::Prospect;
 use crate::seek::{Listing, seek_all};
 use crate::timeline::Timeline;
@@ -44,7 +44,7 @@ pub(crate) fn least_set(
     let Some(mut prospect) = Prospect::new(alloc, problem, k, timeline, prices)? else {
         return Ok(None);
     };
-    add_tables(alloc, problem, &mut prospect, columns)?;
+    add_tables(alloc, &mut prospect, columns)?;
     prospect.refine(alloc, FINER_WORTHS)?;
     let tabled = prospect.least();
     if visits == 0 {
@@ -54,21 +54,24 @@ pub(crate) fn least_set(
     Ok(Some(least))
 }
 
-/// Makes tables at what a minute of flight was worth to the best one before, and at a step less and more: the
-/// weight at first. The steps are half as long from then on if that is the best one again, and else twice as long,
-/// within limits.
+/// Makes tables at what a minute of flight was worth to the best one before, and at a step less and more: what it is
+/// usually worth at first. The steps are half as long from then on if that is the best one again, and else twice as
+/// long, within limits.
 fn add_tables(
     alloc: Global,
-    problem: &Problem,
     prospect: &mut Prospect<'_>,
     columns: &mut Columns,
 ) -> Result<(), AllocError>
     ensures { prospect.new ≡ prospect.old }
 {
-    let weight = (PARTS as i64).wrapping_mul(i64::from(problem.weight()));
-    let longest = weight / FEWEST_WORTH_STEPS;
+    let usual = prospect.usual_worth();
+    let longest = if prospect.is_scarce() {
+        usual
+    } else {
+        usual / FEWEST_WORTH_STEPS
+    };
     let Hints { worth, step, .. } = columns.hints;
-    let step = if step > 0 { step } else { weight };
+    let step = if step > 0 { step } else { usual };
     prospect.add(alloc, worth)?;
     prospect.add(alloc, worth.wrapping_sub(step))?;
     prospect.add(alloc, worth.wrapping_add(step))?;
@@ -78,7 +81,7 @@ fn add_tables(
     } else {
         step.wrapping_mul(2).min(longest)
     }
-    .max(weight / MOST_WORTH_STEPS)
+    .max(usual / MOST_WORTH_STEPS)
     .max(1);
     Ok(())
 }
@@ -105,7 +108,7 @@ pub(crate) fn renew_sets(
     };
     let is_small = is_mostly_barred(&prospect);
     if !is_small {
-        add_tables(alloc, problem, &mut prospect, columns)?;
+        add_tables(alloc, &mut prospect, columns)?;
     }
     let mut judge = Judge::new(alloc, prospect.problem());
     let mut labelled = labelled_of(columns, prices, is_small);

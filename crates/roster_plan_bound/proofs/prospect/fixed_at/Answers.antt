@@ -1,61 +1,61 @@
-use Rattle.std.proofs.Common.{◌≡◌, pos, ◌*◌, ◌-ℤ◌, ◌*ℤ◌, w64, to_z, of_z, arith, ap, ◌∙◌, subst, sym, unsigned_abs}
+use Rattle.std.proofs.Common.{◌≡◌, ◌⊎◌, ℤ, pos, ◌+ℤ◌, ◌-ℤ◌, ◌*ℤ◌, ◌≤ℤ◌, w64, to_z, of_z, FitsSigned, arith, ap, ◌∙◌, subst, sym, refl, unsigned_abs}
 use Rattle.std.proofs.lemmas.Int.{ints, to_z-of_z}
-use Rattle.roster_model.specs.declared.limits.TheConstants.{MOST_WEIGHT}
 use Rattle.roster_cost.specs.Amounts.{IsWithin}
-use Rattle.roster_plan_bound.specs.declared.parts.TheConstants.{MOST_LEAST, MOST_SHORT, MOST_WORTH, PARTS}
-use Rattle.roster_plan_bound.proofs.ProspectLemmas.{abs_within, fits_in, pos_within, product_told, times_within, told_in}
+use Rattle.roster_plan_bound.specs.declared.parts.TheConstants.{MOST_FIXED, MOST_LEAST}
+use Rattle.roster_plan_bound.specs.Prospects.{IsFixed}
+use Rattle.roster_plan_bound.proofs.ProspectLemmas.{fixed_near, fixed_spent, told_in}
+use Rattle.roster_plan_bound.proofs.RowLemmas.{within-more}
 use Rattle.roster_plan_bound.proofs.prospect.fixed_at.Goals as goal
 
-absolute : (c : goal.After-abs) → c.abs.result ≡ pos (unsigned_abs c.args.short)
-absolute c = c.abs.ensures.value ∙ ap (λ z. pos (unsigned_abs z)) (to_z-of_z w64 c.args.short c.ranges.short)
+-- what a table has beside its pairings, as words have it
+in_words : (worth weight short : ℤ) → FitsSigned w64 worth → FitsSigned w64 weight → FitsSigned w64 short
+    → (to_z w64 (of_z w64 worth) *ℤ to_z w64 (of_z w64 short)) -ℤ (to_z w64 (of_z w64 weight) *ℤ pos (unsigned_abs (to_z w64 (of_z w64 short)))) ≡ (worth *ℤ short) -ℤ (weight *ℤ pos (unsigned_abs short))
+in_words worth weight short first second third =
+    ap (λ z. (z *ℤ to_z w64 (of_z w64 short)) -ℤ (to_z w64 (of_z w64 weight) *ℤ pos (unsigned_abs (to_z w64 (of_z w64 short))))) (to_z-of_z w64 worth first)
+    ∙ ap (λ z. (worth *ℤ to_z w64 (of_z w64 short)) -ℤ (z *ℤ pos (unsigned_abs (to_z w64 (of_z w64 short))))) (to_z-of_z w64 weight second)
+    ∙ ap (λ z. (worth *ℤ z) -ℤ (weight *ℤ pos (unsigned_abs z))) (to_z-of_z w64 short third)
 
-away : (c : goal.After-abs) → IsWithin MOST_SHORT c.abs.result
-away c =
-    subst (IsWithin MOST_SHORT) (sym (absolute c))
-    (pos_within MOST_SHORT (unsigned_abs c.args.short) (abs_within MOST_SHORT c.args.short c.requires.short))
-
-heavy : (c : goal.After-abs) → IsWithin (PARTS * MOST_WEIGHT) c.args.weight
-heavy c =
-    let low = c.requires.weight.0 in
-    let high = c.requires.weight.1 in
-    (omega (arith, ints, low), high)
-
-brought : (c : goal.After-abs)
-    → to_z w64 (of_z w64 (to_z w64 (of_z w64 c.args.worth) *ℤ to_z w64 (of_z w64 c.args.short))) ≡ c.args.worth *ℤ c.args.short
-brought c =
-    product_told c.args.worth c.args.short MOST_WORTH MOST_SHORT c.requires.worth c.requires.short (omega arith)
-    (omega arith) (omega arith)
-
-weighed : (c : goal.After-abs)
-    → to_z w64 (of_z w64 (to_z w64 (of_z w64 c.args.weight) *ℤ to_z w64 (of_z w64 c.abs.result))) ≡ c.args.weight *ℤ c.abs.result
-weighed c =
-    product_told c.args.weight c.abs.result (PARTS * MOST_WEIGHT) MOST_SHORT (heavy c) (away c) (omega arith)
-    (omega arith) (omega arith)
-
-apart : (c : goal.After-abs) → IsWithin MOST_LEAST ((c.args.worth *ℤ c.args.short) -ℤ (c.args.weight *ℤ c.abs.result))
-apart c =
-    let first = times_within c.args.worth c.args.short MOST_WORTH MOST_SHORT c.requires.worth c.requires.short in
-    let second =
-    times_within c.args.weight c.abs.result (PARTS * MOST_WEIGHT) MOST_SHORT (heavy c) (away c) in
-    let low = first.0 in
-    let high = first.1 in
-    let low_second = second.0 in
-    let high_second = second.1 in
-    (omega (arith, ints, low, high_second), omega (arith, ints, high, low_second))
-
-same : (c : goal.After-abs) → to_z w64 (of_z w64 (to_z w64 (of_z w64 c.args.worth) *ℤ to_z w64 (of_z w64 c.args.short))) -ℤ to_z w64 (of_z w64 (to_z w64 (of_z w64 c.args.weight) *ℤ to_z w64 (of_z w64 c.abs.result))) ≡ (c.args.worth *ℤ c.args.short) -ℤ (c.args.weight *ℤ c.abs.result)
-same c = omega (arith, ints, brought c, weighed c)
-
-pub overflow_sub-result : goal.overflow_sub-result
-overflow_sub-result c =
-    fits_in MOST_LEAST _ (subst (IsWithin MOST_LEAST) (sym (same c)) (apart c)) (omega arith)
-
-told : (c : goal.After-abs) → to_z w64 (of_z w64 (to_z w64 (of_z w64 (to_z w64 (of_z w64 c.args.worth) *ℤ to_z w64 (of_z w64 c.args.short))) -ℤ to_z w64 (of_z w64 (to_z w64 (of_z w64 c.args.weight) *ℤ to_z w64 (of_z w64 c.abs.result))))) ≡ (c.args.worth *ℤ c.args.short) -ℤ (c.args.weight *ℤ c.abs.result)
-told c = ap (λ z. to_z w64 (of_z w64 z)) (same c) ∙ told_in MOST_LEAST _ (apart c) (omega arith)
+pub returns-then-is_spent-clause-value : goal.returns-then-is_spent-clause-value
+returns-then-is_spent-clause-value c =
+    let worth : ℤ = c.args.worth in
+    let weight : ℤ = c.args.weight in
+    let short : ℤ = c.args.short in
+    let first = to_z-of_z w64 worth c.ranges.worth in
+    let second = to_z-of_z w64 weight c.ranges.weight in
+    let third = to_z-of_z w64 short c.ranges.short in
+    let told = told_in MOST_LEAST c.less_spare.result c.less_spare.ensures.within (omega arith) in
+    let near = told_in MOST_FIXED c.spent_term.result c.spent_term.ensures.within (omega arith) in
+    let spent : c.spent_term.result ≡ (weight *ℤ pos (unsigned_abs (short +ℤ pos c.args.spare))) -ℤ (weight *ℤ pos (unsigned_abs short)) =
+    c.spent_term.ensures.value
+    ∙ ap (λ z. (z *ℤ pos (unsigned_abs (to_z w64 (of_z w64 short) +ℤ pos c.args.spare))) -ℤ (z *ℤ pos (unsigned_abs (to_z w64 (of_z w64 short))))) second
+    ∙ ap (λ z. (weight *ℤ pos (unsigned_abs (z +ℤ pos c.args.spare))) -ℤ (weight *ℤ pos (unsigned_abs z))) third in
+    let less : c.less_spare.result ≡ c.spent_term.result -ℤ (worth *ℤ pos c.args.spare) =
+    c.less_spare.ensures.value
+    ∙ ap (λ z. z -ℤ (to_z w64 (of_z w64 worth) *ℤ pos c.args.spare)) near
+    ∙ ap (λ z. c.spent_term.result -ℤ (z *ℤ pos c.args.spare)) first in
+    let one : (weight ≤ℤ worth) ⊎ ((short +ℤ pos c.args.spare) ≤ℤ pos 0) =
+    subst (λ z. (weight ≤ℤ worth) ⊎ ((z +ℤ pos c.args.spare) ≤ℤ pos 0)) third
+    (subst (λ z. (weight ≤ℤ z) ⊎ ((to_z w64 (of_z w64 short) +ℤ pos c.args.spare) ≤ℤ pos 0)) first
+    (subst (λ z. (z ≤ℤ to_z w64 (of_z w64 worth)) ⊎ ((to_z w64 (of_z w64 short) +ℤ pos c.args.spare) ≤ℤ pos 0)) second
+    (c.is_spent.ensures.yes c.if-is_spent.true))) in
+    subst (IsFixed worth weight short c.args.spare) (sym told)
+    (fixed_spent worth weight short c.args.spare c.spent_term.result c.less_spare.result c.requires.weight.0 c.requires.low one spent less)
 
 pub returns-clause-value : goal.returns-clause-value
 returns-clause-value c =
-    told c ∙ ap (λ z. (c.args.worth *ℤ c.args.short) -ℤ (c.args.weight *ℤ z)) (absolute c)
+    let worth : ℤ = c.args.worth in
+    let weight : ℤ = c.args.weight in
+    let first = to_z-of_z w64 worth c.ranges.worth in
+    let second = to_z-of_z w64 weight c.ranges.weight in
+    let told = told_in MOST_FIXED c.fixed_within.result c.fixed_within.ensures.within (omega arith) in
+    let no = c.is_spent.ensures.no c.if-is_spent.false in
+    let near : worth ≤ℤ weight = omega (arith, ints, no, first, second) in
+    let value = c.fixed_within.ensures.value ∙ in_words worth weight c.args.short c.ranges.worth c.ranges.weight c.ranges.short in
+    subst (IsFixed worth weight c.args.short c.args.spare) (sym told)
+    (fixed_near worth weight c.args.short c.args.spare c.fixed_within.result c.requires.low near value)
 
 pub returns-clause-within : goal.returns-clause-within
-returns-clause-within c = subst (IsWithin MOST_LEAST) (sym (told c)) (apart c)
+returns-clause-within c =
+    let told = told_in MOST_FIXED c.fixed_within.result c.fixed_within.ensures.within (omega arith) in
+    subst (IsWithin MOST_LEAST) (sym told)
+    (within-more MOST_FIXED MOST_LEAST c.fixed_within.result (omega arith) c.fixed_within.ensures.within)

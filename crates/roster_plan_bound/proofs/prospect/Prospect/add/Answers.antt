@@ -20,4 +20,5 @@ invariant_of-self-2 c =
       is_weight = is.is_weight;
       is_short = is.is_short;
       small = is.small;
+      is_spare = is.is_spare;
     }

@@ -3,8 +3,18 @@ use Rattle.std.proofs.lemmas.Int.{ints, to_z-of_z}
 use Rattle.roster_cost.specs.Amounts.{IsWithin}
 use Rattle.roster_plan_bound.specs.declared.parts.TheConstants.{MOST_LEAST, MOST_SHORT, MOST_SUM}
 use Rattle.roster_plan_bound.specs.Prospects.{short_of, IsAhead, IsLeastPath, IsTable}
-use Rattle.roster_plan_bound.proofs.ProspectLemmas.{ahead_below, gain_low, rows_within, told_in}
+use Rattle.roster_plan_bound.proofs.ProspectLemmas.{ahead_below, gain_low, none_beyond, rows_within, told_in}
+use Rattle.roster_plan_bound.specs.Timelines.{spare_flight}
 use Rattle.roster_plan_bound.proofs.prospect.Prospect.ahead.Goals as goal
+
+pub returns-then-flight-self : goal.returns-then-flight-self
+returns-then-flight-self c before rest of begun class owed brought flown =
+    let inner = c.self.inside in
+    let over : inner.spare < c.args.flight = omega (arith, c.if-flight-self.true) in
+    let more : spare_flight inner.problem.now inner.person < c.args.flight =
+    subst (λ n. n < c.args.flight) c.self.invariant.is_spare over in
+    let seen = subst (λ v. spare_flight v.problem v.person < c.args.flight) c.self.view_is more in
+    absurd (none_beyond c.args.self.now.problem c.args.self.now.person c.args.self.now.timeline c.args.flight c.args.q before rest of flown seen)
 
 pub loop-i-init : goal.loop-i-init
 loop-i-init c =

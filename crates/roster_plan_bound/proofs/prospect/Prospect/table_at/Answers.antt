@@ -1,11 +1,12 @@
-use Rattle.std.proofs.Common.{◌≡◌, ◌*ℤ◌, ◌-ℤ◌, pos, length, w64, to_z, of_z, arith, refl, ap, ◌∙◌, sym, subst, unsigned_abs}
-use Rattle.std.proofs.lemmas.Int.{ints}
+use Rattle.std.proofs.Common.{◌≡◌, ◌*◌, ℤ, pos, length, w64, to_z, of_z, arith, ap, ◌∙◌, sym, subst}
+use Rattle.roster_model.specs.Problem.{weight_of}
 use Rattle.roster_lines.specs.Listing.{AreFlights}
 use Rattle.roster_cost.specs.Amounts.{IsWithin}
-use Rattle.roster_plan_bound.specs.declared.parts.TheConstants.{MOST_LEAST, MOST_SHORT, MOST_WORTH}
+use Rattle.roster_plan_bound.specs.declared.parts.TheConstants.{MOST_LEAST, MOST_SHORT, MOST_WORTH, PARTS}
 use Rattle.roster_plan_bound.specs.Behinds.{AreBehind}
-use Rattle.roster_plan_bound.specs.Prospects.{short_of, AreWorth, IsTable}
-use Rattle.roster_plan_bound.proofs.ProspectLemmas.{fixed_is, told_in, weight_told, worths_are}
+use Rattle.roster_plan_bound.specs.Prospects.{short_of, AreWorth, IsFixed, IsTable}
+use Rattle.roster_plan_bound.specs.Timelines.{spare_flight}
+use Rattle.roster_plan_bound.proofs.ProspectLemmas.{told_in, weight_told, worths_are}
 use Rattle.roster_plan_bound.proofs.prospect.Prospect.table_at.Goals as goal
 
 -- the worth, as it is kept
@@ -22,15 +23,26 @@ worths c =
     (subst (AreFlights inner.problem.now inner.person) (sym c.deref-2.ensures.value) is.is_timeline.flights)
     c.in_ok-values.ensures.covers c.in_ok-values.ensures.each)
 
+-- what the table has beside its pairings, in words of the person
+fixed : (c : goal.After-drop-values-2) → IsFixed (to_z w64 (of_z w64 c.near_worth-worth.result)) (pos (PARTS * weight_of c.self.inside.problem.now)) (short_of c.self.inside.problem.now c.self.inside.person) (spare_flight c.self.inside.problem.now c.self.inside.person) (to_z w64 (of_z w64 c.fixed_at-fixed.result))
+fixed c =
+    let inner = c.self.inside in
+    let is = c.self.invariant in
+    let problem = inner.problem.now in
+    let worth : ℤ = to_z w64 (of_z w64 c.near_worth-worth.result) in
+    let weight = weight_told problem inner.weight is.is_weight c.is_sound.ensures.sound.weight in
+    let short = told_in MOST_SHORT inner.short is.small (omega arith) ∙ is.is_short in
+    let told = told_in MOST_LEAST c.fixed_at-fixed.result c.fixed_at-fixed.ensures.within (omega arith) in
+    subst (IsFixed worth (pos (PARTS * weight_of problem)) (short_of problem inner.person) (spare_flight problem inner.person)) (sym told)
+    (subst (λ n. IsFixed worth (pos (PARTS * weight_of problem)) (short_of problem inner.person) n c.fixed_at-fixed.result) is.is_spare
+    (subst (λ z. IsFixed worth (pos (PARTS * weight_of problem)) z inner.spare c.fixed_at-fixed.result) short
+    (subst (λ z. IsFixed worth z (to_z w64 (of_z w64 inner.short)) inner.spare c.fixed_at-fixed.result) weight c.fixed_at-fixed.ensures.value)))
+
 pub returns : goal.returns
 returns c =
     let inner = c.self.inside in
     let is = c.self.invariant in
     let values = c.in_ok-values.values.items in
-    let low = c.near_worth-worth.ensures.weighed.0 in
-    let high = c.near_worth-worth.ensures.weighed.1 in
-    let weight = weight_told inner.problem.now inner.weight is.is_weight c.is_sound.ensures.sound.weight in
-    let short = told_in MOST_SHORT inner.short is.small (omega arith) ∙ is.is_short in
     subst (λ v. IsTable v.problem v.person v.timeline v.units (record { worth = to_z w64 (of_z w64 c.near_worth-worth.result); fixed = to_z w64 (of_z w64 c.fixed_at-fixed.result); behind = c.in_ok-behind.behind })) c.self.view_is
     (record {
       values = values;
@@ -43,10 +55,6 @@ returns c =
       };
       behind = subst (λ vs. AreBehind inner.problem.now inner.person inner.timeline.now vs c.in_ok-behind.behind) c.deref-3.ensures.value c.in_ok-behind.ensures;
       small = subst (IsWithin MOST_WORTH) (sym (small c)) c.near_worth-worth.ensures.small;
-      weighed = (omega (arith, ints, low, weight, small c), omega (arith, ints, high, weight, small c));
-      fixed = told_in MOST_LEAST c.fixed_at-fixed.result c.fixed_at-fixed.ensures.within (omega arith)
-          ∙ c.fixed_at-fixed.ensures.value
-          ∙ ap (λ z. (to_z w64 (of_z w64 c.near_worth-worth.result) *ℤ z) -ℤ (to_z w64 (of_z w64 inner.weight) *ℤ pos (unsigned_abs z))) short
-          ∙ ap (λ z. (to_z w64 (of_z w64 c.near_worth-worth.result) *ℤ short_of inner.problem.now inner.person) -ℤ z) (fixed_is inner.problem.now inner.person (to_z w64 (of_z w64 inner.weight)) (short_of inner.problem.now inner.person) weight refl);
+      fixed = fixed c;
       near = subst (IsWithin MOST_LEAST) (sym (told_in MOST_LEAST c.fixed_at-fixed.result c.fixed_at-fixed.ensures.within (omega arith))) c.fixed_at-fixed.ensures.within;
     })
