@@ -1,6 +1,6 @@
--- Open nodes of a search. One law says what a list of open regions has (`AreOpenOf`): each roster of the
--- question that costs at most so much is in one of them, and none from elsewhere. A visit keeps it: a roster
--- is found, or nothing there is cheap and the region goes, or its two parts take its place.
+-- Open nodes of a search. One law says what a list of open regions has (`AreOpenOf`): of each roster of the
+-- question that costs at most so much, one that costs no more is in one of them, and none from elsewhere. A visit
+-- keeps it: a roster is found, or nothing there is cheap and the region goes, or its two parts take its place.
 use Rattle.std.proofs.Common.{◌≡◌, ℕ, ◌+◌, ◌*◌, ◌^◌, ◌<◌, ◌≤◌, ◌⊎◌, inl, inr, All, IfSome, List, [], ◌∷◌, ◌++◌, Option, Some, None, ℤ, pos, ◌-ℤ◌, ◌≤ℤ◌, ap, sym, ◌∙◌, subst, arith}
 use Rattle.std.proofs.lemmas.Int.{ints}
 use Rattle.std.proofs.lemmas.List.Elements.{All-push}
@@ -15,7 +15,7 @@ use Rattle.roster_search_regions.specs.Regions.{open_in, size_of, IsIn, IsNarrow
 use Rattle.roster_search_fixing.specs.Bounds.{CostsAtMost}
 use Rattle.roster_search_prices.specs.declared.branching.Split.{Split}
 use Rattle.roster_search_prices.specs.declared.branching.Split.TheVariants.{Holder, Flown, Count}
-use Rattle.roster_search.specs.Branches.{IsOnFirst, IsOnOther}
+use Rattle.roster_search.specs.Branches.{IsMatched, IsOnFirst, IsOnOther, IsOtherSide}
 use Rattle.roster_search.specs.Open.{limit_of, weight_of, AreOpenOf, ArePartsOf, IsExplored, IsInSome, IsOver, IsParted, IsVisited}
 use Rattle.roster_search.specs.declared.visiting.Visited.{Visited}
 use Rattle.roster_search.specs.declared.visiting.Visited.TheVariants.{Nothing, Found, Parted}
@@ -63,6 +63,34 @@ some_cases problem xs x places is =
       | inr last ↦ inr (elim last [ inl here ↦ here | inr none ↦ absurd none ])
     ]
 
+-- ---- rosters that cost no more
+
+-- a roster costs no more than itself
+pub matched_itself : (problem : Problem) (Rosters : List ℕ → Type 0) (places : List ℕ) → Rosters places
+    → IsMatched problem Rosters places
+matched_itself problem Rosters places is = record { roster = places; inside = is; cost = omega (arith, ints) }
+
+-- it is one of more rosters
+pub matched_in : (problem : Problem) (Rosters Wider : List ℕ → Type 0) (places : List ℕ)
+    → ((roster : List ℕ) → Rosters roster → Wider roster) → IsMatched problem Rosters places
+    → IsMatched problem Wider places
+matched_in problem Rosters Wider places wider matched = record {
+  roster = matched.roster;
+  inside = wider matched.roster matched.inside;
+  cost = matched.cost;
+}
+
+-- and if each of those is matched in turn
+pub matched_then : (problem : Problem) (Rosters Others : List ℕ → Type 0) (most : ℤ) (places : List ℕ)
+    → CostsAtMost problem most places → IsMatched problem Rosters places
+    → ((roster : List ℕ) → Rosters roster → CostsAtMost problem most roster → IsMatched problem Others roster)
+    → IsMatched problem Others places
+matched_then problem Rosters Others most places cheap matched next =
+    let cost = matched.cost in
+    let then = next matched.roster matched.inside (omega (arith, ints)) in
+    let more = then.cost in
+    record { roster = then.roster; inside = then.inside; cost = omega (arith, ints) }
+
 -- ---- what is left to search
 
 -- what is left of what is left
@@ -72,7 +100,7 @@ pub open_then : (problem : Problem) (Rosters : List ℕ → Type 0) (most : ℤ)
 open_then problem Rosters most mid new first then = record {
   are = then.are;
   inside = λ places is. first.inside places (then.inside places is);
-  all = λ places is cheap. then.all places (first.all places is cheap) cheap;
+  all = λ places is cheap. matched_then problem (IsInSome problem mid) (IsInSome problem new) most places cheap (first.all places is cheap) then.all;
 }
 
 -- what costs less is left too
@@ -89,7 +117,7 @@ pub none_left : (problem : Problem) (Rosters : List ℕ → Type 0) (most : ℤ)
     → CostsMore problem Rosters most
 none_left problem Rosters most are =
     λ others legal inside. elim (cost_cases most (cost_of problem others)) [
-      | inl cheap ↦ absurd (are.all others inside cheap)
+      | inl cheap ↦ let left = are.all others inside cheap in absurd left.inside
       | inr more ↦ more
     ]
 
@@ -115,7 +143,7 @@ none_in_last problem most old front node same are none = record {
   are = are;
   inside = λ places is. subst (λ xs. IsInSome problem xs places) (sym same) (some_before problem front node places is);
   all = λ places is cheap. elim (some_cases problem front node places (subst (λ xs. IsInSome problem xs places) same is)) [
-    | inl before ↦ before
+    | inl before ↦ matched_itself problem (IsInSome problem front) places before
     | inr here ↦ let more = none places here.legal here in absurd (omega (arith, ints))
   ];
 }
@@ -135,12 +163,12 @@ parts_of_last problem most old front new node having others same more are parted
         ]
         | inr has ↦ some_last problem front node places (parted.inside places (inl has))
       ]);
-      all = λ places is cheap. subst (λ xs. IsInSome problem xs places) (sym more) (elim (some_cases problem front node places (subst (λ xs. IsInSome problem xs places) same is)) [
-        | inl before ↦ some_before problem two having places (some_before problem front others places before)
-        | inr here ↦ elim (parted.all places here cheap) [
-          | inl has ↦ some_last problem two having places has
-          | inr rest ↦ some_before problem two having places (some_last problem front others places rest)
-        ]
+      all = λ places is cheap. subst (λ xs. IsMatched problem (IsInSome problem xs) places) (sym more) (elim (some_cases problem front node places (subst (λ xs. IsInSome problem xs places) same is)) [
+        | inl before ↦ matched_itself problem (IsInSome problem (two ++ having ∷ [])) places (some_before problem two having places (some_before problem front others places before))
+        | inr here ↦ matched_in problem (λ roster. IsIn problem having roster ⊎ IsIn problem others roster) (IsInSome problem (two ++ having ∷ [])) places (λ roster is. elim is [
+          | inl has ↦ some_last problem two having roster has
+          | inr rest ↦ some_before problem two having roster (some_last problem front others roster rest)
+        ]) (parted.all places here cheap)
       ]);
     }
 
@@ -155,10 +183,10 @@ rest_of_last problem most old front new node left same more are narrowed = recor
     | inl before ↦ some_before problem front node places before
     | inr here ↦ some_last problem front node places (narrowed.inside places here)
   ]);
-  all = λ places is cheap. subst (λ xs. IsInSome problem xs places) (sym more) (elim (some_cases problem front node places (subst (λ xs. IsInSome problem xs places) same is)) [
+  all = λ places is cheap. matched_itself problem (IsInSome problem new) places (subst (λ xs. IsInSome problem xs places) (sym more) (elim (some_cases problem front node places (subst (λ xs. IsInSome problem xs places) same is)) [
     | inl before ↦ some_before problem front left places before
     | inr here ↦ some_last problem front left places (narrowed.kept places here cheap)
-  ]);
+  ]));
 }
 
 -- ---- what comes of a visit of the last region
@@ -210,7 +238,11 @@ pub known_explored : (problem : Problem) (Whole : List ℕ → Type 0) (most : �
     → IsExplored problem Whole (IsInSome problem nodes) most (Some key) nodes
 known_explored problem Whole most nodes key are within = record {
   found = within;
-  still = record { are = are; inside = λ places is. is; all = λ places is cheap. is };
+  still = record {
+    are = are;
+    inside = λ places is. is;
+    all = λ places is cheap. matched_itself problem (IsInSome problem nodes) places is;
+  };
 }
 
 -- at first nothing is found, and all is left
@@ -218,7 +250,11 @@ pub nothing_explored : (problem : Problem) (most : ℤ) (nodes : List Region) �
     → IsExplored problem (IsInSome problem nodes) (IsInSome problem nodes) most None nodes
 nothing_explored problem most nodes are = record {
   found = tt;
-  still = record { are = are; inside = λ places is. is; all = λ places is cheap. is };
+  still = record {
+    are = are;
+    inside = λ places is. is;
+    all = λ places is cheap. matched_itself problem (IsInSome problem nodes) places is;
+  };
 }
 
 -- what is left may cost no more than any of the search
@@ -383,19 +419,33 @@ on_a_side problem (Count count) places =
 
 pub parted_by : (problem : Problem) (branch : Split) (most : ℤ) (region having others : Region)
     → IsNarrowed problem (IsOnFirst problem branch) region having
-    → IsNarrowed problem (IsOnOther problem branch) region others
+    → IsOtherSide problem branch region others
     → size_of having < size_of region → size_of others < size_of region
     → IsParted problem region most having others
-parted_by problem branch most region having others given denied fewer less = record {
-  is_having = given.region;
-  is_others = denied.region;
-  inside = λ places is. elim is [ inl has ↦ given.inside places has | inr rest ↦ denied.inside places rest ];
-  all = λ places here cheap. elim (on_a_side problem branch places) [
-    | inl has ↦ inl (given.kept places here has)
-    | inr not ↦ inr (denied.kept places here not)
-  ];
-  fewer_having = fewer;
-  fewer_others = less;
+parted_by problem branch most region having others given other fewer less =
+    let Both : List ℕ → Type 0 = λ roster. IsIn problem having roster ⊎ IsIn problem others roster in
+    record {
+      is_having = given.region;
+      is_others = other.is_region;
+      inside = λ places is. elim is [ inl has ↦ given.inside places has | inr rest ↦ other.inside places rest ];
+      all = λ places here cheap. elim (on_a_side problem branch places) [
+        | inl has ↦ matched_itself problem Both places (inl (given.kept places here has))
+        | inr not ↦ elim (other.all places here not) [
+          | inl there ↦ matched_itself problem Both places (inr there)
+          | inr same ↦ matched_in problem (λ roster. IsIn problem region roster × IsOnFirst problem branch roster) Both places (λ roster is. inl (given.kept roster is.0 is.1)) same
+        ]
+      ];
+      fewer_having = fewer;
+      fewer_others = less;
+    }
+
+-- the other side, if it lost nothing
+pub other_side : (problem : Problem) (branch : Split) (region other : Region)
+    → IsNarrowed problem (IsOnOther problem branch) region other → IsOtherSide problem branch region other
+other_side problem branch region other narrowed = record {
+  is_region = narrowed.region;
+  inside = narrowed.inside;
+  all = λ places here not. inl (narrowed.kept places here not);
 }
 
 -- what comes of a part that has all that is cheap

@@ -5,17 +5,19 @@ use Rattle.roster_model.specs.Settled.{CostsMore, IsWithinCost}
 use Rattle.roster_model.specs.Rosters.{Key}
 use Rattle.roster_search_regions.specs.Regions.{size_of, IsIn, IsNarrowed, IsRegion, Region}
 use Rattle.roster_search_fixing.specs.Bounds.{CostsAtMost}
+use Rattle.roster_search.specs.Branches.{IsMatched}
 use Rattle.roster_search.specs.declared.visiting.Visited.{Visited}
 use Rattle.roster_search.specs.declared.visiting.Visited.TheVariants.{Nothing, Found, Parted}
 
--- Two parts of the region in which less is left to decide. Each roster of it that costs at most so much is in one of them.
+-- Two parts of the region in which less is left to decide. If a roster of it costs at most so much, one that costs no
+-- more is in one of them.
 pub record IsParted (problem : Problem) (region : Region) (most : ℤ) (having others : Region) : Type 0 where
   pub is_having : IsRegion problem having
   pub is_others : IsRegion problem others
   pub inside : (places : List ℕ) → IsIn problem having places ⊎ IsIn problem others places
       → IsIn problem region places
   pub all : (places : List ℕ) → IsIn problem region places → CostsAtMost problem most places
-      → IsIn problem having places ⊎ IsIn problem others places
+      → IsMatched problem (λ roster. IsIn problem having roster ⊎ IsIn problem others roster) places
   pub fewer_having : size_of having < size_of region
   pub fewer_others : size_of others < size_of region
 
@@ -39,14 +41,14 @@ pub record ArePartsOf (problem : Problem) (whole : Region) (parts : List Region)
   pub are : All (IsRegion problem) parts
   pub inside : (places : List ℕ) → IsInSome problem parts places → IsIn problem whole places
 
--- What is left to search of some rosters: each of them that costs at most so much is in one of the regions,
--- and no others are there.
+-- What is left to search of some rosters: if one of them costs at most so much, one that costs no more is in one of
+-- the regions, and no others are there.
 pub record AreOpenOf (problem : Problem) (Rosters : List ℕ → Type 0) (most : ℤ)
     (left : List Region) : Type 0 where
   pub are : All (IsRegion problem) left
   pub inside : (places : List ℕ) → IsInSome problem left places → Rosters places
   pub all : (places : List ℕ) → Rosters places → CostsAtMost problem most places
-      → IsInSome problem left places
+      → IsMatched problem (IsInSome problem left) places
 
 -- what a roster costs at most that costs less than the best one so far, and at most so much
 abbrev pub limit_of : ℤ → Option Key → ℤ

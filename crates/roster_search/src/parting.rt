@@ -1,13 +1,14 @@
 //! What a region is parted by, and its two sides.
 
-ghost use Rattle.std.specs.Prelude.{◌<◌, IfOk, IsTrue, MatchOption, OnOk};
-ghost use Rattle.roster_search_regions.specs.Regions.{size_of, IsDecided, IsNarrowed, IsRegion};
-ghost use Rattle.roster_search.specs.Branches.{IsBranch, IsOnFirst, IsOnOther};
+ghost use Rattle.std.specs.Prelude.{◌≡◌, ◌<◌, IfOk, IsTrue, MatchOption, OnOk, length};
+ghost use Rattle.roster_search_regions.specs.Regions.{size_of, IsDecided, IsNarrowed, IsRegion, IsSplit};
+ghost use Rattle.roster_search_prices.specs.declared.branching.Split.TheVariants.{Holder};
+ghost use Rattle.roster_search.specs.Branches.{AreAlike, IsBranch, IsOnFirst, IsOtherSide};
 
 use roster_problem::Problem;
 use roster_search_fixing::{is_split, pick};
 use roster_search_prices::{Relaxation, Split, branch, branch_by_shares};
-use roster_search_regions::{DualPrices, Region};
+use roster_search_regions::{Choice, Choices, DualPrices, Region};
 use std::alloc::{AllocError, Global};
 
 /// What to settle next, if all isn't decided.
@@ -98,7 +99,8 @@ pub(crate) fn first_side(
     }
 }
 
-/// Leaves in the region the rosters on the other side of a branch.
+/// Leaves in the region the rosters on the other side of a branch. Of those, too, some are left out if rosters on the
+/// first side cost the same: nobody has the pairing whose lines are those of the person who hasn't.
 pub(crate) fn keep_other_side(
     alloc: Global,
     problem: &Problem,
@@ -107,12 +109,11 @@ pub(crate) fn keep_other_side(
 ) -> Result<(), AllocError>
     requires region { IsRegion problem.now region.old }
     requires branch { IsBranch problem.now region.old branch }
-    ensures narrowed { OnOk result (IsNarrowed problem.now (IsOnOther problem.now branch)
-        region.old region.new) }
+    ensures other { OnOk result (IsOtherSide problem.now branch region.old region.new) }
     ensures fewer { OnOk result (size_of region.new < size_of region.old) }
 {
     match branch {
-        Split::Holder(k, p) => region.deny(alloc, problem, k, p),
+        Split::Holder(k, p) => deny_alike(alloc, problem, region, k, p),
         Split::Flown(p) => {
             region.leave_open(problem, p);
             Ok(())
@@ -123,4 +124,67 @@ pub(crate) fn keep_other_side(
             Ok(())
         }
     }
+}
+
+/// Person `k` hasn't the pairing at place `p`, and nobody has whose lines are those of `k`: they and `k` could change
+/// lines, at the same cost.
+fn deny_alike(
+    alloc: Global,
+    problem: &Problem,
+    region: &mut Region,
+    k: usize,
+    p: usize,
+) -> Result<(), AllocError>
+    requires region { IsRegion problem.now region.old }
+    requires split { IsSplit region.old k p }
+    requires person { k < length problem.now.persons }
+    requires pairing { p < length problem.now.pairings }
+    ensures other { OnOk result (IsOtherSide problem.now (Holder k p) region.old region.new) }
+    ensures fewer { OnOk result (size_of region.new < size_of region.old) }
+{
+    let whole = region.copy(alloc)?;
+    region.deny(alloc, problem, k, p)?;
+    for j in 0..problem.persons().len() {
+        if are_alike(&whole, j, k) {
+            region.deny(alloc, problem, j, p)?;
+        }
+    }
+    Ok(())
+}
+
+/// Whether two persons have the same lines, which cost the same. It may say no of some who have.
+fn are_alike(region: &Region, j: usize, k: usize) -> bool
+    requires one { j < length region.now.choices }
+    requires other { k < length region.now.choices }
+    ensures scale { IsTrue result → 0 < region.now.scale }
+    ensures alike { IsTrue result → AreAlike region.now j k }
+{
+    region.scale() > 0
+        && region.width(j) == region.width(k)
+        && are_same(&region.choices(j), &region.choices(k))
+}
+
+/// Whether the choices are the same.
+fn are_same(mine: &Choices<'_>, theirs: &Choices<'_>) -> bool
+    ensures { IsTrue result → mine.now ≡ theirs.now }
+{
+    if mine.len() != theirs.len() {
+        return false;
+    }
+    for i in 0..mine.len() {
+        if !is_same_choice(&mine.at(i), &theirs.at(i)) {
+            return false;
+        }
+    }
+    true
+}
+
+/// Whether two choices are the same.
+fn is_same_choice(mine: &Choice, theirs: &Choice) -> bool
+    ensures { IsTrue result → mine.now ≡ theirs.now }
+{
+    mine.extra == theirs.extra
+        && mine.depth == theirs.depth
+        && mine.last == theirs.last
+        && mine.live == theirs.live
 }

@@ -10,8 +10,9 @@ use Rattle.roster_model.specs.Problem.{Problem}
 use Rattle.roster_model.specs.Rosters.{Key}
 use Rattle.roster_model.specs.Settled.{IsWithinCost}
 use Rattle.roster_search_regions.specs.Regions.{IsIn, IsRegion, Region}
+use Rattle.roster_search.specs.Branches.{IsMatched}
 use Rattle.roster_search.specs.Open.{limit_of, AreOpenOf, ArePartsOf, IsExplored, IsInSome}
-use Rattle.roster_search.proofs.OpenLemmas.{explored_more, explored_on, limit_within, open_below, some_before, some_cases, some_either, some_last, some_left, some_right}
+use Rattle.roster_search.proofs.OpenLemmas.{explored_more, explored_on, limit_within, matched_in, open_below, some_before, some_cases, some_either, some_last, some_left, some_right}
 use Rattle.roster_search_threads.specs.Explored.{cheaper_of, AreDealt}
 
 -- ---- two lists
@@ -200,9 +201,9 @@ both_open problem most mine theirs first second all same here there = record {
     | inl one ↦ some_left problem mine theirs places (here.inside places one)
     | inr two ↦ some_right problem mine theirs places (there.inside places two)
   ];
-  all = λ places is cheap. subst (λ xs. IsInSome problem xs places) (sym same) (elim (some_either problem mine theirs places is) [
-    | inl one ↦ some_left problem first second places (here.all places one cheap)
-    | inr two ↦ some_right problem first second places (there.all places two cheap)
+  all = λ places is cheap. subst (λ xs. IsMatched problem (IsInSome problem xs) places) (sym same) (elim (some_either problem mine theirs places is) [
+    | inl one ↦ matched_in problem (IsInSome problem first) (IsInSome problem (first ++ second)) places (some_left problem first second) (here.all places one cheap)
+    | inr two ↦ matched_in problem (IsInSome problem second) (IsInSome problem (first ++ second)) places (some_right problem first second) (there.all places two cheap)
   ]);
 }
 
