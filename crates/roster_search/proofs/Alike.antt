@@ -2,8 +2,8 @@
 -- are open, and it costs the same. So if such a person has a pairing, each other may have it in their place. Branches
 -- that count on it are orbital: Ostrowski, Linderoth, Rossi and Smriglio, "Orbital branching", Mathematical
 -- Programming 126, 2011.
-use Rattle.std.proofs.Common.{◌≡◌, ◌≢◌, ℕ, zero, suc, ◌+◌, ◌<◌, ◌≤◌, Bool, true, false, cond, eqb, eq-eqb, List, [], ◌∷◌, length, map, Option, Some, None, ℤ, pos, ◌+ℤ◌, ◌-ℤ◌, ◌*ℤ◌, ◌≤ℤ◌, refl, sym, ap, ap₂, ◌∙◌, subst, inl, inr, arith}
-use Rattle.std.specs.Prelude.{All, Contains, option_map, slice_get}
+use Rattle.std.proofs.Common.{◌≡◌, ℕ, zero, suc, ◌+◌, ◌<◌, ◌≤◌, cond, eqb, eq-eqb, List, [], ◌∷◌, length, map, Some, ℤ, pos, ◌+ℤ◌, ◌*ℤ◌, ◌≤ℤ◌, refl, sym, ap, ap₂, ◌∙◌, subst, inl, inr, arith}
+use Rattle.std.specs.Prelude.{Contains, option_map, slice_get}
 use Rattle.std.specs.List.{count_by, range_with_len}
 use Rattle.std.proofs.Math.IntN.{pos-*ℤ-pos}
 use Rattle.std.proofs.lemmas.Bool.{cases_eq, ne_eqb}
@@ -25,8 +25,8 @@ use Rattle.roster_search_regions.proofs.RegionLemmas.{chosen_line, lines_of_get,
 use Rattle.roster_search_regions.proofs.ListLemmas.{Contains-map}
 use Rattle.roster_search_fixing.proofs.Fine.{times-le, times-plus}
 use Rattle.roster_search_least.proofs.FindLemmas.{cost_cases, has_cases}
-use Rattle.roster_search_prices.specs.declared.branching.Split.TheVariants.{Holder}
-use Rattle.roster_search.specs.Branches.{AreAlike, IsMatched, IsOtherSide}
+use Rattle.roster_search_regions.specs.declared.split.Split.TheVariants.{Holder}
+use Rattle.roster_search.specs.Branches.{AreAlike, IsOtherSide}
 
 -- ---- two numbers that change places
 

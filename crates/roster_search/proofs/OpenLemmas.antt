@@ -13,8 +13,8 @@ use Rattle.roster_model.specs.Settled.{CostsMore, IsWithinCost}
 use Rattle.std.proofs.lemmas.Bool.{cases_lt}
 use Rattle.roster_search_regions.specs.Regions.{open_in, size_of, IsIn, IsNarrowed, IsRegion, Region}
 use Rattle.roster_search_fixing.specs.Bounds.{CostsAtMost}
-use Rattle.roster_search_prices.specs.declared.branching.Split.{Split}
-use Rattle.roster_search_prices.specs.declared.branching.Split.TheVariants.{Holder, Flown, Count}
+use Rattle.roster_search_regions.specs.declared.split.Split.{Split}
+use Rattle.roster_search_regions.specs.declared.split.Split.TheVariants.{Holder, Flown, Count}
 use Rattle.roster_search.specs.Branches.{IsMatched, IsOnFirst, IsOnOther, IsOtherSide}
 use Rattle.roster_search.specs.Open.{limit_of, weight_of, AreOpenOf, ArePartsOf, IsExplored, IsInSome, IsOver, IsParted, IsVisited}
 use Rattle.roster_search.specs.declared.visiting.Visited.{Visited}

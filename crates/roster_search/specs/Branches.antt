@@ -4,8 +4,8 @@ use Rattle.roster_model.specs.Costs.{cost_of}
 use Rattle.roster_model.specs.Places.{open_number}
 use Rattle.roster_model.specs.Problem.{Problem}
 use Rattle.roster_search_regions.specs.Regions.{lines_of, Has, HasNot, HasOpenAtLeast, HasOpenAtMost, IsIn, IsRegion, IsSplit, IsUndecidedAt, Region}
-use Rattle.roster_search_prices.specs.declared.branching.Split.{Split}
-use Rattle.roster_search_prices.specs.declared.branching.Split.TheVariants.{Holder, Flown, Count}
+use Rattle.roster_search_regions.specs.declared.split.Split.{Split}
+use Rattle.roster_search_regions.specs.declared.split.Split.TheVariants.{Holder, Flown, Count}
 
 -- the roster is on the first side: the person has the pairing, or the pairing is flown, or at most so many are open
 abbrev pub IsOnFirst : Problem → Split → List ℕ → Type 0

@@ -9,8 +9,8 @@ use crate::stop::Stop;
 use crate::visiting::{OpenNode, Visited, visit};
 use roster_problem::Problem;
 use roster_search_least::roster_in;
-use roster_search_prices::Relaxation;
 use roster_search_regions::{DualPrices, Region};
+use roster_search_relaxation::Relaxation;
 use roster_values::Roster;
 use std::alloc::{AllocError, Global};
 

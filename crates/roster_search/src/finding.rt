@@ -8,8 +8,8 @@ use crate::exploring::{Explored, explore, first_nodes, limit};
 use crate::stop::{Never, Stop};
 use roster_problem::Problem;
 use roster_search_least::Finder;
-use roster_search_prices::Relaxation;
 use roster_search_regions::{DualPrices, Region};
+use roster_search_relaxation::Relaxation;
 use roster_values::Roster;
 use std::alloc::{AllocError, Global};
 

@@ -2,13 +2,14 @@
 
 ghost use Rattle.std.specs.Prelude.{◌≡◌, ◌<◌, IfOk, IsTrue, MatchOption, OnOk, length};
 ghost use Rattle.roster_search_regions.specs.Regions.{size_of, IsDecided, IsNarrowed, IsRegion, IsSplit};
-ghost use Rattle.roster_search_prices.specs.declared.branching.Split.TheVariants.{Holder};
+ghost use Rattle.roster_search_regions.specs.declared.split.Split.TheVariants.{Holder};
 ghost use Rattle.roster_search.specs.Branches.{AreAlike, IsBranch, IsOnFirst, IsOtherSide};
 
 use roster_problem::Problem;
 use roster_search_fixing::{is_split, pick};
-use roster_search_prices::{Relaxation, Split, branch, branch_by_shares};
-use roster_search_regions::{Choice, Choices, DualPrices, Region};
+use roster_search_prices::branch;
+use roster_search_regions::{Choice, Choices, DualPrices, Region, Split};
+use roster_search_relaxation::{Relaxation, branch_by_shares};
 use std::alloc::{AllocError, Global};
 
 /// What to settle next, if all isn't decided.

@@ -13,8 +13,9 @@ use crate::tuning::MOST_SOLUTIONS;
 use roster_problem::Problem;
 use roster_search_fixing::tighten;
 use roster_search_least::roster_in;
-use roster_search_prices::{Relaxation, rounded};
+use roster_search_prices::rounded;
 use roster_search_regions::{DualPrices, Region};
+use roster_search_relaxation::Relaxation;
 use roster_values::Roster;
 use std::alloc::{AllocError, Global};
 

@@ -12,8 +12,9 @@ use roster_cost::roster_cost;
 use roster_problem::Problem;
 use roster_search_fixing::tighten;
 use roster_search_least::RootPrices;
-use roster_search_prices::{Ascent, Relaxation, rounded};
+use roster_search_prices::{Ascent, rounded};
 use roster_search_regions::{DualPrices, Region};
+use roster_search_relaxation::Relaxation;
 use std::alloc::{AllocError, Global};
 use std::thread::Threads;
 

@@ -103,7 +103,7 @@ fn times(count: usize, amount: i64) -> i64
 }
 
 /// What the open pairings of a roster are paid at least, in all, if each is paid so much.
-pub(crate) fn paid_for_open(region: &Region, paid: i64) -> i64
+pub fn paid_for_open(region: &Region, paid: i64) -> i64
     requires { IsPrice paid }
     ensures value { result ≡ paid_in region.now paid }
     ensures bound { IsWithin MOST_PAID result }
@@ -115,7 +115,7 @@ pub(crate) fn paid_for_open(region: &Region, paid: i64) -> i64
 }
 
 /// What the pairing at place `p` adds at least, if open ones are paid so much.
-fn term(problem: &Problem, region: &Region, prices: &[i64], paid: i64, p: usize) -> i64
+pub fn term(problem: &Problem, region: &Region, prices: &[i64], paid: i64, p: usize) -> i64
     requires pairing { p < length problem.now.pairings }
     requires prices { ArePrices prices.now }
     requires paid { IsPrice paid }

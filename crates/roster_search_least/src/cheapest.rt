@@ -8,8 +8,8 @@ use crate::finder::Finder;
 use crate::tuning::{MOST_GAP, STEP_GROWTH, STEPS_OF_GAP};
 use roster_problem::Problem;
 use roster_search_fixing::cost_above;
-use roster_search_prices::Relaxation;
 use roster_search_regions::{DualPrices, Region};
+use roster_search_relaxation::Relaxation;
 use roster_values::Roster;
 use std::alloc::{AllocError, Global};
 

@@ -5,8 +5,8 @@ ghost use Rattle.roster_search_regions.specs.Regions.{IsIn, IsRegion};
 ghost use Rattle.roster_search_least.specs.Least.{IsCheapestWithin};
 
 use roster_problem::Problem;
-use roster_search_prices::Relaxation;
 use roster_search_regions::{DualPrices, Region};
+use roster_search_relaxation::Relaxation;
 use roster_values::Roster;
 use std::alloc::{AllocError, Global};
 

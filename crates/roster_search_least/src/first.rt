@@ -10,8 +10,8 @@ ghost use Rattle.roster_search_least.specs.Least.{CostsAtLeast};
 
 use crate::finder::Finder;
 use roster_problem::{Problem, open_number};
-use roster_search_prices::Relaxation;
 use roster_search_regions::{DualPrices, Region};
+use roster_search_relaxation::Relaxation;
 use roster_values::Roster;
 use std::alloc::{AllocError, Global};
 

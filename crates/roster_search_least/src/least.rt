@@ -13,8 +13,8 @@ use crate::first::first;
 use roster_cost::{cost_without_pairings, lines_are_near, roster_cost, shares_add_up};
 use roster_problem::Problem;
 use roster_search_fixing::{is_in, tighten};
-use roster_search_prices::Relaxation;
 use roster_search_regions::{DualPrices, Region};
+use roster_search_relaxation::Relaxation;
 use roster_values::{Places, Roster};
 use std::alloc::{AllocError, Global};
 

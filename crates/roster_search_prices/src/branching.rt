@@ -4,23 +4,11 @@ ghost use Rattle.std.specs.Prelude.{◌<◌, length};
 ghost use Rattle.roster_search_regions.specs.Regions.{IsRegion};
 
 use crate::look::{Look, WHOLE};
-use crate::person_lines::PersonLines;
 use crate::scope::Scope;
 use crate::tuning::{BEST_SHARE, PER_DOUBLING, PER_PERSON};
 use roster_problem::Problem;
-use roster_search_regions::{DualPrices, Region};
+use roster_search_regions::{DualPrices, PersonLines, Region, Split};
 use std::alloc::{AllocError, Global};
-
-/// What a region may be parted by.
-#[derive(Clone, Copy)]
-pub enum Split {
-    /// Whether a person has a pairing: the person's place and the pairing's.
-    Holder(usize, usize),
-    /// Whether the pairing at this place is flown or left open.
-    Flown(usize),
-    /// Whether at most so many pairings are open, or more.
-    Count(usize),
-}
 
 /// A person and a pairing, and what weighs against settling whether that person has it.
 #[derive(Clone, Copy)]

@@ -5,7 +5,6 @@
 //!
 //! - `tuning`: the numbers that decide how long a search takes
 //! - `powers`: powers of two and logarithms
-//! - `person_lines`: the lines of a person, all or some
 //! - `scope`: what is left to decide in a region
 //! - `picking`: some of a person's lines, as a tree of their own
 //! - `near`: the lines that count at some prices
@@ -13,35 +12,20 @@
 //! - `ascent`: prices on their way up
 //! - `looking`: looks at lines, which tell the bound that prices give
 //! - `branching`: which choice of a person to settle next
-//! - `program_rows`: which persons and pairings have rows in a linear program
-//! - `seeking`: lines that cost little at some prices
-//! - `relaxation`: a linear program over some lines of a region, whose dual prices are good ones
-//! - `ending`: when that is solved no more
-//! - `relaxing`: what several threads do for it, and what it says of shares
-//! - `shares`: which choice of a person to settle next, by its shares
 //! - `rounding`: rosters by prices
 #![tactic(auto)]
 
 mod ascent;
 mod branching;
-mod ending;
 mod look;
 mod looking;
 mod near;
-mod person_lines;
 mod picking;
 mod powers;
-mod program_rows;
-mod relaxation;
-mod relaxing;
 mod rounding;
 mod scope;
-mod seeking;
-mod shares;
 mod tuning;
 
 pub use ascent::Ascent;
-pub use branching::{Split, branch};
-pub use relaxation::Relaxation;
+pub use branching::branch;
 pub use rounding::rounded;
-pub use shares::branch_by_shares;

@@ -4,13 +4,14 @@ ghost use Rattle.std.specs.Prelude.{◌<◌, length};
 ghost use Rattle.roster_search_regions.specs.Regions.{IsRegion};
 
 use crate::near::NearLines;
-use crate::person_lines::{ChoiceList, PersonLines};
 use crate::picking::lines_within;
 use crate::powers::halved;
 use crate::scope::Scope;
 use crate::tuning::{FEW_NEAR_LINES, MOST_CUTS, NEAR_PART, VALUES_A_SAMPLE};
 use roster_problem::Problem;
-use roster_search_regions::{Choice, DualPrices, Region, number_at};
+use roster_search_regions::{
+    Choice, ChoiceList, DualPrices, PersonLines, Region, number_at, value_of,
+};
 use std::alloc::{AllocError, Global};
 
 /// One whole, of which covers are parts.
@@ -267,19 +268,6 @@ fn read_values<L: ChoiceList>(
         }
     }
     (least, greatest)
-}
-
-/// The value of the choice to which the walk goes on.
-#[inline]
-pub(crate) fn value_of(choice: &Choice, prices: &[i64], sums: &mut [i64]) -> i64 {
-    let depth = usize::from(choice.depth);
-    if depth == 0 || depth >= sums.len() {
-        return choice.extra;
-    }
-    let price = number_at(prices, usize::from(choice.last));
-    let sum = sums[depth - 1].wrapping_add(price);
-    sums[depth] = sum;
-    choice.extra.wrapping_sub(sum)
 }
 
 /// Weighs the choices from the last to the first, and gives the weight of all lines.

@@ -5,11 +5,9 @@ ghost use Rattle.roster_search_regions.specs.Regions.{IsRegion};
 
 use crate::ascent::Ascent;
 use crate::look::Look;
-use crate::tuning::{
-    FAIR_RISE, FEW_LINES_AT_A_NODE, FIXING_RISE, LINES_FOR_THREADS, NEAR_HALVINGS, SAMPLE_LINES,
-};
+use crate::tuning::{FAIR_RISE, FEW_LINES_AT_A_NODE, FIXING_RISE, NEAR_HALVINGS, SAMPLE_LINES};
 use roster_problem::Problem;
-use roster_search_regions::Region;
+use roster_search_regions::{LINES_FOR_THREADS, Region};
 use std::alloc::{AllocError, Global};
 use std::thread::{Threads, for_each_mut};
 

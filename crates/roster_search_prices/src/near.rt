@@ -4,14 +4,13 @@ ghost use Rattle.std.specs.Prelude.{◌<◌, length};
 ghost use Rattle.roster_search_regions.specs.Regions.{IsRegion};
 
 use crate::look::Look;
-use crate::person_lines::PersonLines;
 use crate::picking::sample;
 use crate::tuning::{
     FEW_LINES_TO_LOOK_AT, LEAST_NEAR_LOOKS, MOST_MISLED, MOST_NEAR_LOOKS, SAMPLE_LINES,
     SAMPLE_STEPS,
 };
 use roster_problem::Problem;
-use roster_search_regions::{Choice, Region};
+use roster_search_regions::{Choice, PersonLines, Region};
 use std::alloc::{AllocError, Global};
 
 /// Which lines the next look is at.

@@ -1,8 +1,7 @@
 //! Some of a person's lines, as a tree of their own.
 
-use crate::person_lines::{ChoiceList, PersonLines};
 use roster_model::limits::MOST_PAIRINGS;
-use roster_search_regions::Choice;
+use roster_search_regions::{Choice, ChoiceList, PersonLines};
 use std::alloc::{AllocError, Global};
 
 /// Writes some of the choices that it is shown, with those on the way to them.

@@ -3,12 +3,10 @@
 ghost use Rattle.std.specs.Prelude.{◌≡◌, ◌<◌, IfOk, IfSome, length};
 ghost use Rattle.roster_search_regions.specs.Regions.{IsRegion};
 
-use crate::look::value_of;
 use crate::near::NearLines;
-use crate::person_lines::{ChoiceList, PersonLines};
 use crate::tuning::MOST_CHOOSING;
 use roster_problem::{Problem, open_number};
-use roster_search_regions::{Region, number_at, scaled_penalty};
+use roster_search_regions::{ChoiceList, PersonLines, Region, number_at, scaled_penalty, value_of};
 use std::alloc::{AllocError, Global};
 
 /// What a pairing earns that must not be open.

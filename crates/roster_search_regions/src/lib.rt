@@ -16,7 +16,9 @@
 //! - `region`: regions, and what makes them smaller
 //! - `units`: what divides the costs of all rosters
 //! - `build`: regions of the lines whose numbers are in ranges
+//! - `split`: what a region may be parted by
 //! - `reading`: lists read past their ends
+//! - `person_lines`: the lines of a person, all or some, for what looks at them
 //! - `dual_prices`: dual prices of pairings, and one step of them
 #![tactic(auto)]
 
@@ -29,10 +31,12 @@ mod marker;
 mod marking;
 mod parts;
 mod path;
+mod person_lines;
 mod reading;
 mod region;
 mod rows;
 mod shared;
+mod split;
 mod sums;
 mod tree;
 mod units;
@@ -41,8 +45,10 @@ mod writer;
 pub use choice::{Choice, MOST_SCALE, MOST_UNIT, MOST_VALUE};
 pub use choices::Choices;
 pub use dual_prices::{DualPrices, scaled_penalty};
+pub use person_lines::{ChoiceList, LINES_FOR_THREADS, PersonLines, value_of};
 pub use reading::number_at;
 pub use region::Region;
 pub use rows::Rows;
+pub use split::Split;
 pub use sums::price_of;
 pub use writer::is_same;

@@ -1,4 +1,4 @@
-use Rattle.std.proofs.Common.{◌≡◌, List, Option, ℤ, w64, to_z, of_z, subst}
+use Rattle.std.proofs.Common.{List, Option, ℤ, w64, to_z, of_z, subst}
 use Rattle.std.proofs.lemmas.Int.{to_z-of_z}
 use Rattle.roster_model.specs.Rosters.{Key}
 use Rattle.roster_search_least.specs.Least.{IsCheapestWithin}

@@ -1,6 +1,6 @@
 use Rattle.std.proofs.Common.{length, sym, ap, subst, ◌<◌, arith}
-use Rattle.roster_search_regions.specs.Regions.{lines_of, size_of}
-use Rattle.roster_search_prices.specs.declared.branching.Split.TheVariants.{Holder}
+use Rattle.roster_search_regions.specs.Regions.{size_of}
+use Rattle.roster_search_regions.specs.declared.split.Split.TheVariants.{Holder}
 use Rattle.roster_search.specs.Branches.{AreAlike, IsOtherSide}
 use Rattle.roster_search.proofs.Alike.{denied_alike}
 use Rattle.roster_search.proofs.OpenLemmas.{other_side}

@@ -1,5 +1,5 @@
 use Rattle.std.proofs.Common.{◌<◌}
-use Rattle.roster_search_prices.specs.declared.branching.Split.TheVariants.{Holder}
+use Rattle.roster_search_regions.specs.declared.split.Split.TheVariants.{Holder}
 use Rattle.roster_search_regions.specs.Regions.{size_of}
 use Rattle.roster_search.specs.Branches.{IsOtherSide}
 use Rattle.roster_search.proofs.parting.deny_alike.Given as goal

@@ -3,7 +3,6 @@
 ghost use Rattle.std.specs.Prelude.{◌<◌, length};
 ghost use Rattle.roster_search_regions.specs.Regions.{IsRegion};
 
-use crate::branching::Split;
 use crate::relaxation::Relaxation;
 use crate::tuning::{
     BEST_SHARE_OF_LINES, LEAST_PART_OPEN, LEAST_SHARE, MOST_PART_OPEN, MOST_SHARE_OF_LINES,
@@ -12,7 +11,7 @@ use crate::tuning::{
 use roster_model::limits::MOST_PAIRINGS;
 use roster_problem::Problem;
 use roster_search_lp::MOST_SHARE;
-use roster_search_regions::Region;
+use roster_search_regions::{Region, Split};
 use std::alloc::{AllocError, Global};
 
 /// A half, in thousandths.

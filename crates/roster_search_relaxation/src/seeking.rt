@@ -3,12 +3,10 @@
 ghost use Rattle.std.specs.Prelude.{◌<◌, ◌≤◌, length};
 ghost use Rattle.roster_search_regions.specs.Regions.{IsRegion};
 
-use crate::look::value_of;
-use crate::person_lines::{ChoiceList, PersonLines};
 use crate::program_rows::put_row;
 use roster_model::limits::MOST_PAIRINGS;
 use roster_problem::Problem;
-use roster_search_regions::{Choice, Region};
+use roster_search_regions::{Choice, ChoiceList, PersonLines, Region, value_of};
 use roster_values::Set;
 use std::alloc::{AllocError, Global};
 

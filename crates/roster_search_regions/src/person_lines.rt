@@ -1,6 +1,13 @@
 //! The lines of a person, all that are left or some that were picked.
 
-use roster_search_regions::{Choice, Choices, Rows};
+use crate::choice::Choice;
+use crate::choices::Choices;
+use crate::reading::number_at;
+use crate::rows::Rows;
+
+/// Fewer lines than this are looked at sooner than threads are started: from 20,000 on, four workers took
+/// 1.4 times as long as one on a month of one base.
+pub const LINES_FOR_THREADS: usize = 200_000;
 
 /// No line, and on the way to none.
 const NOTHING: Choice = Choice {
@@ -12,7 +19,7 @@ const NOTHING: Choice = Choice {
 
 /// A list of choices in one place. Loops are written for any such list, so that they don't ask at each
 /// choice where it stands.
-pub(crate) trait ChoiceList {
+pub trait ChoiceList {
     /// How many choices there are.
     fn count(&self) -> usize;
 
@@ -34,7 +41,7 @@ impl<'a> ChoiceList for Rows<'a> {
 
 /// Choices that stand in a list of their own.
 #[derive(Clone, Copy)]
-pub(crate) struct Written<'a> {
+pub struct Written<'a> {
     choices: &'a [Choice],
 }
 
@@ -56,7 +63,7 @@ impl<'a> ChoiceList for Written<'a> {
 
 /// The lines of a person, as a tree: each choice stands behind those that it goes on from.
 #[derive(Drop)]
-pub(crate) enum PersonLines<'a> {
+pub enum PersonLines<'a> {
     /// All that the region has.
     All(Choices<'a>),
     /// Some of them.
@@ -65,7 +72,7 @@ pub(crate) enum PersonLines<'a> {
 
 impl<'a> PersonLines<'a> {
     /// How many choices there are.
-    pub(crate) fn len(&self) -> usize {
+    pub fn len(&self) -> usize {
         match self {
             PersonLines::All(choices) => choices.len(),
             PersonLines::Picked(choices) => choices.len(),
@@ -73,7 +80,7 @@ impl<'a> PersonLines<'a> {
     }
 
     /// The choice at a place, or past the last one that is no line.
-    pub(crate) fn at(&self, i: usize) -> Choice {
+    pub fn at(&self, i: usize) -> Choice {
         match self {
             PersonLines::All(choices) => {
                 if i < choices.len() {
@@ -93,7 +100,7 @@ impl<'a> PersonLines<'a> {
     }
 
     /// The rows of the table, if the choices stand there.
-    pub(crate) fn rows(&self) -> Option<&Rows<'a>> {
+    pub fn rows(&self) -> Option<&Rows<'a>> {
         match self {
             PersonLines::All(choices) => choices.rows(),
             PersonLines::Picked(_) => None,
@@ -101,7 +108,7 @@ impl<'a> PersonLines<'a> {
     }
 
     /// The choices, if they stand in a list of their own, and else none.
-    pub(crate) fn written(&self) -> Written<'_> {
+    pub fn written(&self) -> Written<'_> {
         Written {
             choices: match self {
                 PersonLines::All(choices) => choices.own().unwrap_or(&[]),
@@ -109,4 +116,18 @@ impl<'a> PersonLines<'a> {
             },
         }
     }
+}
+
+/// The value of the choice to which a walk goes on: what its line costs more than the empty one, less the prices of its
+/// pairings. The sums are those of the prices on the way, by depth.
+#[inline]
+pub fn value_of(choice: &Choice, prices: &[i64], sums: &mut [i64]) -> i64 {
+    let depth = usize::from(choice.depth);
+    if depth == 0 || depth >= sums.len() {
+        return choice.extra;
+    }
+    let price = number_at(prices, usize::from(choice.last));
+    let sum = sums[depth - 1].wrapping_add(price);
+    sums[depth] = sum;
+    choice.extra.wrapping_sub(sum)
 }

@@ -6,9 +6,9 @@ ghost use Rattle.roster_search_regions.specs.Regions.{IsRegion};
 
 use crate::relaxation::Relaxation;
 use crate::seeking::{Seeker, Sought};
-use crate::tuning::{LINES_A_PERSON, LINES_FOR_THREADS};
+use crate::tuning::LINES_A_PERSON;
 use roster_problem::Problem;
-use roster_search_regions::Region;
+use roster_search_regions::{LINES_FOR_THREADS, Region};
 use std::alloc::{AllocError, Global};
 use std::thread::{Threads, for_each_mut};
 
