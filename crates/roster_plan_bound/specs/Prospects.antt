@@ -1,5 +1,5 @@
 -- What paths of a person bring at some prices, and tables that say what all of them bring at least.
-use Rattle.std.specs.Prelude.{◌≡◌, ℕ, ◌+◌, ◌*◌, ◌<◌, ◌≤◌, List, ◌∷◌, ◌++◌, [], length, ℤ, pos, ◌+ℤ◌, ◌-ℤ◌, ◌*ℤ◌, ◌≤ℤ◌, neg_ℤ, unsigned_abs, All}
+use Rattle.std.specs.Prelude.{◌≡◌, ℕ, ◌+◌, ◌*◌, ◌<◌, ◌≤◌, List, ◌∷◌, ◌++◌, [], length, ℤ, pos, ◌+ℤ◌, ◌-ℤ◌, ◌*ℤ◌, ◌≤ℤ◌, unsigned_abs, All}
 use Rattle.roster_model.specs.Costs.{flight_of, total}
 use Rattle.roster_model.specs.Problem.{Problem, target_of, weight_of}
 use Rattle.roster_cost.specs.Amounts.{minutes_of_pairing, IsWithin}

@@ -1,4 +1,4 @@
-use Rattle.std.proofs.Common.{◌≡◌, ◌⊎◌, ℤ, pos, ◌+ℤ◌, ◌-ℤ◌, ◌*ℤ◌, ◌≤ℤ◌, w64, to_z, of_z, FitsSigned, arith, ap, ◌∙◌, subst, sym, refl, unsigned_abs}
+use Rattle.std.proofs.Common.{◌≡◌, ◌⊎◌, ℤ, pos, ◌+ℤ◌, ◌-ℤ◌, ◌*ℤ◌, ◌≤ℤ◌, w64, to_z, of_z, FitsSigned, arith, ap, ◌∙◌, subst, sym, unsigned_abs}
 use Rattle.std.proofs.lemmas.Int.{ints, to_z-of_z}
 use Rattle.roster_cost.specs.Amounts.{IsWithin}
 use Rattle.roster_plan_bound.specs.declared.parts.TheConstants.{MOST_FIXED, MOST_LEAST}
