@@ -17,14 +17,18 @@ use crate::means::Means;
 use crate::months::Month;
 use crate::parts::{BasePlan, is_open};
 use crate::watching::{Phase, Watcher};
-use roster_bases::count_of_persons;
+use roster_bases::{count_of_persons, is_pairing_of};
 use roster_cost::keys_are_in_order;
 use roster_model::limits::MOST_BASES;
-use roster_plan_bound::{PricedBound, Pricing};
+use roster_plan_bound::{PricedBound, Pricing, Team};
 use roster_plan_moves::Neighbourhoods;
-use roster_problem::Problem;
+use roster_problem::{Problem, open_number};
+use roster_values::Roster;
 use std::alloc::{AllocError, Global};
 use std::thread::{Threads, for_each_mut};
+
+/// More than one open pairing of so many is many.
+const PAIRINGS_FOR_AN_OPEN_ONE: usize = 16;
 
 /// A base, how many persons it has, what its known roster costs, what prices say of it, and what searches of
 /// its gaps come to, or before the first one its first bound.
@@ -157,6 +161,21 @@ fn pass_over(parts: &[BasePlan], gaps: &mut Vec<Gap<'_>>)
     gaps.retain(|gap| is_open(parts, gap.base));
 }
 
+/// Whether the roster of a base leaves many of its pairings open: its crew likely can't fly all.
+fn leaves_many_open(problem: &Problem, base: usize, roster: &Roster) -> bool {
+    let nobody = open_number(problem);
+    let (mut all, mut open) = (0usize, 0usize);
+    for (p, place) in roster.places.as_slice().iter().enumerate() {
+        if p < problem.pairings().len() && is_pairing_of(problem, p, base) {
+            all = all.wrapping_add(1);
+            if *place == nobody {
+                open = open.wrapping_add(1);
+            }
+        }
+    }
+    open.saturating_mul(PAIRINGS_FOR_AN_OPEN_ONE) > all
+}
+
 /// The bases whose best roster isn't known, with what the first prices say of each.
 fn gaps_of<'a, R: Threads + Sync>(
     rt: &R,
@@ -170,11 +189,17 @@ fn gaps_of<'a, R: Threads + Sync>(
     requires workers { 0 < workers }
     ensures { IfOk result (λ gaps. AreGaps pricing.now gaps.items) }
 {
+    let team = Team {
+        rt,
+        alloc,
+        threads: workers,
+    };
     let mut gaps = Vec::new(alloc);
     for base in 0..MOST_BASES {
         if is_open(parts, base) {
             let known = &parts[base].roster;
-            let priced = PricedBound::new(rt, alloc, workers, pricing, base)?;
+            let is_open = leaves_many_open(problem, base, known);
+            let priced = PricedBound::new(&team, pricing, base, is_open)?;
             let bound = priced.bound();
             gaps.push(Gap {
                 base,
@@ -266,11 +291,12 @@ fn look_on<R: Threads + Sync>(
     requires gap { IsGap problem.now gap.old }
     ensures { IsGap problem.now gap.new }
 {
+    let team = Team { rt, alloc, threads };
     let (cost, priced) = (gap.cost, &mut gap.priced);
     gap.raised = if is_end {
-        priced.settle(rt, alloc, threads)
+        priced.settle(&team)
     } else {
-        priced.raise(rt, alloc, threads, cost, 1)
+        priced.raise(&team, cost, 1)
     };
 }
 

@@ -17,7 +17,7 @@ use crate::together::joined;
 use crate::watching::{Phase, Watcher};
 use roster_bases::{all_open, is_person_of};
 use roster_cost::keys_are_in_order;
-use roster_plan_bound::{DivePlan, PricedBound};
+use roster_plan_bound::{DivePlan, PricedBound, Team};
 use roster_plan_moves::Neighbourhoods;
 use roster_problem::Problem;
 use roster_values::Roster;
@@ -165,6 +165,11 @@ fn of_base<R: Threads + Sync, W: Watcher>(
 {
     keys_are_in_order();
     let (alloc, problem) = (lent.alloc, lent.problem);
+    let team = Team {
+        rt,
+        alloc,
+        threads: means.workers,
+    };
     let open = all_open(alloc, problem)?;
     let all = vec![in alloc; true; problem.persons().len()]?;
     let mut month = start;
@@ -174,7 +179,7 @@ fn of_base<R: Threads + Sync, W: Watcher>(
             hundredths,
             pairs: means.pairs() / DIVES_A_LOOK,
         };
-        let roster = found_by(rt, alloc, means.workers, problem, priced, &open, &all, plan)?;
+        let roster = found_by(&team, problem, priced, &open, &all, plan)?;
         month = month.renewed(alloc, problem, &roster, Phase::Columns, watcher)?;
     }
     Ok(month)
@@ -182,21 +187,19 @@ fn of_base<R: Threads + Sync, W: Watcher>(
 
 /// The roster that a dive finds, as far as it is legal.
 fn found_by<R: Threads + Sync>(
-    rt: &R,
-    alloc: Global,
-    threads: usize,
+    team: &Team<'_, R>,
     problem: &Problem,
     priced: &PricedBound<'_>,
     given: &[u16],
     free: &[bool],
     plan: DivePlan,
 ) -> Result<Roster, AllocError>
-    requires threads { 0 < threads }
+    requires threads { 0 < team.now.threads }
     requires priced { priced.now.problem ≡ problem.now }
     ensures { IfOk result (IsHeld problem.now) }
 {
-    let places = priced.dive(rt, alloc, threads, given, free, plan)?;
-    let legal = kept(alloc, problem, &places)?;
+    let places = priced.dive(team, given, free, plan)?;
+    let legal = kept(team.alloc, problem, &places)?;
     Ok(costed(problem, legal))
 }
 
@@ -305,10 +308,15 @@ fn found_among<R: Threads + Sync>(
         hundredths: 1,
         pairs: u64::MAX,
     };
+    let team = Team {
+        rt,
+        alloc,
+        threads: 1,
+    };
     for gap in gaps {
         if has_free(problem, gap.base, free) {
             let given = places_of(before);
-            let roster = found_by(rt, alloc, 1, problem, &gap.priced, given, free, plan)?;
+            let roster = found_by(&team, problem, &gap.priced, given, free, plan)?;
             return Ok(Some(roster));
         }
     }

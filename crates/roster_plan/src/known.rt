@@ -1,6 +1,6 @@
 //! What is known of a plan while it is made, and in the end.
 
-ghost use Rattle.std.specs.Prelude.{◌≡◌, ◌⊎◌, length, true};
+ghost use Rattle.std.specs.Prelude.{◌≡◌, ◌⊎◌, ◌<ℤ◌, length, true};
 ghost use Rattle.roster_model.specs.Rosters.{key_le, key_of};
 ghost use Rattle.roster_model.specs.Settled.{Anywhere, IsHeld, IsLowerBound, IsNotAfter};
 ghost use Rattle.roster_plan.specs.Planned.{IsKnown};
@@ -67,9 +67,11 @@ pub(crate) fn earlier(first: Roster, second: Roster) -> Roster
 pub(crate) fn cheaper(first: Roster, second: Roster) -> Roster
     ensures from { (result ≡ first) ⊎ (result ≡ second) }
     ensures second { key_le result second ≡ true }
+    ensures saves { (result ≡ second) ⊎ (result.cost <ℤ second.cost) }
+    ensures taken { first.cost <ℤ second.cost → result ≡ first }
 {
     keys_are_in_order();
-    if first.cost < second.cost && comes_before(&first, &second) {
+    if first.cost < second.cost {
         first
     } else {
         second

@@ -158,15 +158,6 @@ fn tried<R: Threads + Sync, W: Watcher>(
     }
     neighbourhoods.seek(alloc, problem, &open_bases(alloc, &sought.parts)?)?;
     let changed = improved_by_runs(rt, alloc, problem, sought, means, watcher)?;
-    let month = improved_nearby(
-        rt,
-        alloc,
-        problem,
-        pairs,
-        changed,
-        means,
-        neighbourhoods,
-        watcher,
-    )?;
+    let month = improved_nearby(rt, lent, changed, means, neighbourhoods, watcher)?;
     Ok(month)
 }

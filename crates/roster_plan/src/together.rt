@@ -11,6 +11,7 @@ ghost use Rattle.roster_plan.specs.Planned.{IsKnown, IsPlannedFrom};
 
 use crate::kept::kept;
 use crate::known::{Planned, cheaper, costed, places_of, so_far};
+use crate::lent::Lent;
 use crate::means::Means;
 use crate::months::Month;
 use crate::nearby::{Nearby, search_nearby};
@@ -46,20 +47,19 @@ struct Attempt {
 /// roster isn't known. The workers share the searches.
 pub(crate) fn improved_nearby<R: Threads + Sync, W: Watcher>(
     rt: &R,
-    alloc: Global,
-    problem: &Problem,
-    pairs: &[Pairs],
+    lent: &Lent<'_>,
     start: Month,
     means: &Means,
     neighbourhoods: &mut Neighbourhoods,
     watcher: &mut W,
 ) -> Result<Month, AllocError>
-    requires pairs { AreAllPairs problem.now pairs.now }
-    requires month { IsMonth problem.now start }
+    requires pairs { AreAllPairs lent.now.problem.now lent.now.pairs.now }
+    requires month { IsMonth lent.now.problem.now start }
     requires workers { 0 < means.now.workers }
-    ensures { IfOk result (IsMonthFrom problem.now start.planned.roster) }
+    ensures { IfOk result (IsMonthFrom lent.now.problem.now start.planned.roster) }
 {
     keys_are_in_order();
+    let (alloc, problem, pairs) = (lent.alloc, lent.problem, lent.pairs);
     let roster = start.planned.roster.copy(alloc)?;
     let mut planned = so_far(problem, roster, start.planned.bound);
     for _ in 0..ROUNDS {

@@ -11,4 +11,6 @@ pub mod OffLemmas
 pub mod BehindLemmas
 mod TimelineLemmas
 pub mod SeekLemmas
+pub mod ProductLemmas
+pub mod TargetLemmas
 pub mod ProspectLemmas

@@ -1,13 +1,13 @@
 -- What paths bring: each line is a path, and tables say what paths bring at least.
-use Rattle.std.proofs.Common.{◌≡◌, ℕ, zero, suc, ◌+◌, ◌-◌, ◌*◌, ◌<◌, ◌≤◌, ◌⊎◌, true, false, ◌||◌, eqb, List, [], ◌∷◌, ◌++◌, length, get_or, Some, refl, sym, ap, ◌∙◌, subst, inl, inr, arith, ℤ, pos, negsuc, neg_ℤ, ◌+ℤ◌, ◌-ℤ◌, ◌*ℤ◌, ◌≤ℤ◌, ◌^◌, append_assoc, w64, to_z, of_z, FitsSigned}
-use Rattle.std.proofs.Math.IntN.{*ℤ-negsuc, *ℤ-zero}
-use Rattle.std.proofs.Math.Nat.{mul-le-mul_left, mul-le-mul_right, mul-add}
+use Rattle.std.proofs.Common.{◌≡◌, ℕ, ◌+◌, ◌*◌, ◌<◌, ◌≤◌, true, false, ◌||◌, eqb, List, [], ◌∷◌, ◌++◌, length, get_or, Some, refl, sym, ap, ◌∙◌, subst, inl, inr, arith, ℤ, pos, neg_ℤ, ◌+ℤ◌, ◌*ℤ◌, ◌≤ℤ◌, append_assoc}
+use Rattle.std.proofs.Math.IntN.{*ℤ-zero}
+use Rattle.std.proofs.Math.Nat.{mul-le-mul_right}
 use Rattle.roster_model.specs.declared.profile.TheConstants.{MOST_FLIGHT_IN_12_MONTHS, MOST_FLIGHT_IN_A_YEAR}
-use Rattle.std.specs.Prelude.{All, slice_get, slice_index, unsigned_abs, unwrap_or}
+use Rattle.std.specs.Prelude.{All, slice_get, slice_index, unwrap_or}
 use Rattle.std.specs.List.{list_any, sum_by, AllByRecursion, IsDistinct}
 use Rattle.std.specs.List.Sorted.{IsStrictlyIncreasing}
-use Rattle.std.proofs.lemmas.Bool.{cases_eq, cases_lt, false≢true, ne_eqb}
-use Rattle.std.proofs.lemmas.Int.{ints, fits_signed_from_abs, to_z-of_z, unsigned_abs-mul}
+use Rattle.std.proofs.lemmas.Bool.{cases_eq, false≢true, ne_eqb}
+use Rattle.std.proofs.lemmas.Int.{ints}
 use Rattle.std.proofs.lemmas.List.Elements.{All-head, All-tail}
 use Rattle.std.proofs.lemmas.List.Sums.{sum_by-append, sum_by-cons}
 use Rattle.std.proofs.lemmas.Map.Steps.{length-le_from_distinct_below}
@@ -21,244 +21,21 @@ use Rattle.roster_model.proofs.CostLemmas.{total-nil, total-cons, total-append}
 use Rattle.roster_model.proofs.SetLemmas.{is_among-append, All-is_among, All-from_is_among}
 use Rattle.roster_cost.specs.Amounts.{minutes_of_pairing, IsWithin}
 use Rattle.roster_lines.specs.Listing.{AreFlights, ArePartsLegal}
-use Rattle.roster_plan_bound.specs.declared.parts.TheConstants.{MOST_BEHIND, MOST_CHAIN_VALUE, MOST_FIXED, MOST_LEAST, MOST_SHORT, PARTS}
-use Rattle.roster_plan_bound.specs.declared.prospect.WorthTable.{WorthTable}
+use Rattle.roster_plan_bound.specs.declared.parts.TheConstants.{MOST_BEHIND, MOST_CHAIN_VALUE, MOST_LEAST, MOST_SHORT, PARTS}
+use Rattle.roster_plan_bound.specs.declared.worths.WorthTable.{WorthTable}
 use Rattle.roster_plan_bound.specs.declared.rows_behind.OwedRows.{OwedRows}
 use Rattle.roster_plan_bound.specs.declared.timeline.Timeline.{Timeline}
 use Rattle.roster_plan_bound.specs.Behinds.{row_at, row_for}
 use Rattle.roster_plan_bound.specs.Chains.{value_at}
 use Rattle.roster_plan_bound.specs.Networks.{missed_at, AreValues}
-use Rattle.roster_plan_bound.specs.Prospects.{gain_of, short_of, term_of, AreWorth, IsAhead, IsFixed, IsLeastPath, IsTable}
+use Rattle.roster_plan_bound.specs.Prospects.{gain_of, short_of, AreWorth, IsAhead, IsLeastPath, IsTable}
 use Rattle.roster_plan_bound.specs.Ranked.{IsRanked}
 use Rattle.roster_plan_bound.specs.Reduced.{reduced}
 use Rattle.roster_plan_bound.specs.Timelines.{flight_along, rank_of, spare_flight, IsPath, IsTimeline}
 use Rattle.roster_plan_bound.proofs.ChainLemmas.{single_among, total_values, AddsFlight}
+use Rattle.roster_plan_bound.proofs.ProductLemmas.{abs_within, times_more}
+use Rattle.roster_plan_bound.proofs.TargetLemmas.{distance_abs, term_is}
 use Rattle.roster_plan_bound.proofs.RankedLemmas.{ranked_of, ranked-above, ranked-every, ranked-rest, AreTold}
-
--- ---- products
-
-pub abs_within : (most : ℕ) (z : ℤ) → IsWithin most z → unsigned_abs z ≤ most
-abs_within most (pos n) within = let high = within.1 in omega (arith, ints, high)
-abs_within most (negsuc n) within = let low = within.0 in omega (arith, ints, low)
-
-pub within_abs : (most : ℕ) (z : ℤ) → unsigned_abs z ≤ most → IsWithin most z
-within_abs most (pos n) few = (omega (arith, ints), omega (arith, ints, few))
-within_abs most (negsuc n) few = (omega (arith, ints, few), omega (arith, ints))
-
--- no further from 0 than the product of the limits
-pub times_within : (a b : ℤ) (m n : ℕ) → IsWithin m a → IsWithin n b → IsWithin (m * n) (a *ℤ b)
-times_within a b m n first second =
-    let left = abs_within m a first in
-    let right = abs_within n b second in
-    let more = mul-le-mul_right (unsigned_abs b) left in
-    let most = mul-le-mul_left m right in
-    within_abs (m * n) (a *ℤ b) (omega (arith, unsigned_abs-mul a b, more, most))
-
--- a small amount is what a word of it has
-pub fits_in : (most : ℕ) (z : ℤ) → IsWithin most z → most < 2 ^ 63 → FitsSigned w64 z
-fits_in most z within few = fits_signed_from_abs w64 z (omega (arith, abs_within most z within, few))
-
-pub told_in : (most : ℕ) (z : ℤ) → IsWithin most z → most < 2 ^ 63 → to_z w64 (of_z w64 z) ≡ z
-told_in most z within few = to_z-of_z w64 z (fits_in most z within few)
-
--- so is a product of two such amounts
-pub product_told : (a b : ℤ) (m n : ℕ) → IsWithin m a → IsWithin n b → m < 2 ^ 63 → n < 2 ^ 63 → m * n < 2 ^ 63
-    → to_z w64 (of_z w64 (to_z w64 (of_z w64 a) *ℤ to_z w64 (of_z w64 b))) ≡ a *ℤ b
-product_told a b m n first second few many most =
-    let here : to_z w64 (of_z w64 a) *ℤ to_z w64 (of_z w64 b) ≡ a *ℤ b =
-    ap (λ z. z *ℤ to_z w64 (of_z w64 b)) (told_in m a first few) ∙ ap (λ z. a *ℤ z) (told_in n b second many) in
-    ap (λ z. to_z w64 (of_z w64 z)) here ∙ told_in (m * n) (a *ℤ b) (times_within a b m n first second) most
-
-pub pos_within : (most n : ℕ) → n ≤ most → IsWithin most (pos n)
-pos_within most n few = (omega (arith, ints), omega (arith, ints, few))
-
-pub times_more : (c : ℤ) (a b : ℕ) → c *ℤ pos (a + b) ≡ (c *ℤ pos a) +ℤ (c *ℤ pos b)
-times_more (pos c) a b = let split = mul-add c a b in omega (arith, ints, split)
-times_more (negsuc c) a b = let split = mul-add (suc c) a b in omega (arith, ints, split)
-
-turned : (c : ℤ) (d : ℕ) → c *ℤ neg_ℤ (pos d) ≡ neg_ℤ (c *ℤ pos d)
-turned (pos c) zero = omega (arith, ints)
-turned (pos c) (suc d) = omega (arith, ints)
-turned (negsuc c) zero = omega (arith, ints)
-turned (negsuc c) (suc d) = omega (arith, ints)
-
-turned_product : (w d : ℕ) → negsuc w *ℤ pos d ≡ neg_ℤ (pos (suc w * d))
-turned_product w zero = omega (arith, ints)
-turned_product w (suc d) = omega (arith, ints)
-
-times_less : (c : ℤ) (a b : ℕ) → c *ℤ (pos a -ℤ pos b) ≡ (c *ℤ pos a) -ℤ (c *ℤ pos b)
-times_less c a b =
-    elim (cases_lt a b) [
-      | inl below ↦
-          let d : ℕ = b - a in
-          let here : pos a -ℤ pos b ≡ neg_ℤ (pos d) = omega (arith, ints, below) in
-          let there : b ≡ a + d = omega (arith, below) in
-          let split = times_more c a d in
-          let same : c *ℤ pos b ≡ c *ℤ pos (a + d) = ap (λ n. c *ℤ pos n) there in
-          ap (λ z. c *ℤ z) here ∙ turned c d ∙ omega (arith, ints, split, same)
-      | inr above ↦
-          let d : ℕ = a - b in
-          let here : pos a -ℤ pos b ≡ pos d = omega (arith, ints, above) in
-          let there : a ≡ b + d = omega (arith, above) in
-          let split = times_more c b d in
-          let same : c *ℤ pos a ≡ c *ℤ pos (b + d) = ap (λ n. c *ℤ pos n) there in
-          ap (λ z. c *ℤ z) here ∙ omega (arith, ints, split, same)
-    ]
-
--- ---- what it costs to miss a target
-
-pub distance_abs : (a b : ℕ) → unsigned_abs (pos a -ℤ pos b) ≡ distance a b
-distance_abs a b =
-    elim (cases_lt a b) [
-      | inl below ↦
-          let here : pos a -ℤ pos b ≡ negsuc (b - a - 1) = omega (arith, ints, below) in
-          ap unsigned_abs here ∙ omega (arith, below)
-      | inr above ↦
-          let here : pos a -ℤ pos b ≡ pos (a - b) = omega (arith, ints, above) in
-          ap unsigned_abs here ∙ omega (arith, above)
-    ]
-
-missed_is : (problem : Problem) (k flight : ℕ)
-    → missed_at problem k flight ≡ pos (PARTS * weight_of problem * distance flight (target_of problem k))
-missed_is problem k flight = omega (arith, ints)
-
--- in words of the code
-weighed_is : (problem : Problem) (k flight : ℕ) (weight away : ℤ) → weight ≡ pos (PARTS * weight_of problem)
-    → away ≡ pos flight -ℤ pos (target_of problem k)
-    → weight *ℤ pos (unsigned_abs away) ≡ missed_at problem k flight
-weighed_is problem k flight weight away is far =
-    let apart : unsigned_abs away ≡ distance flight (target_of problem k) =
-    ap unsigned_abs far ∙ distance_abs flight (target_of problem k) in
-    ap (λ z. z *ℤ pos (unsigned_abs away)) is
-    ∙ ap (λ n. pos (PARTS * weight_of problem) *ℤ pos n) apart
-    ∙ sym (missed_is problem k flight)
-
-pub weight_told : (problem : Problem) (weight : ℤ) → weight ≡ pos (PARTS * weight_of problem)
-    → weight_of problem ≤ MOST_WEIGHT → to_z w64 (of_z w64 weight) ≡ pos (PARTS * weight_of problem)
-weight_told problem weight is light =
-    let within = pos_within (PARTS * MOST_WEIGHT) (PARTS * weight_of problem) (omega (arith, light)) in
-    ap (λ z. to_z w64 (of_z w64 z)) is ∙ told_in (PARTS * MOST_WEIGHT) (pos (PARTS * weight_of problem)) within (omega arith)
-
-pub fixed_is : (problem : Problem) (k : ℕ) (weight short : ℤ) → weight ≡ pos (PARTS * weight_of problem)
-    → short ≡ short_of problem k
-    → weight *ℤ pos (unsigned_abs short) ≡ missed_at problem k (flight_of problem k [])
-fixed_is problem k weight short is far = weighed_is problem k (flight_of problem k []) weight short is far
-
-pub term_is : (problem : Problem) (k flight : ℕ) (weight short : ℤ) → weight ≡ pos (PARTS * weight_of problem)
-    → short ≡ short_of problem k
-    → (weight *ℤ pos (unsigned_abs (short +ℤ pos flight))) -ℤ (weight *ℤ pos (unsigned_abs short)) ≡ term_of problem k flight
-term_is problem k flight weight short is far =
-    let more : short +ℤ pos flight ≡ pos (flight_of problem k [] + flight) -ℤ pos (target_of problem k) =
-    omega (arith, ints, far) in
-    let first = weighed_is problem k (flight_of problem k [] + flight) weight (short +ℤ pos flight) is more in
-    let second = fixed_is problem k weight short is far in
-    omega (arith, ints, first, second)
-
-times_plus : (c z : ℤ) (n : ℕ) → c *ℤ (z +ℤ pos n) ≡ (c *ℤ z) +ℤ (c *ℤ pos n)
-times_plus c (pos a) n = times_more c a n
-times_plus c (negsuc a) n =
-    let here : negsuc a +ℤ pos n ≡ pos n -ℤ pos (suc a) = omega (arith, ints) in
-    let other : c *ℤ negsuc a ≡ neg_ℤ (c *ℤ pos (suc a)) = *ℤ-negsuc c a in
-    ap (λ z. c *ℤ z) here ∙ times_less c n (suc a) ∙ omega (arith, ints, other)
-
--- a worth within the weight, at the target
-pub fixed_near : (worth weight short : ℤ) (spare : ℕ) (fixed : ℤ) → neg_ℤ weight ≤ℤ worth → worth ≤ℤ weight
-    → fixed ≡ (worth *ℤ short) -ℤ (weight *ℤ pos (unsigned_abs short)) → IsFixed worth weight short spare fixed
-fixed_near worth (pos m) short spare fixed low high is flight few =
-    let away : ℤ = short +ℤ pos flight in
-    let own = within_abs (unsigned_abs away) away (omega arith) in
-    let most = times_within worth away m (unsigned_abs away) (low, high) own in
-    let above = most.1 in
-    omega (arith, ints, is, above, times_plus worth short flight)
-fixed_near worth (negsuc m) short spare fixed low high is flight few = absurd (omega (arith, ints, low, high))
-
-abs_more : (z : ℤ) (d : ℕ) → unsigned_abs (z +ℤ pos d) ≤ unsigned_abs z + d
-abs_more (pos n) d = omega (arith, ints)
-abs_more (negsuc n) d =
-    elim (cases_lt n d) [
-      | inl more ↦
-          let here : negsuc n +ℤ pos d ≡ pos (d - suc n) = omega (arith, ints, more) in
-          subst (λ z. unsigned_abs z ≤ suc n + d) (sym here) (omega arith)
-      | inr less ↦
-          let here : negsuc n +ℤ pos d ≡ negsuc (n - d) = omega (arith, ints, less) in
-          subst (λ z. unsigned_abs z ≤ suc n + d) (sym here) (omega arith)
-    ]
-
-abs_less : (z : ℤ) (d : ℕ) → z ≤ℤ pos 0 → unsigned_abs (z -ℤ pos d) ≡ unsigned_abs z + d
-abs_less (pos zero) zero low = omega (arith, ints)
-abs_less (pos zero) (suc d) low = omega (arith, ints)
-abs_less (pos (suc n)) d low = absurd (omega (arith, ints, low))
-abs_less (negsuc n) d low =
-    let here : negsuc n -ℤ pos d ≡ negsuc (n + d) = omega (arith, ints) in
-    ap unsigned_abs here ∙ omega arith
-
-product_more : (worth : ℤ) (m d : ℕ) → pos m ≤ℤ worth → pos (m * d) ≤ℤ (worth *ℤ pos d)
-product_more (pos w) m d more =
-    let few : m ≤ w = omega (arith, ints, more) in
-    let scaled = mul-le-mul_right d few in
-    omega (arith, ints, scaled)
-product_more (negsuc w) m d more = absurd (omega (arith, ints, more))
-
-product_less : (worth : ℤ) (m d : ℕ) → neg_ℤ (pos m) ≤ℤ worth → neg_ℤ (pos (m * d)) ≤ℤ (worth *ℤ pos d)
-product_less (pos w) m d low = omega (arith, ints)
-product_less (negsuc w) m d low =
-    let few : suc w ≤ m = omega (arith, ints, low) in
-    let scaled = mul-le-mul_right d few in
-    let turned_here : negsuc w *ℤ pos d ≡ neg_ℤ (pos (suc w * d)) = turned_product w d in
-    omega (arith, ints, scaled, turned_here)
-
--- a worth beyond the weight, or any if all flight that may be spared leaves the person below the target: no more
--- flight may be spared
-pub fixed_spent : (worth weight short : ℤ) (spare : ℕ) (near fixed : ℤ) → pos 0 ≤ℤ weight → neg_ℤ weight ≤ℤ worth
-    → (weight ≤ℤ worth) ⊎ ((short +ℤ pos spare) ≤ℤ pos 0)
-    → near ≡ (weight *ℤ pos (unsigned_abs (short +ℤ pos spare))) -ℤ (weight *ℤ pos (unsigned_abs short))
-    → fixed ≡ near -ℤ (worth *ℤ pos spare) → IsFixed worth weight short spare fixed
-fixed_spent worth (negsuc m) short spare near fixed heavy low one is less flight few = absurd (omega (arith, ints, heavy))
-fixed_spent worth (pos m) short spare near fixed heavy low one is less flight few =
-    let d : ℕ = spare - flight in
-    let there : spare ≡ flight + d = omega (arith, few) in
-    let whole : worth *ℤ pos spare ≡ (worth *ℤ pos flight) +ℤ (worth *ℤ pos d) =
-    ap (λ n. worth *ℤ pos n) there ∙ times_more worth flight d in
-    let away : ℕ = unsigned_abs (short +ℤ pos flight) in
-    let last : ℕ = unsigned_abs (short +ℤ pos spare) in
-    elim one [
-      | inl dear ↦
-          let more : short +ℤ pos spare ≡ (short +ℤ pos flight) +ℤ pos d = omega (arith, ints, there) in
-          let apart : last ≤ away + d = subst (λ z. unsigned_abs z ≤ away + d) (sym more) (abs_more (short +ℤ pos flight) d) in
-          let scaled = mul-le-mul_left m apart in
-          let split = mul-add m away d in
-          omega (arith, ints, is, less, whole, scaled, split, product_more worth m d dear)
-      | inr below ↦
-          let fewer : short +ℤ pos flight ≡ (short +ℤ pos spare) -ℤ pos d = omega (arith, ints, there) in
-          let apart : away ≡ last + d = ap unsigned_abs fewer ∙ abs_less (short +ℤ pos spare) d below in
-          let scaled : m * away ≡ m * (last + d) = ap (λ n. m * n) apart in
-          let split = mul-add m last d in
-          omega (arith, ints, is, less, whole, scaled, split, product_less worth m d low)
-    ]
-
-abs_least : (weight : ℤ) (n : ℕ) → pos 0 ≤ℤ weight → pos 0 ≤ℤ (weight *ℤ pos n)
-abs_least (pos m) n some = omega (arith, ints)
-abs_least (negsuc m) n some = absurd (omega (arith, ints, some))
-
--- what it costs if all flight is flown that may be spared
-pub spent_within : (weight short : ℤ) (spare : ℕ) → pos 0 ≤ℤ weight → weight ≤ℤ pos (PARTS * MOST_WEIGHT)
-    → IsWithin MOST_SHORT short → spare ≤ MOST_FLIGHT_IN_A_YEAR
-    → IsWithin MOST_FIXED ((weight *ℤ pos (unsigned_abs (short +ℤ pos spare))) -ℤ (weight *ℤ pos (unsigned_abs short)))
-spent_within weight short spare some few near little =
-    let heavy : IsWithin (PARTS * MOST_WEIGHT) weight = (omega (arith, ints, some), few) in
-    let low_short = near.0 in
-    let high_short = near.1 in
-    let far : IsWithin (MOST_SHORT + MOST_FLIGHT_IN_A_YEAR) (short +ℤ pos spare) =
-    (omega (arith, ints, low_short), omega (arith, ints, high_short, little)) in
-    let apart = pos_within (MOST_SHORT + MOST_FLIGHT_IN_A_YEAR) (unsigned_abs (short +ℤ pos spare)) (abs_within (MOST_SHORT + MOST_FLIGHT_IN_A_YEAR) (short +ℤ pos spare) far) in
-    let away = pos_within MOST_SHORT (unsigned_abs short) (abs_within MOST_SHORT short near) in
-    let first = times_within weight (pos (unsigned_abs (short +ℤ pos spare))) (PARTS * MOST_WEIGHT) (MOST_SHORT + MOST_FLIGHT_IN_A_YEAR) heavy apart in
-    let second = times_within weight (pos (unsigned_abs short)) (PARTS * MOST_WEIGHT) MOST_SHORT heavy away in
-    let least = abs_least weight (unsigned_abs (short +ℤ pos spare)) some in
-    let least_second = abs_least weight (unsigned_abs short) some in
-    let high = first.1 in
-    let high_second = second.1 in
-    (omega (arith, ints, least, high_second), omega (arith, ints, high, least_second))
 
 -- ---- what a path brings
 

@@ -4,7 +4,7 @@ use Rattle.roster_model.specs.Costs.{flight_of, total}
 use Rattle.roster_model.specs.Problem.{Problem, target_of, weight_of}
 use Rattle.roster_cost.specs.Amounts.{minutes_of_pairing, IsWithin}
 use Rattle.roster_plan_bound.specs.declared.parts.TheConstants.{MOST_LEAST, MOST_SHORT, MOST_WORTH, PARTS}
-use Rattle.roster_plan_bound.specs.declared.prospect.WorthTable.{WorthTable}
+use Rattle.roster_plan_bound.specs.declared.worths.WorthTable.{WorthTable}
 use Rattle.roster_plan_bound.specs.declared.timeline.Timeline.{Timeline}
 use Rattle.roster_plan_bound.specs.Behinds.{AreBehind}
 use Rattle.roster_plan_bound.specs.Chains.{value_at}

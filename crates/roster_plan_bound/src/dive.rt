@@ -7,15 +7,17 @@ ghost use Rattle.roster_plan_bound.specs.Reduced.{ArePrices};
 
 use crate::choosing::{Choice, greatest, next_of, sums_of};
 use crate::columns::Columns;
+use crate::covered::Covered;
 use crate::dearness::dearness;
 use crate::lists::amount_at;
-use crate::master::{Covered, ascend, ascend_with_shares, counts_of};
+use crate::master::{ascend, ascend_with_shares, counts_of};
 use crate::own_cost::own_cost;
 use crate::pace::Pace;
 use crate::parts::{MOST_PLAN_PRICE, PARTS};
 use crate::persons::{Seen, check, renew_all};
+use crate::prices::limited;
 use crate::pricing::Pricing;
-use crate::rising::limited;
+use crate::team::Team;
 use crate::tuning::{
     COUNTED_SOFTNESS, FEW_COLUMNS, LEAST_DIVE_SHARE, LOOKS_A_DIVE, ONE, SURE_SHARE,
 };
@@ -98,17 +100,15 @@ impl<'a> Dive<'a> {
     /// nothing, if the first looks show no hope of a cheaper roster.
     pub(crate) fn end<R: Threads + Sync>(
         &mut self,
-        rt: &R,
-        alloc: Global,
-        threads: usize,
+        team: &Team<'_, R>,
         covered: &[Covered],
         plan: DivePlan,
     ) -> Result<bool, AllocError>
-        requires { 0 < threads }
+        requires { 0 < team.now.threads }
     {
         self.begin(covered)?;
         self.pairs = plan.pairs;
-        self.look(rt, alloc, threads, plan.looks)?;
+        self.look(team, plan.looks)?;
         if plan.looks > 0 && !self.has_hope() {
             return Ok(false);
         }
@@ -116,10 +116,10 @@ impl<'a> Dive<'a> {
             if self.left.is_empty() {
                 break;
             }
-            let choices = self.choices(rt, alloc, threads)?;
+            let choices = self.choices(team)?;
             let least = self.left.len().saturating_mul(plan.hundredths) / 100;
-            self.take(alloc, &choices, least)?;
-            self.look(rt, alloc, threads, LOOKS_A_DIVE)?;
+            self.take(team.alloc, &choices, least)?;
+            self.look(team, LOOKS_A_DIVE)?;
         }
         Ok(true)
     }
@@ -154,39 +154,17 @@ impl<'a> Dive<'a> {
     }
 
     /// Renews prices and columns of those who are left, so many times.
-    fn look<R: Threads + Sync>(
-        &mut self,
-        rt: &R,
-        alloc: Global,
-        threads: usize,
-        looks: u32,
-    ) -> Result<(), AllocError>
-        requires { 0 < threads }
+    fn look<R: Threads + Sync>(&mut self, team: &Team<'_, R>, looks: u32) -> Result<(), AllocError>
+        requires { 0 < team.now.threads }
     {
         let mut pace = self.pace();
         for _ in 0..looks {
             if self.left.is_empty() || !self.pays() {
                 break;
             }
-            let wanted = ascend(
-                rt,
-                alloc,
-                threads,
-                &self.seen,
-                &self.prices,
-                &self.free,
-                pace,
-            )?;
-            let prices = limited(alloc, self.pricing.problem(), &wanted)?;
-            renew_all(
-                rt,
-                alloc,
-                threads,
-                self.pricing,
-                &self.left,
-                &prices,
-                &mut self.seen,
-            );
+            let wanted = ascend(team, &self.seen, &self.prices, &self.free, pace)?;
+            let prices = limited(team.alloc, self.pricing.problem(), &wanted)?;
+            renew_all(team, self.pricing, &self.left, &prices, &mut self.seen);
             check(&self.seen)?;
             self.prices = prices;
             pace.softness /= 2;
@@ -210,21 +188,14 @@ impl<'a> Dive<'a> {
     }
 
     /// Of each who is left the column of the greatest share, at the next prices.
-    fn choices<R: Threads + Sync>(
-        &mut self,
-        rt: &R,
-        alloc: Global,
-        threads: usize,
-    ) -> Result<Vec<Choice>, AllocError>
-        requires { 0 < threads }
+    fn choices<R: Threads + Sync>(&mut self, team: &Team<'_, R>) -> Result<Vec<Choice>, AllocError>
+        requires { 0 < team.now.threads }
     {
         let mut pace = self.pace();
         pace.softness = COUNTED_SOFTNESS.wrapping_mul(pace.dear);
-        let mut sums = sums_of(alloc, &self.seen)?;
+        let mut sums = sums_of(team.alloc, &self.seen)?;
         self.prices = ascend_with_shares(
-            rt,
-            alloc,
-            threads,
+            team,
             &self.seen,
             &self.prices,
             &self.free,
@@ -232,7 +203,7 @@ impl<'a> Dive<'a> {
             &mut sums,
         )?;
         let counts = i64::from(counts_of(pace.steps));
-        let mut choices = Vec::new(alloc);
+        let mut choices = Vec::new(team.alloc);
         for at in 0..sums.len() {
             choices.push(greatest(at, &sums[at], counts))?;
         }

@@ -17,8 +17,9 @@ ghost use Rattle.roster_plan_bound.specs.Reduced.{ArePrices};
 
 use crate::network::Network;
 use crate::parts::{MOST_CHAIN_VALUE, MOST_LEAST, PARTS};
-use crate::pricing::{Pricing, values_of};
-use crate::rows::{ChainRow, led, next_state, rows_of};
+use crate::pricing::{Priced, Pricing};
+use crate::rows::{ChainRow, Chains, led, next_state, rows_of};
+use crate::values::values_of;
 use roster_bases::is_person_of;
 use roster_cumulative::flight_of_set;
 use roster_legal::part_of_legal_is_legal;
@@ -38,24 +39,23 @@ pub(crate) fn lines_of_gap(
     pricing: &Pricing<'_>,
     base: usize,
     prices: &[i64],
-    leasts: &[i64],
-    bound: i64,
+    priced: &Priced,
     gap: u32,
     most: usize,
 ) -> Result<Table, TableFault>
     requires prices { ArePrices pricing.now prices.now }
-    requires look { IsLook pricing.now prices.now base bound leasts.now }
+    requires look { IsLook pricing.now prices.now base priced.now.bound priced.now.leasts.items }
     requires limit { (0 < most) × (most ≤ MOST_LINES) }
     ensures listed { IfOk result (AreListed pricing.now) }
     ensures all { IfOk result (λ table. EachHomeRoster pricing.now (only base) (λ places.
-        cost_of pricing.now places ≤ℤ (bound +ℤ pos gap) → IsOfTable table places)) }
+        cost_of pricing.now places ≤ℤ (priced.now.bound +ℤ pos gap) → IsOfTable table places)) }
     ensures home { IfOk result (λ table. (places : List ℕ)
         → IsOfTable table places → IsHome pricing.now (only base) places) }
 {
     let problem = pricing.problem();
     let mut table = Table::empty(alloc);
     for k in 0..problem.persons().len() {
-        let limit = limit_of(leasts[k], gap);
+        let limit = limit_of(priced.leasts[k], gap);
         match lines_of_person(alloc, pricing, base, k, prices, limit, most) {
             Ok(lines) => table.push(alloc, lines)?,
             Err(LinesFault::TooMany) => return Err(TableFault::TooMany(k)),
@@ -154,7 +154,13 @@ impl<'a> Cheap<'a> {
         }) }
     {
         let values = values_of(alloc, problem, k, prices)?;
-        let rows = rows_of(alloc, problem, k, network, &values)?;
+        let chains = Chains {
+            problem,
+            person: k,
+            network,
+            values: &values,
+        };
+        let rows = rows_of(alloc, &chains)?;
         Ok(Cheap {
             problem,
             person: k,
@@ -183,15 +189,13 @@ impl<'a> Wanted for Cheap<'a> {
         if k != self.person || problem.pairings().len() != self.rows.len() {
             return true;
         }
-        let least = least_behind(
-            self.problem,
-            k,
-            self.network,
-            &self.values,
-            &self.rows,
-            set,
-            p,
-        );
+        let chains = Chains {
+            problem: self.problem,
+            person: k,
+            network: self.network,
+            values: &self.values,
+        };
+        let least = least_behind(&chains, &self.rows, set, p);
         if least > self.most {
             return false;
         }
@@ -200,25 +204,18 @@ impl<'a> Wanted for Cheap<'a> {
 }
 
 /// What a chain brings at least that begins with the set and pairing `p` behind it.
-fn least_behind(
-    problem: &Problem,
-    k: usize,
-    network: &Network,
-    values: &[i64],
-    rows: &[ChainRow],
-    set: &Set,
-    p: usize,
-) -> i64
-    requires network { IsNetwork problem.now k network.now }
-    requires covers { length values.now ≡ length problem.now.pairings }
-    requires values { All (IsWithin MOST_CHAIN_VALUE) values.now }
-    requires rows { AreRows problem.now network.now values.now rows.now }
-    requires all { length rows.now ≡ length problem.now.pairings }
-    requires set { All (λ q. q < length problem.now.pairings) set.now }
-    requires place { p < length problem.now.pairings }
-    ensures { IsLeastBehind network.now values.now set.now p result }
+fn least_behind(chains: &Chains<'_>, rows: &[ChainRow], set: &Set, p: usize) -> i64
+    requires network { IsNetwork chains.now.problem.now chains.now.person chains.now.network.now }
+    requires covers { length chains.now.values.now ≡ length chains.now.problem.now.pairings }
+    requires values { All (IsWithin MOST_CHAIN_VALUE) chains.now.values.now }
+    requires rows { AreRows chains.now.problem.now chains.now.network.now chains.now.values.now rows.now }
+    requires all { length rows.now ≡ length chains.now.problem.now.pairings }
+    requires set { All (λ q. q < length chains.now.problem.now.pairings) set.now }
+    requires place { p < length chains.now.problem.now.pairings }
+    ensures { IsLeastBehind chains.now.network.now chains.now.values.now set.now p result }
 {
-    problem.is_sound();
+    let (network, values) = (chains.network, chains.values);
+    chains.problem.is_sound();
     let (value, state) = along(network, values, set);
     let next = next_state(network.terms.len(), state, network.steps[p]);
     value + led(rows[rows.len() - 1 - p].all(), values[p], next)

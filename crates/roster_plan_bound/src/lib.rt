@@ -16,6 +16,10 @@
 //! - `rows_behind`: amounts for each class
 //! - `leading`: what stands behind one pairing
 //! - `behind`: what the pairings that may stand behind one bring at least
+//! - `values`: what each pairing brings to a person at some prices
+//! - `spare`: the flight that limits leave a person
+//! - `target`: what the target of a person costs
+//! - `worths`: tables at what a minute of flight is worth
 //! - `prospect`: what the paths of a person bring at some prices
 //! - `terms`: what flight costs at the end of a chain
 //! - `rows`: the table of chains
@@ -23,10 +27,15 @@
 //! - `seek`: a search for the path that brings the least
 //! - `labels`: legal sets that cost little, found in order of time
 //! - `sets`: what legal sets bring at least
+//! - `team`: threads that share what is done for each person
 //! - `persons`: looks at each person of a base, shared among threads
 //! - `pricing`: what prices say of the rosters of a base
-//! - `master`: the best prices for the legal sets that are known
+//! - `prices`: prices of pairings, within their limits
+//! - `covered`: the pairings of a base, which are to be covered
 //! - `softness`: weights and logarithms in whole numbers
+//! - `way`: prices on their way to those at which known columns cost the most
+//! - `portions`: what the columns of some persons cover, shared among threads
+//! - `master`: the best prices for the legal sets that are known
 //! - `start`: the prices that looks begin with
 //! - `pace`: how prices move from one look to the next
 //! - `rising`: prices that say more and more
@@ -42,6 +51,7 @@
 mod behind;
 mod choosing;
 mod columns;
+mod covered;
 mod days_off;
 mod dearness;
 mod dive;
@@ -56,6 +66,8 @@ mod own_cost;
 mod pace;
 mod parts;
 mod persons;
+mod portions;
+mod prices;
 mod pricing;
 mod prospect;
 mod rising;
@@ -65,12 +77,19 @@ mod seek;
 mod sets;
 mod softness;
 mod span;
+mod spare;
 mod start;
+mod target;
+mod team;
 mod terms;
 mod timeline;
 mod tuning;
+mod values;
+mod way;
+mod worths;
 
 pub use dive::DivePlan;
 pub use parts::PARTS;
 pub use pricing::Pricing;
 pub use rising::PricedBound;
+pub use team::Team;

@@ -15,3 +15,19 @@ pub(crate) fn place_at(places: &[u16], i: usize) -> usize {
         None => 0,
     }
 }
+
+/// The flight at a place of the list; nothing if there is no such place.
+pub(crate) fn flight_at(flights: &[u64], p: usize) -> u64 {
+    match flights.get(p) {
+        Some(flight) => *flight,
+        None => 0,
+    }
+}
+
+/// Whether the one at this place is marked.
+pub(crate) fn is_marked(marks: &[bool], k: usize) -> bool {
+    match marks.get(k) {
+        Some(is_marked) => *is_marked,
+        None => false,
+    }
+}

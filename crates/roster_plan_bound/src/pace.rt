@@ -3,17 +3,22 @@
 use crate::parts::PARTS;
 use crate::tuning::{
     DIVE_SOFTNESS, DIVE_STEPS, DIVE_STRIDE, FEWEST_STEPS, FIRST_SOFTNESS, FIRST_STRIDE,
-    LEAST_STRIDE, MOST_STEPS, MOST_STRIDE, SOFTEST_LATE,
+    LEAST_STRIDE, MOST_LACKING, MOST_STEPS, MOST_STRIDE, SOFTEST_LATE,
 };
 
+/// So much more is little, in parts of a cost unit.
+const LITTLE: i64 = PARTS as i64 / 3;
+
 /// How far prices may move from the best ones, how soft covers are at first, in parts of a cost unit, how often
-/// prices move before the next look, and how dear the month is.
+/// prices move before the next look, how dear the month is, and how many looks in a row have said more, or, below 0,
+/// no more.
 #[derive(Clone, Copy)]
 pub(crate) struct Pace {
     pub(crate) stride: i64,
     pub(crate) softness: i64,
     pub(crate) steps: u32,
     pub(crate) dear: i64,
+    run: i32,
 }
 
 impl Pace {
@@ -24,6 +29,7 @@ impl Pace {
             softness: FIRST_SOFTNESS.wrapping_mul(dear),
             steps: FEWEST_STEPS,
             dear,
+            run: 0,
         }
     }
 
@@ -34,33 +40,66 @@ impl Pace {
             softness: DIVE_SOFTNESS.wrapping_mul(dear),
             steps: DIVE_STEPS,
             dear,
+            run: 0,
         }
     }
 
-    /// The next one after a look that said so much more than the best one before, in parts of a cost unit:
-    /// nearer and harder if that was little.
+    /// The next one after a look that said so much more than the best one before, in parts of a cost unit: harder
+    /// if that was little, and softer if it was more. The first looks that say much less show columns that were
+    /// lacking, so they change no softness.
     pub(crate) fn after(self, gain: i64) -> Pace {
-        let stride = if gain > 0 {
-            wider(self.stride, self.dear)
-        } else {
-            narrower(self.stride)
+        let run = run_after(self.run, gain);
+        let next = Pace {
+            stride: stride_after(self.stride, run, self.dear),
+            run,
+            ..self
         };
-        if gain > PARTS as i64 / 3 {
-            return Pace {
-                stride,
-                softness: (self.softness.wrapping_mul(3) / 2).min(FIRST_SOFTNESS.wrapping_mul(
-                    self.dear,
-                )),
-                steps: (self.steps.wrapping_mul(2) / 3).max(FEWEST_STEPS),
-                dear: self.dear,
-            };
+        if gain > LITTLE {
+            return next.softer();
         }
+        if gain < -LITTLE && run >= -MOST_LACKING {
+            return next;
+        }
+        next.harder()
+    }
+
+    /// The same with softer covers, and fewer steps.
+    fn softer(self) -> Pace {
+        let most = FIRST_SOFTNESS.wrapping_mul(self.dear);
         Pace {
-            stride,
+            softness: (self.softness.wrapping_mul(3) / 2).min(most),
+            steps: (self.steps.wrapping_mul(2) / 3).max(FEWEST_STEPS),
+            ..self
+        }
+    }
+
+    /// The same with harder covers, and more steps.
+    fn harder(self) -> Pace {
+        Pace {
             softness: (self.softness.wrapping_mul(3) / 10).max(SOFTEST_LATE),
             steps: (self.steps.wrapping_mul(3) / 2).min(MOST_STEPS),
-            dear: self.dear,
+            ..self
         }
+    }
+}
+
+/// How many looks in a row have said more after one that said so much more, or, below 0, no more.
+fn run_after(run: i32, gain: i64) -> i32 {
+    if gain > 0 {
+        run.max(0).saturating_add(1)
+    } else {
+        run.min(0).saturating_sub(1)
+    }
+}
+
+/// The next stride in a month so dear: wider after a look that said more, and twice so after the next ones, nearer
+/// after the second in a row that said no more.
+fn stride_after(stride: i64, run: i32, dear: i64) -> i64 {
+    match run {
+        2.. => wider(wider(stride, dear), dear),
+        1 => wider(stride, dear),
+        -1 | 0 => stride,
+        _ => narrower(stride),
     }
 }
 

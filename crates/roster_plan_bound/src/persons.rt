@@ -7,6 +7,7 @@ ghost use Rattle.roster_plan_bound.specs.Reduced.{ArePrices};
 use crate::columns::Columns;
 use crate::parts::MOST_LEAST;
 use crate::pricing::Pricing;
+use crate::team::Team;
 use std::alloc::{AllocError, Global};
 use std::thread::{Threads, for_each_mut};
 
@@ -39,24 +40,23 @@ pub(crate) fn unseen(alloc: Global, count: usize, dear: i64) -> Result<Vec<Seen>
     Ok(seen)
 }
 
-/// Looks at each of these persons at the prices, by so many threads at most. It comes to the same for any
-/// number of them, since nobody's look asks what another one's said.
+/// Looks at each of these persons, whom the team shares, at the prices. It comes to the same for any number of
+/// threads, since nobody's look asks what another one's said.
 pub(crate) fn look_at_all<R: Threads + Sync>(
-    rt: &R,
-    alloc: Global,
-    threads: usize,
+    team: &Team<'_, R>,
     pricing: &Pricing<'_>,
     persons: &[usize],
     prices: &[i64],
     visits: u32,
     seen: &mut [Seen],
 )
-    requires threads { 0 < threads }
+    requires threads { 0 < team.now.threads }
     requires prices { ArePrices pricing.now prices.now }
     requires persons { All (λ k. k < length pricing.now.persons) persons.now }
     requires covers { length seen.old ≡ length persons.now }
     ensures { AreSeen pricing.now prices.now persons.now seen.new }
 {
+    let alloc = team.alloc;
     let look = |i: usize, one: &mut Seen|
         requires inside { i < length persons.now }
         requires persons { All (λ k. k < length pricing.now.persons) persons.now }
@@ -65,24 +65,23 @@ pub(crate) fn look_at_all<R: Threads + Sync>(
     {
         one.least = pricing.least(alloc, persons[i], prices, visits, &mut one.columns);
     };
-    for_each_mut(rt, seen, threads, &look);
+    for_each_mut(team.rt, seen, team.threads, &look);
 }
 
-/// Renews the columns of each of these persons at the prices, by so many threads at most. What the cheapest one
-/// of each costs then: nothing is claimed of it.
+/// Renews the columns of each of these persons, whom the team shares, at the prices. What the cheapest one of each
+/// costs then: nothing is claimed of it.
 pub(crate) fn renew_all<R: Threads + Sync>(
-    rt: &R,
-    alloc: Global,
-    threads: usize,
+    team: &Team<'_, R>,
     pricing: &Pricing<'_>,
     persons: &[usize],
     prices: &[i64],
     seen: &mut [Seen],
 )
-    requires threads { 0 < threads }
+    requires threads { 0 < team.now.threads }
     requires prices { ArePrices pricing.now prices.now }
     ensures { length seen.new ≡ length seen.old }
 {
+    let alloc = team.alloc;
     let renew = |i: usize, one: &mut Seen|
         requires { ArePrices pricing.now prices.now }
     {
@@ -90,7 +89,7 @@ pub(crate) fn renew_all<R: Threads + Sync>(
             one.least = renewed(alloc, pricing, *k, prices, &mut one.columns);
         }
     };
-    for_each_mut(rt, seen, threads, &renew);
+    for_each_mut(team.rt, seen, team.threads, &renew);
 }
 
 /// Renews the columns of person `k`, if there is such a person. What the cheapest of them brings.

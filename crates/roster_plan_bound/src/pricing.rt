@@ -1,9 +1,8 @@
 //! Lower bounds by dual prices.
 
-ghost use Rattle.std.specs.Prelude.{◌≡◌, ◌⊎◌, ◌<◌, ◌*◌, ◌≤ℤ◌, ◌+ℤ◌, ◌-ℤ◌, ◌*ℤ◌, ℤ, pos, IfOk, IfSome, Some, length};
+ghost use Rattle.std.specs.Prelude.{◌≡◌, ◌⊎◌, ◌<◌, ◌*◌, ◌≤ℤ◌, ◌+ℤ◌, ◌*ℤ◌, ℤ, pos, IfOk, IfSome, Some, length};
 ghost use Rattle.std.specs.Prelude.{slice_get};
 ghost use Rattle.roster_lines.specs.Listing.{AreAllPairs, ArePairs};
-ghost use Rattle.roster_model.specs.Problem.{units_of};
 ghost use Rattle.roster_model.specs.records.Pairing.{Pairing};
 ghost use Rattle.roster_cost.specs.Amounts.{IsWithin};
 ghost use Rattle.roster_bases.specs.Bases.{only, persons_of};
@@ -15,11 +14,13 @@ ghost use Rattle.roster_plan_bound.specs.Timelines.{IsTimeline};
 
 use crate::columns::Columns;
 use crate::network::{Network, network_of};
-use crate::parts::{MOST_CHAIN_VALUE, MOST_LEAST, MOST_PLAN_PRICE, MOST_SUM, PARTS};
+use crate::parts::{MOST_LEAST, MOST_PLAN_PRICE, MOST_SUM, PARTS};
 use crate::persons::{Seen, look_at_all};
-use crate::rows::{ChainRow, end_of_all, row_behind, rows_of};
+use crate::rows::{ChainRow, Chains, end_of_all, row_behind, rows_of};
 use crate::sets::{least_set, renew_sets};
+use crate::team::Team;
 use crate::timeline::{Timeline, timeline_of};
+use crate::values::values_of;
 use roster_bases::{is_pairing_of, is_person_of};
 use roster_cost::{cost_without_pairings, priced_shares_add_up, shares_add_up};
 use roster_cumulative::flight_of_set;
@@ -105,19 +106,17 @@ impl<'a> Pricing<'a> {
     }
 
     /// What the prices say of all rosters of the base, whose persons are given. Searches show it, which go on from
-    /// so many sets of a person at most, or only tables. So many threads at most share the persons.
+    /// so many sets of a person at most, or only tables. The team shares the persons.
     pub(crate) fn look<R: Threads + Sync>(
         &self,
-        rt: &R,
-        alloc: Global,
-        threads: usize,
+        team: &Team<'_, R>,
         base: usize,
         persons: &[usize],
         prices: &[i64],
         visits: u32,
         seen: &mut [Seen],
     ) -> Result<Priced, AllocError>
-        requires threads { 0 < threads }
+        requires threads { 0 < team.now.threads }
         requires persons { persons.now ≡ persons_of self.now base }
         requires prices { ArePrices self.now prices.now }
         requires covers { length seen.old ≡ length persons.now }
@@ -127,7 +126,7 @@ impl<'a> Pricing<'a> {
     {
         priced_shares_add_up();
         shares_add_up();
-        let leasts = self.leasts(rt, alloc, threads, base, persons, prices, visits, seen)?;
+        let leasts = self.leasts(team, base, persons, prices, visits, seen)?;
         let terms = sum_of_terms(self.problem, base, prices);
         let parts = leasts.sum + terms;
         let bound = cost_without_pairings(self.problem) + in_units(parts);
@@ -159,7 +158,7 @@ impl<'a> Pricing<'a> {
     }
 
     /// No line of person `k` has a lower reduced cost at the prices. The person's columns get what is found, by a
-    /// search that goes on from so many sets at most.
+    /// search that goes on from so many sets at most. If the timeline says nothing, chains do.
     pub(crate) fn least(
         &self,
         alloc: Global,
@@ -172,16 +171,13 @@ impl<'a> Pricing<'a> {
         requires prices { ArePrices self.now prices.now }
         ensures { IfOk result (IsLeastOf self.now prices.now k) }
     {
-        least_of(
-            alloc,
-            self.problem,
-            k,
-            &self.networks[k],
-            &self.timelines[k],
-            prices,
-            visits,
-            columns,
-        )
+        let timeline = &self.timelines[k];
+        let least = least_set(alloc, self.problem, k, timeline, prices, visits, columns)?;
+        if let Some(least) = least {
+            return Ok(least);
+        }
+        let least = least_of_chains(alloc, self.problem, k, &self.networks[k], prices)?;
+        Ok(least)
     }
 
     /// The person's columns are renewed at the prices. What the cheapest one brings: nothing is claimed of it.
@@ -222,16 +218,14 @@ impl<'a> Pricing<'a> {
     /// base fly nothing.
     fn leasts<R: Threads + Sync>(
         &self,
-        rt: &R,
-        alloc: Global,
-        threads: usize,
+        team: &Team<'_, R>,
         base: usize,
         persons: &[usize],
         prices: &[i64],
         visits: u32,
         seen: &mut [Seen],
     ) -> Result<Leasts, AllocError>
-        requires threads { 0 < threads }
+        requires threads { 0 < team.now.threads }
         requires persons { persons.now ≡ persons_of self.now base }
         requires prices { ArePrices self.now prices.now }
         requires covers { length seen.old ≡ length persons.now }
@@ -241,9 +235,9 @@ impl<'a> Pricing<'a> {
         ensures covers { length seen.new ≡ length seen.old }
     {
         self.problem.is_sound();
-        look_at_all(rt, alloc, threads, self, persons, prices, visits, seen);
+        look_at_all(team, self, persons, prices, visits, seen);
         let mut sum = 0;
-        let mut each = Vec::new(alloc);
+        let mut each = Vec::new(team.alloc);
         let mut i = 0;
         for k in 0..self.problem.persons().len() {
             if !is_person_of(self.problem, k, base) {
@@ -259,95 +253,54 @@ impl<'a> Pricing<'a> {
     }
 }
 
-/// No line of person `k`, whose network and timeline these are, has a lower reduced cost at the prices. If the
-/// timeline says nothing, chains do.
-fn least_of(
+/// No line of person `k`, whose network it is, has a lower reduced cost at the prices: no chain has.
+fn least_of_chains(
     alloc: Global,
     problem: &Problem,
     k: usize,
     network: &Network,
-    timeline: &Option<Timeline>,
     prices: &[i64],
-    visits: u32,
-    columns: &mut Columns,
 ) -> Result<i64, AllocError>
     requires person { k < length problem.now.persons }
     requires network { IsNetwork problem.now k network.now }
-    requires timeline { IfSome timeline.now (IsTimeline problem.now k) }
     requires prices { ArePrices problem.now prices.now }
     ensures { IfOk result (IsLeastOf problem.now prices.now k) }
 {
-    let least = least_set(alloc, problem, k, timeline, prices, visits, columns)?;
-    if let Some(least) = least {
-        return Ok(least);
-    }
     let values = values_of(alloc, problem, k, prices)?;
-    let rows = rows_of(alloc, problem, k, network, &values)?;
-    let least = least_chain(alloc, problem, k, network, prices, &values, &rows)?;
+    let chains = Chains {
+        problem,
+        person: k,
+        network,
+        values: &values,
+    };
+    let rows = rows_of(alloc, &chains)?;
+    let least = least_chain(alloc, &chains, prices, &rows)?;
     Ok(least)
 }
 
-/// What a chain of person `k` brings at least. No line has a lower reduced cost.
+/// What a chain of the person brings at least. No line has a lower reduced cost.
 fn least_chain(
     alloc: Global,
-    problem: &Problem,
-    k: usize,
-    network: &Network,
+    chains: &Chains<'_>,
     prices: &[i64],
-    values: &[i64],
     rows: &[ChainRow],
 ) -> Result<i64, AllocError>
-    requires person { k < length problem.now.persons }
-    requires network { IsNetwork problem.now k network.now }
-    requires prices { ArePrices problem.now prices.now }
-    requires values { AreValues problem.now prices.now k values.now }
-    requires rows { AreRows problem.now network.now values.now rows.now }
-    requires all { length rows.now ≡ length problem.now.pairings }
-    ensures { IfOk result (IsLeastOf problem.now prices.now k) }
+    requires person { chains.now.person < length chains.now.problem.now.persons }
+    requires network { IsNetwork chains.now.problem.now chains.now.person chains.now.network.now }
+    requires prices { ArePrices chains.now.problem.now prices.now }
+    requires values { AreValues chains.now.problem.now prices.now chains.now.person chains.now.values.now }
+    requires rows { AreRows chains.now.problem.now chains.now.network.now chains.now.values.now rows.now }
+    requires all { length rows.now ≡ length chains.now.problem.now.pairings }
+    ensures { IfOk result (IsLeastOf chains.now.problem.now prices.now chains.now.person) }
 {
     part_of_legal_is_legal();
     flight_of_set();
+    let (problem, network) = (chains.problem, chains.network);
     problem.is_sound();
     let count = problem.pairings().len();
-    let end = end_of_all(alloc, problem, k, network, values)?;
-    let row = row_behind(
-        alloc,
-        problem,
-        k,
-        network,
-        values,
-        rows,
-        &network.first,
-        &end,
-        count,
-    )?;
+    let end = end_of_all(alloc, chains)?;
+    let row = row_behind(alloc, chains, rows, &network.first, &end, count)?;
     Ok(row.first())
-}
-
-/// What each pairing brings to person `k`: its units, less its price.
-pub(crate) fn values_of(
-    alloc: Global,
-    problem: &Problem,
-    k: usize,
-    prices: &[i64],
-) -> Result<Vec<i64>, AllocError>
-    requires { ArePrices problem.now prices.now }
-    ensures { IfOk result (λ values. AreValues problem.now prices.now k values.items) }
-{
-    let mut values = Vec::new(alloc);
-    for (p, price) in prices.iter().enumerate() {
-        values.push(value_of(problem, k, p, *price))?;
-    }
-    Ok(values)
-}
-
-/// The units of a pairing with person `k`, less its price.
-fn value_of(problem: &Problem, k: usize, p: usize, price: i64) -> i64
-    requires { IsWithin MOST_PLAN_PRICE price }
-    ensures value { result ≡ (pos PARTS *ℤ units_of problem.now k p) -ℤ price }
-    ensures within { IsWithin MOST_CHAIN_VALUE result }
-{
-    PARTS as i64 * problem.units(k, p) - price
 }
 
 /// What all pairings bring at least to a roster of the base.

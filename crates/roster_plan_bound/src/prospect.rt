@@ -1,43 +1,26 @@
 //! What the paths of a person bring at some prices: tables say what all of them bring at least.
 
-ghost use Rattle.std.specs.Prelude.{◌≡◌, ◌<◌, ◌≤◌, ◌+◌, ◌*◌, ◌+ℤ◌, ◌-ℤ◌, ◌*ℤ◌, ◌≤ℤ◌, ◌⊎◌, ℕ, pos, neg_ℤ};
-ghost use Rattle.std.specs.Prelude.{false, All, IfOk, IfSome, IsTrue, Some, length, slice_get, slice_index, unsigned_abs};
+ghost use Rattle.std.specs.Prelude.{◌≡◌, ◌<◌, ◌≤◌, ◌*◌, ◌≤ℤ◌, ◌⊎◌, IfOk, IfSome, length};
 ghost use Rattle.roster_cost.specs.Amounts.{IsWithin};
-ghost use Rattle.roster_model.specs.Problem.{weight_of};
-ghost use Rattle.roster_plan_bound.specs.declared.rows_behind.OwedRows.{OwedRows};
-ghost use Rattle.roster_plan_bound.specs.Behinds.{row_at, row_for};
-ghost use Rattle.roster_plan_bound.specs.Chains.{value_at};
 ghost use Rattle.roster_plan_bound.specs.Networks.{AreValues};
-ghost use Rattle.roster_plan_bound.specs.Prospects.{short_of, term_of, IsAhead, IsFixed, IsLeastPath, IsTable};
+ghost use Rattle.roster_plan_bound.specs.Prospects.{term_of, IsAhead, IsLeastPath, IsTable};
 ghost use Rattle.roster_plan_bound.specs.Reduced.{ArePrices, IsLeastOf};
-ghost use Rattle.roster_plan_bound.specs.Timelines.{spare_flight, IsTimeline};
+ghost use Rattle.roster_plan_bound.specs.Timelines.{IsTimeline};
 
-use crate::behind::{Behind, Valued, behind_of};
-use crate::lists::amount_at;
-use crate::parts::{
-    MOST_BEHIND, MOST_CHAIN_VALUE, MOST_FIXED, MOST_FLIGHT, MOST_LEAST, MOST_SHORT, MOST_STEP,
-    MOST_SUM, MOST_WORTH, PARTS,
-};
-use crate::pricing::values_of;
+use crate::behind::{Valued, behind_of};
+use crate::lists::{amount_at, flight_at};
+use crate::parts::{MOST_CHAIN_VALUE, MOST_FLIGHT, MOST_LEAST, MOST_WORTH};
+use crate::spare::{is_scarce, spare_flight};
+use crate::target::{beyond_target, fixed_at, minute_weight, missed_more};
 use crate::timeline::Timeline;
-use roster_cost::fixed_flight;
+use crate::values::values_of;
+use crate::worths::{WorthTable, near_worth, worth_values};
 use roster_cumulative::flight_of_set;
 use roster_legal::part_of_legal_is_legal;
-use roster_model::limits::{MOST_PAIRINGS, MOST_WEIGHT};
-use roster_model::profile::{
-    MOST_FLIGHT_IN_12_MONTHS, MOST_FLIGHT_IN_28_DAYS, MOST_FLIGHT_IN_A_YEAR,
-};
+use roster_model::limits::MOST_PAIRINGS;
 use roster_problem::Problem;
 use std::alloc::{AllocError, Global};
 use std::marker::Model;
-
-/// A table at what a minute of flight costs, and what the target costs beside it at least.
-#[derive(Drop)]
-pub(crate) struct WorthTable {
-    pub(crate) worth: i64,
-    pub(crate) fixed: i64,
-    pub(crate) behind: Behind,
-}
 
 /// What is known of a person at some prices. Contracts see the problem, the person, the timeline, the prices,
 /// and what each pairing brings at them.
@@ -302,224 +285,6 @@ impl<'a> Prospect<'a> {
         }
         worth
     }
-}
-
-impl WorthTable {
-    /// The same as `begun`, whatever the table has.
-    fn begun_at_most(&self) -> i64 {
-        self.behind.begun.wrapping_add(self.fixed)
-    }
-
-    /// What any path brings at least.
-    fn begun(&self) -> i64
-        requires begun { IsWithin MOST_BEHIND self.now.behind.begun }
-        requires fixed { IsWithin MOST_LEAST self.now.fixed }
-        ensures { result ≡ self.now.behind.begun +ℤ self.now.fixed }
-    {
-        self.behind.begun + self.fixed
-    }
-
-    /// What a path brings at least that begins with pairings of that value and flight, of which `q` is the
-    /// last one.
-    fn ahead(&self, value: i64, flight: u64, q: usize, class: usize, need: usize) -> i64
-        requires pairing { q < length self.now.behind.rows.items }
-        requires value { IsWithin (MOST_PAIRINGS * MOST_CHAIN_VALUE) value }
-        requires flight { flight ≤ MOST_PAIRINGS * MOST_FLIGHT }
-        requires worth { IsWithin MOST_WORTH self.now.worth }
-        requires fixed { IsWithin MOST_LEAST self.now.fixed }
-        requires rows { All (λ rows. All (IsWithin MOST_BEHIND) (row_for rows need))
-            self.now.behind.rows.items }
-        ensures value { (rows : OwedRows) → slice_get self.now.behind.rows.items q ≡ Some rows
-            → result ≡ value +ℤ (self.now.worth *ℤ pos flight) +ℤ self.now.fixed
-            +ℤ row_at (row_for rows need) class }
-        ensures within { IsWithin MOST_SUM result }
-    {
-        value + self.worth * flight as i64 + self.fixed + self.behind.rows[q].row(need).at(class)
-    }
-}
-
-/// By how many minutes the fixed flight is beyond the target; none if that is too many, or too few.
-fn beyond_target(problem: &Problem, k: usize) -> Option<i64>
-    requires { k < length problem.now.persons }
-    ensures value { IfSome result (λ short. short ≡ short_of problem.now k) }
-    ensures within { IfSome result (IsWithin MOST_SHORT) }
-{
-    let short = fixed_flight(problem, k) as i64 - i64::from(problem.person(k).target);
-    if short.unsigned_abs() > MOST_SHORT {
-        return None;
-    }
-    Some(short)
-}
-
-/// The minutes of flight that the limits of a calendar year and of twelve months leave person `k` beside the fixed
-/// ones.
-fn spare_flight(problem: &Problem, k: usize) -> u64
-    requires { k < length problem.now.persons }
-    ensures value { result ≡ spare_flight problem.now k }
-{
-    let person = problem.person(k);
-    let year = MOST_FLIGHT_IN_A_YEAR.saturating_sub(u64::from(person.year));
-    let twelve = MOST_FLIGHT_IN_12_MONTHS.saturating_sub(u64::from(person.eleven));
-    year.min(twelve).saturating_sub(fixed_flight(problem, k))
-}
-
-/// Whether so much flight is less than pairings have that are legal alone, and than a person may have in any 28 days.
-fn is_scarce(timeline: &Timeline, spare: u64) -> bool {
-    let mut minutes: u64 = 0;
-    for q in &timeline.order {
-        minutes = minutes.wrapping_add(flight_at(&timeline.flights, *q));
-    }
-    spare < minutes.min(MOST_FLIGHT_IN_28_DAYS)
-}
-
-/// The flight at a place of the list; nothing if there is no such place.
-fn flight_at(flights: &[u64], p: usize) -> u64 {
-    match flights.get(p) {
-        Some(flight) => *flight,
-        None => 0,
-    }
-}
-
-/// What a minute costs by which the target is missed.
-fn minute_weight(problem: &Problem) -> i64
-    ensures { result ≡ pos (PARTS * weight_of problem.now) }
-{
-    (PARTS * u64::from(problem.weight())) as i64
-}
-
-/// The nearest worth that may be: no more than the weight, on either side, or any above it if flight is scarce.
-fn near_worth(worth: i64, weight: i64, is_scarce: bool) -> i64
-    requires { (pos 0 ≤ℤ weight) × (weight ≤ℤ pos (PARTS * MOST_WEIGHT)) }
-    ensures small { IsWithin MOST_WORTH result }
-    ensures weighed { neg_ℤ weight ≤ℤ result }
-{
-    let near = weight.min(MOST_WORTH as i64);
-    worth.clamp(-near, most_worth(near, is_scarce))
-}
-
-/// The greatest worth that may be, if this is the greatest one within the weight.
-fn most_worth(near: i64, is_scarce: bool) -> i64
-    requires { near ≤ℤ pos MOST_WORTH }
-    ensures { (near ≤ℤ result) × (result ≤ℤ pos MOST_WORTH) }
-{
-    if is_scarce { MOST_WORTH as i64 } else { near }
-}
-
-/// What each pairing brings if each minute of flight costs so much.
-fn worth_values(
-    alloc: Global,
-    units: &[i64],
-    flights: &[u64],
-    worth: i64,
-) -> Result<Vec<i64>, AllocError>
-    requires covers { length flights.now ≡ length units.now }
-    requires units { All (IsWithin MOST_CHAIN_VALUE) units.now }
-    requires flights { All (λ flight. flight ≤ MOST_FLIGHT) flights.now }
-    requires worth { IsWithin MOST_WORTH worth }
-    ensures covers { IfOk result (λ values. length values.items ≡ length units.now) }
-    ensures each { IfOk result (λ values. (p : ℕ) → p < length units.now
-        → value_at values.items p ≡ value_at units.now p +ℤ (worth *ℤ pos (slice_index flights.now p))) }
-    ensures within { IfOk result (λ values. All (IsWithin MOST_STEP) values.items) }
-{
-    let mut values = Vec::new(alloc);
-    for p in 0..units.len() {
-        values.push(worth_value(units[p], flights[p], worth))?;
-    }
-    Ok(values)
-}
-
-/// What a pairing of so much flight brings if each minute costs so much.
-fn worth_value(units: i64, flight: u64, worth: i64) -> i64
-    requires units { IsWithin MOST_CHAIN_VALUE units }
-    requires flight { flight ≤ MOST_FLIGHT }
-    requires worth { IsWithin MOST_WORTH worth }
-    ensures value { result ≡ units +ℤ (worth *ℤ pos flight) }
-    ensures within { IsWithin MOST_STEP result }
-{
-    units + worth * flight as i64
-}
-
-/// What a table has beside its pairings: by the worth, so much flight beyond the target costs no less, if there is no
-/// more than may be spared.
-fn fixed_at(worth: i64, weight: i64, short: i64, spare: u64) -> i64
-    requires small { IsWithin MOST_WORTH worth }
-    requires low { neg_ℤ weight ≤ℤ worth }
-    requires weight { (pos 0 ≤ℤ weight) × (weight ≤ℤ pos (PARTS * MOST_WEIGHT)) }
-    requires short { IsWithin MOST_SHORT short }
-    requires spare { spare ≤ MOST_FLIGHT_IN_A_YEAR }
-    ensures value { IsFixed worth weight short spare result }
-    ensures within { IsWithin MOST_LEAST result }
-{
-    if is_spent(worth, weight, short, spare) {
-        return less_spare(spent_term(weight, short, spare), worth, spare);
-    }
-    fixed_within(worth, weight, short)
-}
-
-/// Whether, by the worth, it costs least to fly all that may be spared: a minute costs more than the weight, or the
-/// person is below the target even then.
-fn is_spent(worth: i64, weight: i64, short: i64, spare: u64) -> bool
-    requires short { IsWithin MOST_SHORT short }
-    requires spare { spare ≤ MOST_FLIGHT_IN_A_YEAR }
-    ensures yes { IsTrue result → (weight ≤ℤ worth) ⊎ ((short +ℤ pos spare) ≤ℤ pos 0) }
-    ensures no { result ≡ false → worth ≤ℤ weight }
-{
-    worth > weight || short + (spare as i64) < 0
-}
-
-/// What so much flight costs, if it is all that may be spared.
-fn spent_term(weight: i64, short: i64, spare: u64) -> i64
-    requires weight { (pos 0 ≤ℤ weight) × (weight ≤ℤ pos (PARTS * MOST_WEIGHT)) }
-    requires short { IsWithin MOST_SHORT short }
-    requires spare { spare ≤ MOST_FLIGHT_IN_A_YEAR }
-    ensures value { result ≡ (weight *ℤ pos (unsigned_abs (short +ℤ pos spare)))
-        -ℤ (weight *ℤ pos (unsigned_abs short)) }
-    ensures within { IsWithin MOST_FIXED result }
-{
-    missed_more(weight, short, spare)
-}
-
-/// The same for a worth within the weight, however much flight there is.
-fn fixed_within(worth: i64, weight: i64, short: i64) -> i64
-    requires worth { IsWithin MOST_WORTH worth }
-    requires weight { (pos 0 ≤ℤ weight) × (weight ≤ℤ pos (PARTS * MOST_WEIGHT)) }
-    requires short { IsWithin MOST_SHORT short }
-    ensures value { result ≡ (worth *ℤ short) -ℤ (weight *ℤ pos (unsigned_abs short)) }
-    ensures within { IsWithin MOST_FIXED result }
-{
-    worth * short - weight * short.abs()
-}
-
-/// What is left without what the flight that may be spared costs by the worth.
-fn less_spare(fixed: i64, worth: i64, spare: u64) -> i64
-    requires fixed { IsWithin MOST_FIXED fixed }
-    requires worth { IsWithin MOST_WORTH worth }
-    requires spare { spare ≤ MOST_FLIGHT_IN_A_YEAR }
-    ensures value { result ≡ fixed -ℤ (worth *ℤ pos spare) }
-    ensures within { IsWithin MOST_LEAST result }
-{
-    fixed - worth * spare as i64
-}
-
-/// What so much flight beyond the fixed one costs.
-fn missed_more(weight: i64, short: i64, flight: u64) -> i64
-    requires weight { (pos 0 ≤ℤ weight) × (weight ≤ℤ pos (PARTS * MOST_WEIGHT)) }
-    requires short { IsWithin MOST_SHORT short }
-    requires flight { flight ≤ MOST_PAIRINGS * MOST_FLIGHT }
-    ensures { result ≡ (weight *ℤ pos (unsigned_abs (short +ℤ pos flight)))
-        -ℤ (weight *ℤ pos (unsigned_abs short)) }
-{
-    missed_by(weight, short + flight as i64) - missed_by(weight, short)
-}
-
-/// What it costs to be so many minutes beyond the target, or below it.
-fn missed_by(weight: i64, short: i64) -> i64
-    requires weight { (pos 0 ≤ℤ weight) × (weight ≤ℤ pos (PARTS * MOST_WEIGHT)) }
-    requires short { IsWithin (MOST_SHORT + MOST_PAIRINGS * MOST_FLIGHT) short }
-    ensures value { result ≡ weight *ℤ pos (unsigned_abs short) }
-    ensures within { IsWithin MOST_SUM result }
-{
-    weight * short.abs()
 }
 
 /// The greater one, as far as the limit.

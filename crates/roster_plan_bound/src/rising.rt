@@ -2,29 +2,30 @@
 
 ghost use Rattle.std.specs.Prelude.{◌≡◌, ◌<◌, ◌≤◌, ◌≤ℤ◌, ◌+ℤ◌, ℕ, pos, All, IfOk, List, length};
 ghost use Rattle.roster_model.specs.Costs.{cost_of};
-ghost use Rattle.roster_cost.specs.Amounts.{IsWithin};
 ghost use Rattle.roster_lines_table.specs.Person.{AreListed, IsOfTable};
 ghost use Rattle.roster_bases.specs.Bases.{only};
 ghost use Rattle.roster_bases.specs.Homes.{EachHomeRoster, IsHome, IsHomeBound};
 ghost use Rattle.roster_plan_bound.specs.Looks.{IsLook};
 ghost use Rattle.roster_plan_bound.specs.Reduced.{ArePrices};
 
+use crate::covered::covered_of;
 use crate::dearness::dearness;
 use crate::dive::{Dive, DivePlan, whole};
 use crate::gap::lines_of_gap;
-use crate::lists::amount_at;
-use crate::master::{Covered, ascend};
+use crate::lists::is_marked;
+use crate::master::ascend;
 use crate::pace::Pace;
-use crate::parts::{MOST_PLAN_PRICE, PARTS};
+use crate::parts::PARTS;
 use crate::persons::{Seen, check, renew_all, unseen};
+use crate::prices::{limited, no_prices};
 use crate::pricing::{Priced, Pricing};
-use crate::start::start_prices;
+use crate::start::{penalty_prices, start_prices};
+use crate::team::Team;
 use crate::tuning::{MOST_IDLE, MOST_TRUST, MOST_VISITS, VISITS_A_LOOK};
-use roster_bases::{is_pairing_of, persons_of};
+use roster_bases::persons_of;
 use roster_lines::TableFault;
 use roster_lines_table::Table;
 use roster_model::limits::MOST_LINES;
-use roster_problem::Problem;
 use std::alloc::{AllocError, Global};
 use std::marker::Model;
 use std::thread::Threads;
@@ -39,16 +40,15 @@ pub struct PricedBound<'a> {
     // The persons of the base, and what looks know of each.
     persons: Vec<usize>,
     seen: Vec<Seen>,
+    // The best prices so far, and what they say.
     prices: Vec<i64>,
-    leasts: Vec<i64>,
-    bound: i64,
-    parts: i64,
+    priced: Priced,
     // The prices at which known columns claim most, and how much that is, in parts.
     claimed: Vec<i64>,
     claim: i64,
     // How the next prices move from these.
     pace: Pace,
-    // How many looks in a row have claimed no cost unit more.
+    // How many looks in a row have claimed neither a cost unit more nor one less.
     idle: u32,
     // How many looks there were since searches showed a claim, and how many there are before they do again: twice
     // as many each time that it was true.
@@ -62,29 +62,31 @@ impl<'a> Model for PricedBound<'a> {
 
     ghost Value = { Bounded };
 
-    ghost view = { λ b. record { problem = b.pricing.now; base = b.base; bound = b.bound } };
+    ghost view = { λ b. record { problem = b.pricing.now; base = b.base; bound = b.priced.bound } };
 
     ghost invariant = { λ b. IsPricedBound b.pricing.now b.base b.persons.items
-        (vec_len b.seen) b.prices.items b.leasts.items b.bound };
+        (vec_len b.seen) b.prices.items b.priced.leasts.items b.priced.bound };
 }
 
 impl<'a> PricedBound<'a> {
-    /// What no prices at all say of the base at this place, or the first prices, if these say more. So many
-    /// threads at most share its persons.
+    /// What no prices at all say of the base at this place, or the first prices, if these say more: also those of
+    /// penalties if likely many pairings stay open. The team shares its persons.
     pub fn new<R: Threads + Sync>(
-        rt: &R,
-        alloc: Global,
-        threads: usize,
+        team: &Team<'_, R>,
         pricing: &'a Pricing<'a>,
         base: usize,
+        is_open: bool,
     ) -> Result<PricedBound<'a>, AllocError>
-        requires { 0 < threads }
+        requires { 0 < team.now.threads }
         ensures problem { IfOk result (λ bound. bound.problem ≡ pricing.now) }
         ensures base { IfOk result (λ bound. bound.base ≡ base) }
     {
-        let mut bound = PricedBound::unpriced(rt, alloc, threads, pricing, base)?;
-        bound.look_first(rt, alloc, threads)?;
-        bound.show(rt, alloc, threads, VISITS_A_LOOK)?;
+        let mut bound = PricedBound::unpriced(team, pricing, base)?;
+        if is_open {
+            bound.look_at_penalties(team)?;
+        }
+        bound.look_first(team)?;
+        bound.show(team, VISITS_A_LOOK)?;
         Ok(bound)
     }
 
@@ -98,23 +100,21 @@ impl<'a> PricedBound<'a> {
         ensures value { result ≡ self.now.bound }
         ensures bound { IsHomeBound self.now.problem (only self.now.base) result }
     {
-        self.bound
+        self.priced.bound
     }
 
     /// Raises the bound by so many looks at other prices. Each look lists legal sets that cost little, and the
     /// next prices are the best ones for all that are known: column generation, with prices kept near those at
     /// which most is claimed. Now and then searches show what is claimed, less often as long as it is true. There
-    /// are fewer looks if many in a row claim no more, or if the bound is what a known roster costs. So many threads
-    /// at most share the persons of a look, and each number of them gives the same bound.
+    /// are fewer looks if many in a row claim about the same, or if the bound is what a known roster costs. Any
+    /// number of threads that share the persons of a look gives the same bound.
     pub fn raise<R: Threads + Sync>(
         &mut self,
-        rt: &R,
-        alloc: Global,
-        threads: usize,
+        team: &Team<'_, R>,
         known: i64,
         looks: u32,
     ) -> Result<(), AllocError>
-        requires { 0 < threads }
+        requires { 0 < team.now.threads }
         ensures problem { self.new.problem ≡ self.old.problem }
         ensures base { self.new.base ≡ self.old.base }
         ensures raised { self.old.bound ≤ℤ self.new.bound }
@@ -123,37 +123,30 @@ impl<'a> PricedBound<'a> {
             if self.is_done(known) {
                 break;
             }
-            self.step(rt, alloc, threads)?;
-            self.show_if_due(rt, alloc, threads, known)?;
+            self.step(team)?;
+            self.show_if_due(team, known)?;
         }
         Ok(())
     }
 
-    /// Shows what is claimed at the best prices, by longer searches than those between looks. So many threads at
-    /// most share the persons.
-    pub fn settle<R: Threads + Sync>(
-        &mut self,
-        rt: &R,
-        alloc: Global,
-        threads: usize,
-    ) -> Result<(), AllocError>
-        requires { 0 < threads }
+    /// Shows what is claimed at the best prices, by longer searches than those between looks. The team shares the
+    /// persons.
+    pub fn settle<R: Threads + Sync>(&mut self, team: &Team<'_, R>) -> Result<(), AllocError>
+        requires { 0 < team.now.threads }
         ensures problem { self.new.problem ≡ self.old.problem }
         ensures base { self.new.base ≡ self.old.base }
         ensures raised { self.old.bound ≤ℤ self.new.bound }
     {
-        self.show(rt, alloc, threads, MOST_VISITS)
+        self.show(team, MOST_VISITS)
     }
 
     /// Shows what is claimed if that is due, or if it is what a known roster costs.
     fn show_if_due<R: Threads + Sync>(
         &mut self,
-        rt: &R,
-        alloc: Global,
-        threads: usize,
+        team: &Team<'_, R>,
         known: i64,
     ) -> Result<(), AllocError>
-        requires { 0 < threads }
+        requires { 0 < team.now.threads }
         ensures problem { self.new.problem ≡ self.old.problem }
         ensures base { self.new.base ≡ self.old.base }
         ensures raised { self.old.bound ≤ℤ self.new.bound }
@@ -163,18 +156,18 @@ impl<'a> PricedBound<'a> {
             return Ok(());
         }
         let visits = self.unshown.saturating_mul(VISITS_A_LOOK);
-        self.show(rt, alloc, threads, visits)
+        self.show(team, visits)
     }
 
     /// Whether `raise` looks no more: the bound is what a known roster costs, or looks claim no more.
     pub fn is_done(&self, known: i64) -> bool {
-        self.bound >= known || self.idle >= MOST_IDLE
+        self.priced.bound >= known || self.idle >= MOST_IDLE
     }
 
     /// Whether no roster costs less than a known one, if what is claimed is true.
     fn claims(&self, known: i64) -> bool {
-        let more = self.claim.saturating_sub(self.parts) / PARTS as i64;
-        self.bound.saturating_add(more) >= known
+        let more = self.claim.saturating_sub(self.priced.parts) / PARTS as i64;
+        self.priced.bound.saturating_add(more) >= known
     }
 
     /// For the rosters in which only persons of the base fly: the lines that each of them may have in a legal
@@ -194,8 +187,7 @@ impl<'a> PricedBound<'a> {
             self.pricing,
             self.base,
             &self.prices,
-            &self.leasts,
-            self.bound,
+            &self.priced,
             gap,
             most,
         )
@@ -204,22 +196,21 @@ impl<'a> PricedBound<'a> {
     /// Of a roster in which the persons of the base who are free get other pairings, by columns that cost little
     /// for all of them together: whom each pairing is given to. All others keep what the given places give them.
     /// It begins with so many looks, and each time at least so many hundredths of those who are left get theirs.
-    /// It need not be legal. The places are as given if the first looks leave no hope. So many threads at most
-    /// share the persons of a look, and each number of them gives the same.
+    /// It need not be legal. The places are as given if the first looks leave no hope. The team shares the persons
+    /// of a look, and each number of threads gives the same.
     pub fn dive<R: Threads + Sync>(
         &self,
-        rt: &R,
-        alloc: Global,
-        threads: usize,
+        team: &Team<'_, R>,
         given: &[u16],
         free: &[bool],
         plan: DivePlan,
     ) -> Result<Vec<u16>, AllocError>
-        requires { 0 < threads }
+        requires { 0 < team.now.threads }
         ensures covers { IfOk result (λ places. length places.items ≡ length self.now.problem.pairings) }
         ensures numbers { IfOk result
             (λ places. All (λ x. x ≤ length self.now.problem.persons) places.items) }
     {
+        let alloc = team.alloc;
         let problem = self.pricing.problem();
         let mut dive = Dive::new(alloc, self.pricing, &self.prices, given)?;
         for (i, k) in self.persons.iter().enumerate() {
@@ -228,42 +219,40 @@ impl<'a> PricedBound<'a> {
             }
         }
         let covered = covered_of(alloc, problem, self.base)?;
-        if !dive.end(rt, alloc, threads, &covered, plan)? {
+        if !dive.end(team, &covered, plan)? {
             return whole(alloc, problem, given);
         }
         whole(alloc, problem, &dive.places)
     }
 
-    /// What no prices at all say of the base at this place. So many threads at most share its persons.
+    /// What no prices at all say of the base at this place.
     fn unpriced<R: Threads + Sync>(
-        rt: &R,
-        alloc: Global,
-        threads: usize,
+        team: &Team<'_, R>,
         pricing: &'a Pricing<'a>,
         base: usize,
     ) -> Result<PricedBound<'a>, AllocError>
-        requires { 0 < threads }
+        requires { 0 < team.now.threads }
         ensures problem { IfOk result (λ bound. bound.problem ≡ pricing.now) }
         ensures base { IfOk result (λ bound. bound.base ≡ base) }
     {
+        let alloc = team.alloc;
         let problem = pricing.problem();
         let persons = persons_of(alloc, problem, base)?;
         let dear = dearness(problem);
         let mut seen = unseen(alloc, persons.len(), dear)?;
         let prices = no_prices(alloc, problem)?;
-        let look = pricing.look(rt, alloc, threads, base, &persons, &prices, 0, &mut seen)?;
+        let priced = pricing.look(team, base, &persons, &prices, 0, &mut seen)?;
         let claimed = no_prices(alloc, problem)?;
+        let claim = priced.parts;
         Ok(PricedBound {
             pricing,
             base,
             persons,
             seen,
             prices,
-            leasts: look.leasts,
-            bound: look.bound,
-            parts: look.parts,
+            priced,
             claimed,
-            claim: i64::MIN,
+            claim,
             pace: Pace::first(dear),
             idle: 0,
             unshown: 0,
@@ -271,73 +260,67 @@ impl<'a> PricedBound<'a> {
         })
     }
 
-    /// Finds columns at the first prices.
-    fn look_first<R: Threads + Sync>(
-        &mut self,
-        rt: &R,
-        alloc: Global,
-        threads: usize,
-    ) -> Result<(), AllocError>
-        requires { 0 < threads }
+    /// Finds columns at the penalties, and at a half of each.
+    fn look_at_penalties<R: Threads + Sync>(&mut self, team: &Team<'_, R>) -> Result<(), AllocError>
+        requires { 0 < team.now.threads }
         ensures { self.new ≡ self.old }
     {
         let problem = self.pricing.problem();
-        let wanted = start_prices(alloc, self.pricing, self.base, &self.persons)?;
-        let prices = limited(alloc, problem, &wanted)?;
-        self.look(rt, alloc, threads, prices)
+        self.look_at(team, &penalty_prices(team.alloc, problem, 1)?)?;
+        self.look_at(team, &penalty_prices(team.alloc, problem, 2)?)?;
+        self.pace = Pace::first(self.pace.dear);
+        Ok(())
+    }
+
+    /// Finds columns at the first prices.
+    fn look_first<R: Threads + Sync>(&mut self, team: &Team<'_, R>) -> Result<(), AllocError>
+        requires { 0 < team.now.threads }
+        ensures { self.new ≡ self.old }
+    {
+        let wanted = start_prices(team.alloc, self.pricing, self.base, &self.persons)?;
+        self.look_at(team, &wanted)
     }
 
     /// Finds columns at the next prices.
-    fn step<R: Threads + Sync>(
-        &mut self,
-        rt: &R,
-        alloc: Global,
-        threads: usize,
-    ) -> Result<(), AllocError>
-        requires { 0 < threads }
+    fn step<R: Threads + Sync>(&mut self, team: &Team<'_, R>) -> Result<(), AllocError>
+        requires { 0 < team.now.threads }
         ensures { self.new ≡ self.old }
     {
-        let problem = self.pricing.problem();
-        let covered = covered_of(alloc, problem, self.base)?;
-        let wanted = ascend(
-            rt,
-            alloc,
-            threads,
-            &self.seen,
-            &self.claimed,
-            &covered,
-            self.pace,
-        )?;
-        let prices = limited(alloc, problem, &wanted)?;
-        self.look(rt, alloc, threads, prices)
+        let covered = covered_of(team.alloc, self.pricing.problem(), self.base)?;
+        let wanted = ascend(team, &self.seen, &self.claimed, &covered, self.pace)?;
+        self.look_at(team, &wanted)
+    }
+
+    /// Finds columns at these prices, as far as they are within the limits of prices.
+    fn look_at<R: Threads + Sync>(
+        &mut self,
+        team: &Team<'_, R>,
+        wanted: &[i64],
+    ) -> Result<(), AllocError>
+        requires { 0 < team.now.threads }
+        ensures { self.new ≡ self.old }
+    {
+        let prices = limited(team.alloc, self.pricing.problem(), wanted)?;
+        self.look(team, prices)
     }
 
     /// Finds columns at the prices, and keeps these if more is claimed at them than at any before.
     fn look<R: Threads + Sync>(
         &mut self,
-        rt: &R,
-        alloc: Global,
-        threads: usize,
+        team: &Team<'_, R>,
         prices: Vec<i64>,
     ) -> Result<(), AllocError>
-        requires threads { 0 < threads }
+        requires threads { 0 < team.now.threads }
         requires prices { ArePrices self.old.problem prices.items }
         ensures { self.new ≡ self.old }
     {
-        renew_all(
-            rt,
-            alloc,
-            threads,
-            self.pricing,
-            &self.persons,
-            &prices,
-            &mut self.seen,
-        );
+        renew_all(team, self.pricing, &self.persons, &prices, &mut self.seen);
         check(&self.seen)?;
+        self.claim_again(team.alloc)?;
         let claim = self.pricing.claim(self.base, &prices, &self.seen);
         let gain = claim.saturating_sub(self.claim);
         self.pace = self.pace.after(gain);
-        self.idle = if gain >= PARTS as i64 {
+        self.idle = if gain.unsigned_abs() >= PARTS {
             0
         } else {
             self.idle.wrapping_add(1)
@@ -349,28 +332,30 @@ impl<'a> PricedBound<'a> {
         Ok(())
     }
 
+    /// Claims at the best prices again: columns that are new may cost less there than those that claimed before.
+    fn claim_again(&mut self, alloc: Global) -> Result<(), AllocError>
+        ensures { self.new ≡ self.old }
+    {
+        let prices = limited(alloc, self.pricing.problem(), &self.claimed)?;
+        let claim = self.pricing.claim(self.base, &prices, &self.seen);
+        self.claim = self.claim.min(claim);
+        self.go_back(alloc)
+    }
+
     /// Shows what is claimed at the best prices, if it is more than what is known, by searches that go on from so
     /// many sets of a person at most.
-    fn show<R: Threads + Sync>(
-        &mut self,
-        rt: &R,
-        alloc: Global,
-        threads: usize,
-        visits: u32,
-    ) -> Result<(), AllocError>
-        requires { 0 < threads }
+    fn show<R: Threads + Sync>(&mut self, team: &Team<'_, R>, visits: u32) -> Result<(), AllocError>
+        requires { 0 < team.now.threads }
         ensures problem { self.new.problem ≡ self.old.problem }
         ensures base { self.new.base ≡ self.old.base }
         ensures raised { self.old.bound ≤ℤ self.new.bound }
     {
-        if self.claim <= self.parts {
+        if self.claim <= self.priced.parts {
             return Ok(());
         }
-        let prices = limited(alloc, self.pricing.problem(), &self.claimed)?;
+        let prices = limited(team.alloc, self.pricing.problem(), &self.claimed)?;
         let look = self.pricing.look(
-            rt,
-            alloc,
-            threads,
+            team,
             self.base,
             &self.persons,
             &prices,
@@ -381,7 +366,7 @@ impl<'a> PricedBound<'a> {
         self.trust_after(claim);
         self.claim = claim;
         self.take(prices, look);
-        self.go_back(alloc)
+        self.go_back(team.alloc)
     }
 
     /// Searches wait longer if all that was claimed is true, as far as they came.
@@ -400,9 +385,9 @@ impl<'a> PricedBound<'a> {
     fn go_back(&mut self, alloc: Global) -> Result<(), AllocError>
         ensures { self.new ≡ self.old }
     {
-        if self.claim < self.parts {
+        if self.claim < self.priced.parts {
             self.claimed = limited(alloc, self.pricing.problem(), &self.prices)?;
-            self.claim = self.parts;
+            self.claim = self.priced.parts;
         }
         Ok(())
     }
@@ -416,62 +401,11 @@ impl<'a> PricedBound<'a> {
         ensures raised { self.old.bound ≤ℤ self.new.bound }
         ensures taken { look.bound ≤ℤ self.new.bound }
     {
-        if look.bound < self.bound || (look.bound == self.bound && look.parts <= self.parts) {
+        let (bound, parts) = (self.priced.bound, self.priced.parts);
+        if look.bound < bound || (look.bound == bound && look.parts <= parts) {
             return;
         }
-        self.parts = look.parts;
         self.prices = prices;
-        self.leasts = look.leasts;
-        self.bound = look.bound;
+        self.priced = look;
     }
-}
-
-/// No prices.
-fn no_prices(alloc: Global, problem: &Problem) -> Result<Vec<i64>, AllocError>
-    ensures { IfOk result (λ prices. ArePrices problem.now prices.items) }
-{
-    let prices = vec![in alloc; 0; problem.pairings().len()]?;
-    Ok(prices)
-}
-
-/// Whether the one at this place is marked.
-fn is_marked(marks: &[bool], k: usize) -> bool {
-    match marks.get(k) {
-        Some(is_marked) => *is_marked,
-        None => false,
-    }
-}
-
-/// The pairings of the base.
-fn covered_of(alloc: Global, problem: &Problem, base: usize) -> Result<Vec<Covered>, AllocError> {
-    let mut covered = Vec::new(alloc);
-    for (place, pairing) in problem.pairings().iter().enumerate() {
-        if is_pairing_of(problem, place, base) {
-            let penalty = i64::from(pairing.penalty).wrapping_mul(PARTS as i64);
-            covered.push(Covered { place, penalty })?;
-        }
-    }
-    Ok(covered)
-}
-
-/// For each pairing the price that is wanted, within the limits of prices.
-pub(crate) fn limited(
-    alloc: Global,
-    problem: &Problem,
-    wanted: &[i64],
-) -> Result<Vec<i64>, AllocError>
-    ensures { IfOk result (λ prices. ArePrices problem.now prices.items) }
-{
-    let mut prices = Vec::new(alloc);
-    for p in 0..problem.pairings().len() {
-        prices.push(limited_price(amount_at(wanted, p)))?;
-    }
-    Ok(prices)
-}
-
-/// The price within its limits.
-fn limited_price(price: i64) -> i64
-    ensures { IsWithin MOST_PLAN_PRICE result }
-{
-    price.clamp(-(MOST_PLAN_PRICE as i64), MOST_PLAN_PRICE as i64)
 }

@@ -17,6 +17,15 @@ use roster_values::Set;
 use std::alloc::{AllocError, Global};
 use std::marker::Model;
 
+/// The chains of a person: the network that they go along, and what each pairing brings.
+#[derive(Clone, Copy)]
+pub(crate) struct Chains<'a> {
+    pub(crate) problem: &'a Problem,
+    pub(crate) person: usize,
+    pub(crate) network: &'a Network,
+    pub(crate) values: &'a [i64],
+}
+
 /// For each state of flight a value. Contracts see their list.
 #[derive(Drop)]
 pub(crate) struct ChainRow {
@@ -159,41 +168,29 @@ pub(crate) fn led(after: &[i64], value: i64, f: usize) -> i64
 ///
 /// From some place on all pairings may follow a pairing that any chain may begin with. What these bring at
 /// least is one row, the tail from that place, for all pairings before it.
-pub(crate) fn rows_of(
-    alloc: Global,
-    problem: &Problem,
-    k: usize,
-    network: &Network,
-    values: &[i64],
-) -> Result<Vec<ChainRow>, AllocError>
-    requires network { IsNetwork problem.now k network.now }
-    requires covers { length values.now ≡ length problem.now.pairings }
-    requires values { All (IsWithin MOST_CHAIN_VALUE) values.now }
-    ensures rows { IfOk result (λ rows. AreRows problem.now network.now values.now rows.items) }
-    ensures all { IfOk result (λ rows. length rows.items ≡ length problem.now.pairings) }
+pub(crate) fn rows_of(alloc: Global, chains: &Chains<'_>) -> Result<Vec<ChainRow>, AllocError>
+    requires network { IsNetwork chains.now.problem.now chains.now.person chains.now.network.now }
+    requires covers { length chains.now.values.now ≡ length chains.now.problem.now.pairings }
+    requires values { All (IsWithin MOST_CHAIN_VALUE) chains.now.values.now }
+    ensures rows { IfOk result (λ rows.
+        AreRows chains.now.problem.now chains.now.network.now chains.now.values.now rows.items) }
+    ensures all { IfOk result (λ rows. length rows.items ≡ length chains.now.problem.now.pairings) }
 {
     let mut rows = Vec::new(alloc);
-    let mut tails = tails_of_end(alloc, problem, k, network, values)?;
-    for back in 0..problem.pairings().len() {
-        add_row(
-            alloc, problem, k, network, values, &mut rows, &mut tails, back,
-        )?;
+    let mut tails = tails_of_end(alloc, chains)?;
+    for back in 0..chains.problem.pairings().len() {
+        add_row(alloc, chains, &mut rows, &mut tails, back)?;
     }
     Ok(rows)
 }
 
 /// The tail behind all pairings alone.
-fn tails_of_end(
-    alloc: Global,
-    problem: &Problem,
-    k: usize,
-    network: &Network,
-    values: &[i64],
-) -> Result<Vec<ChainRow>, AllocError>
-    requires network { IsNetwork problem.now k network.now }
-    ensures { IfOk result (λ tails. AreSoFar problem.now network.now values.now [] tails.items 0) }
+fn tails_of_end(alloc: Global, chains: &Chains<'_>) -> Result<Vec<ChainRow>, AllocError>
+    requires network { IsNetwork chains.now.problem.now chains.now.person chains.now.network.now }
+    ensures { IfOk result (λ tails.
+        AreSoFar chains.now.problem.now chains.now.network.now chains.now.values.now [] tails.items 0) }
 {
-    let end = end_of_all(alloc, problem, k, network, values)?;
+    let end = end_of_all(alloc, chains)?;
     let mut tails = Vec::new(alloc);
     tails.push(end)?;
     Ok(tails)
@@ -202,33 +199,30 @@ fn tails_of_end(
 /// Adds the row of the pairing behind which there are so many others, and the tail from it on.
 fn add_row(
     alloc: Global,
-    problem: &Problem,
-    k: usize,
-    network: &Network,
-    values: &[i64],
+    chains: &Chains<'_>,
     rows: &mut Vec<ChainRow>,
     tails: &mut Vec<ChainRow>,
     back: usize,
 ) -> Result<(), AllocError>
-    requires network { IsNetwork problem.now k network.now }
-    requires covers { length values.now ≡ length problem.now.pairings }
-    requires values { All (IsWithin MOST_CHAIN_VALUE) values.now }
-    requires some { back < length problem.now.pairings }
-    requires so_far { AreSoFar problem.now network.now values.now rows.old.items tails.old.items back }
-    ensures { OnOk result
-        (AreSoFar problem.now network.now values.now rows.new.items tails.new.items (back + 1)) }
+    requires network { IsNetwork chains.now.problem.now chains.now.person chains.now.network.now }
+    requires covers { length chains.now.values.now ≡ length chains.now.problem.now.pairings }
+    requires values { All (IsWithin MOST_CHAIN_VALUE) chains.now.values.now }
+    requires some { back < length chains.now.problem.now.pairings }
+    requires so_far { AreSoFar chains.now.problem.now chains.now.network.now chains.now.values.now
+        rows.old.items tails.old.items back }
+    ensures { OnOk result (AreSoFar chains.now.problem.now chains.now.network.now chains.now.values.now
+        rows.new.items tails.new.items (back + 1)) }
 {
     part_of_legal_is_legal();
+    let (problem, network) = (chains.problem, chains.network);
     problem.is_sound();
     let count = problem.pairings().len();
     let p = count - 1 - back;
     let followers = network.followers[p];
     let from = all_from(&network.first, &followers, p, count);
     let tail = &tails[count - from];
-    let row = row_behind(
-        alloc, problem, k, network, values, rows, &followers, tail, from,
-    )?;
-    let longer = longer_tail(alloc, problem, k, network, values, &tails[back], &row, p)?;
+    let row = row_behind(alloc, chains, rows, &followers, tail, from)?;
+    let longer = longer_tail(alloc, chains, &tails[back], &row, p)?;
     rows.push(row)?;
     tails.push(longer)?;
     Ok(())
@@ -262,46 +256,39 @@ fn from_behind(followers: &Set, q: usize, from: usize) -> usize
 }
 
 /// The tail behind all pairings: what each state brings at the end.
-pub(crate) fn end_of_all(
-    alloc: Global,
-    problem: &Problem,
-    k: usize,
-    network: &Network,
-    values: &[i64],
-) -> Result<ChainRow, AllocError>
-    requires network { IsNetwork problem.now k network.now }
-    ensures tail { IfOk result (IsTail network.now values.now (length problem.now.pairings)) }
+pub(crate) fn end_of_all(alloc: Global, chains: &Chains<'_>) -> Result<ChainRow, AllocError>
+    requires network { IsNetwork chains.now.problem.now chains.now.person chains.now.network.now }
+    ensures tail { IfOk result
+        (IsTail chains.now.network.now chains.now.values.now (length chains.now.problem.now.pairings)) }
     ensures within { IfOk result (All (IsWithin MOST_TARGET_TERM)) }
 {
-    let end = ChainRow::of(alloc, &network.terms)?;
+    let end = ChainRow::of(alloc, &chains.network.terms)?;
     Ok(end)
 }
 
 /// The tail from pairing `p` on, whose row is known, as is the tail behind it.
 fn longer_tail(
     alloc: Global,
-    problem: &Problem,
-    k: usize,
-    network: &Network,
-    values: &[i64],
+    chains: &Chains<'_>,
     tail: &ChainRow,
     row: &ChainRow,
     p: usize,
 ) -> Result<ChainRow, AllocError>
-    requires network { IsNetwork problem.now k network.now }
-    requires place { p < length problem.now.pairings }
-    requires covers { length values.now ≡ length problem.now.pairings }
-    requires values { All (IsWithin MOST_CHAIN_VALUE) values.now }
-    requires tail { IsTail network.now values.now (p + 1) tail.now }
-    requires row { IsRow network.now values.now (followers_of network.now.followers.items p) row.now }
+    requires network { IsNetwork chains.now.problem.now chains.now.person chains.now.network.now }
+    requires place { p < length chains.now.problem.now.pairings }
+    requires covers { length chains.now.values.now ≡ length chains.now.problem.now.pairings }
+    requires values { All (IsWithin MOST_CHAIN_VALUE) chains.now.values.now }
+    requires tail { IsTail chains.now.network.now chains.now.values.now (p + 1) tail.now }
+    requires row { IsRow chains.now.network.now chains.now.values.now
+        (followers_of chains.now.network.now.followers.items p) row.now }
     requires few { All (IsWithin MOST_AMOUNT) row.now }
-    ensures tail { IfOk result (IsTail network.now values.now p) }
+    ensures tail { IfOk result (IsTail chains.now.network.now chains.now.values.now p) }
     ensures within { IfOk result (λ longer. (most : ℕ) → All (IsWithin most) row.now
         → All (IsWithin (most + MOST_CHAIN_VALUE)) tail.now → All (IsWithin (most + MOST_CHAIN_VALUE)) longer) }
 {
     let mut longer = ChainRow::of(alloc, tail.all())?;
-    if network.first.has(p) {
-        longer.relax(row, values[p], network.steps[p]);
+    if chains.network.first.has(p) {
+        longer.relax(row, chains.values[p], chains.network.steps[p]);
     }
     Ok(longer)
 }
@@ -310,28 +297,26 @@ fn longer_tail(
 /// from there on.
 pub(crate) fn row_behind(
     alloc: Global,
-    problem: &Problem,
-    k: usize,
-    network: &Network,
-    values: &[i64],
+    chains: &Chains<'_>,
     rows: &[ChainRow],
     first: &Set,
     tail: &ChainRow,
     until: usize,
 ) -> Result<ChainRow, AllocError>
-    requires network { IsNetwork problem.now k network.now }
-    requires covers { length values.now ≡ length problem.now.pairings }
-    requires values { All (IsWithin MOST_CHAIN_VALUE) values.now }
-    requires rows { AreRows problem.now network.now values.now rows.now }
-    requires alone { (q : ℕ) → is_among first.now q ≡ true → is_among network.now.first q ≡ true }
+    requires network { IsNetwork chains.now.problem.now chains.now.person chains.now.network.now }
+    requires covers { length chains.now.values.now ≡ length chains.now.problem.now.pairings }
+    requires values { All (IsWithin MOST_CHAIN_VALUE) chains.now.values.now }
+    requires rows { AreRows chains.now.problem.now chains.now.network.now chains.now.values.now rows.now }
+    requires alone { (q : ℕ) → is_among first.now q ≡ true → is_among chains.now.network.now.first q ≡ true }
     requires done { (q : ℕ) → is_among first.now q ≡ true → q < until
-        → length problem.now.pairings - 1 - q < length rows.now }
-    requires tail { IsTail network.now values.now until tail.now }
+        → length chains.now.problem.now.pairings - 1 - q < length rows.now }
+    requires tail { IsTail chains.now.network.now chains.now.values.now until tail.now }
     requires near { All (IsWithin (MOST_TARGET_TERM + (length rows.now + 1) * MOST_CHAIN_VALUE)) tail.now }
-    ensures row { IfOk result (IsRow network.now values.now first.now) }
+    ensures row { IfOk result (IsRow chains.now.network.now chains.now.values.now first.now) }
     ensures within { IfOk result (λ row.
         All (IsWithin (MOST_TARGET_TERM + (length rows.now + 1) * MOST_CHAIN_VALUE)) row) }
 {
+    let (problem, network, values) = (chains.problem, chains.network, chains.values);
     problem.is_sound();
     let count = problem.pairings().len();
     let mut row = ChainRow::of(alloc, tail.all())?;

@@ -1,4 +1,4 @@
-//! The prices that looks begin with: what the flight of each pairing is worth.
+//! The prices that looks begin with: what the flight of each pairing is worth, and what it costs to leave it open.
 //!
 //! If the crew lacks flight, nearly everybody ends below the target, and each minute saves the weight; else
 //! nearly everybody ends above it, and each minute costs as much. A pairing whose price is that brings just
@@ -25,6 +25,21 @@ pub(crate) fn start_prices(
     for (pairing, flight) in problem.pairings().iter().zip(flights.iter()) {
         let penalty = i64::from(pairing.penalty).wrapping_mul(PARTS as i64);
         prices.push(start_price(problem, *flight, is_short).min(penalty))?;
+    }
+    Ok(prices)
+}
+
+/// The penalty of each pairing, divided by so much, in parts of a cost unit: about what it saves that it is flown if
+/// the crew can't fly all.
+pub(crate) fn penalty_prices(
+    alloc: Global,
+    problem: &Problem,
+    divisor: i64,
+) -> Result<Vec<i64>, AllocError> {
+    let mut prices = Vec::new(alloc);
+    for pairing in problem.pairings() {
+        let penalty = i64::from(pairing.penalty).wrapping_mul(PARTS as i64);
+        prices.push(penalty / divisor.max(1))?;
     }
     Ok(prices)
 }

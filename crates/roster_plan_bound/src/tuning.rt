@@ -61,7 +61,10 @@ pub(crate) const LEAST_STRIDE: i64 = 3 * 64;
 
 pub(crate) const MOST_STRIDE: i64 = 600 * 64;
 
-/// After so many looks in a row that say no more in whole cost units the bound is as good as it gets.
+/// So many looks in a row that say much less leave softness as it is.
+pub(crate) const MOST_LACKING: i32 = 2;
+
+/// After so many looks in a row that say neither more nor less in whole cost units the bound is as good as it gets.
 pub(crate) const MOST_IDLE: u32 = 12;
 
 /// From how many sets a search goes on that shows the least, at most, for each look that claims before it, and in the

@@ -13,7 +13,7 @@ use Rattle.roster_plan_bound.proofs.gap.least_behind.Goals as goal
 row_within : (c : goal.After-led) → All (IsWithin MOST_LEAST) c.all.result.now
 row_within c =
     subst (All (IsWithin MOST_LEAST)) (sym c.all.ensures)
-    (row_small c.args.problem.now c.args.network.now c.args.values.now c.args.rows.now (length c.args.rows.now - 1 - c.args.p) c.index-rows-rows.result
+    (row_small c.args.chains.now.problem.now c.args.chains.now.network.now c.args.chains.now.values.now c.args.rows.now (length c.args.rows.now - 1 - c.args.p) c.index-rows-rows.result
     c.requires.rows c.is_sound.ensures.sound.pairings
     (omega (arith, c.requires.all, c.requires.place)) c.index-rows-rows.is)
 
@@ -21,13 +21,13 @@ pub led-requires-clause-after : goal.led-requires-clause-after
 led-requires-clause-after c =
     subst (All (IsWithin MOST_AMOUNT)) (sym c.all.ensures)
     (All-within-more MOST_LEAST MOST_AMOUNT c.index-rows-rows.result (omega arith)
-    (row_small c.args.problem.now c.args.network.now c.args.values.now c.args.rows.now (length c.args.rows.now - 1 - c.args.p) c.index-rows-rows.result
+    (row_small c.args.chains.now.problem.now c.args.chains.now.network.now c.args.chains.now.values.now c.args.rows.now (length c.args.rows.now - 1 - c.args.p) c.index-rows-rows.result
     c.requires.rows c.is_sound.ensures.sound.pairings
     (omega (arith, c.requires.all, c.requires.place)) c.index-rows-rows.is))
 
 pub led-requires-clause-value : goal.led-requires-clause-value
 led-requires-clause-value c =
-    value_within c.args.values.now c.args.p c.requires.values
+    value_within c.args.chains.now.values.now c.args.p c.requires.values
     (omega (arith, c.requires.covers, c.requires.place))
 
 pub overflow_add-result : goal.overflow_add-result
@@ -48,9 +48,9 @@ slice_index_any xs i d inside =
 
 pub returns : goal.returns
 returns c =
-    let problem = c.args.problem.now in
-    let network = c.args.network.now in
-    let values = c.args.values.now in
+    let problem = c.args.chains.now.problem.now in
+    let network = c.args.chains.now.network.now in
+    let values = c.args.chains.now.values.now in
     let rows = c.args.rows.now in
     let p = c.args.p in
     let value : ℤ = c.along-value.result.0 in

@@ -1,6 +1,7 @@
 use Rattle.std.proofs.Common.{◌≡◌, ℕ, ◌+◌, ◌<◌, [], ◌∷◌, ◌++◌, length, Some, refl, ap, subst, sym, ◌∙◌, arith, ℤ, ◌+ℤ◌, ◌*ℤ◌, ◌≤ℤ◌, pos, w64, to_z, of_z, FitsSigned, rules}
 use Rattle.std.proofs.lemmas.Int.{to_z-of_z}
 use Rattle.std.proofs.lemmas.List.{length_push}
+use Rattle.std.proofs.lemmas.Option.{get_or_from_slice_get, slice_get-get_or}
 use Rattle.std.specs.Prelude.{false, slice_get}
 use Rattle.roster_model.specs.Costs.{cost_of}
 use Rattle.roster_model.specs.Places.{set_of}
@@ -32,9 +33,13 @@ loop-k-preserved c =
     (subst (λ j. AreListedOf problem j lines) (sym inv.count) are.listed) in
     let nobody = each-push (λ j ls. only base (base_of_person problem j) ≡ false → sets_of ls ≡ [] ∷ []) c.loop-k.table lines inv.none
     (subst (λ j. only base (base_of_person problem j) ≡ false → sets_of lines ≡ [] ∷ []) (sym inv.count) are.none) in
-    let bound : ℤ = c.args.bound in
-    let bound_told : to_z w64 (of_z w64 bound) ≡ bound = to_z-of_z w64 bound c.ranges.bound in
-    let least : ℤ = value_at c.args.leasts.now k in
+    let bound : ℤ = c.args.priced.now.bound in
+    let leasts = c.args.priced.now.leasts.items in
+    let least : ℤ = value_at leasts k in
+    let at : slice_get leasts k ≡ Some least =
+    slice_get-get_or leasts k (pos 0) (omega (arith, person, c.requires.look.covers)) in
+    let found : c.index.result.now ≡ least =
+    c.index.ensures ∙ get_or_from_slice_get leasts k least c.index.result.now at in
     let within : IsWithin MOST_LEAST least =
     c.requires.look.small k (pos 0) (omega (arith, person, c.requires.look.covers)) in
     let least_fits : FitsSigned w64 least = search rules in
@@ -42,20 +47,22 @@ loop-k-preserved c =
     let limit_fits : FitsSigned w64 c.limit_of-limit.result = search rules in
     let limit_told : to_z w64 (of_z w64 c.limit_of-limit.result) ≡ c.limit_of-limit.result =
     to_z-of_z w64 c.limit_of-limit.result limit_fits in
-    let here : EachHomeRoster problem (only base) (λ places. cost_of problem places ≤ℤ (to_z w64 (of_z w64 bound) +ℤ pos c.args.gap)
+    let here : EachHomeRoster problem (only base) (λ places. cost_of problem places ≤ℤ (bound +ℤ pos c.args.gap)
     → (i : ℕ) × (slice_get (sets_of lines) i ≡ Some (set_of k places))) = λ places roster home cost.
     let limit : reduced problem c.args.prices.now k (set_of k places) ≤ℤ to_z w64 (of_z w64 c.limit_of-limit.result) =
-    cheap_enough problem c.args.prices.now c.args.leasts.now base bound least
+    cheap_enough problem c.args.prices.now c.args.priced.now.leasts.items base bound least
     (to_z w64 (of_z w64 c.limit_of-limit.result)) c.args.gap k places c.requires.look roster home person
-    (subst (λ z. cost_of problem places ≤ℤ (z +ℤ pos c.args.gap)) bound_told cost) refl
-    (limit_told ∙ c.limit_of-limit.ensures ∙ ap (λ z. z +ℤ (pos PARTS *ℤ (pos c.args.gap +ℤ pos 1))) least_told) in
+    cost refl
+    (limit_told ∙ c.limit_of-limit.ensures
+    ∙ ap (λ z. to_z w64 (of_z w64 z) +ℤ (pos PARTS *ℤ (pos c.args.gap +ℤ pos 1))) found
+    ∙ ap (λ z. z +ℤ (pos PARTS *ℤ (pos c.args.gap +ℤ pos 1))) least_told) in
     cheap_given problem c.args.prices.now base k
     (to_z w64 (of_z w64 c.limit_of-limit.result)) lines places are person roster home limit in
     record {
       count = ap length pushed ∙ length_push c.loop-k.table lines ∙ ap (λ n. n + 1) inv.count;
       few = omega (arith, person);
       listed = subst (AreListedSoFar problem) (sym pushed) listed;
-      held = subst (λ t. HasCheap problem base (to_z w64 (of_z w64 c.args.bound)) c.args.gap t (k + 1)) (sym pushed) (cheap_more problem base (to_z w64 (of_z w64 c.args.bound)) c.args.gap k c.loop-k.table lines inv.count inv.held here);
+      held = subst (λ t. HasCheap problem base bound c.args.gap t (k + 1)) (sym pushed) (cheap_more problem base bound c.args.gap k c.loop-k.table lines inv.count inv.held here);
       none = subst (HasNone problem base) (sym pushed) nobody;
     }
 

@@ -9,6 +9,6 @@ invariant-loop-k l = record {
   count : length l.table ≡ l.k;
   few : l.k ≤ length l.pricing.persons;
   listed : AreListedSoFar l.pricing l.table;
-  held : HasCheap l.pricing l.base l.bound l.gap l.table l.k;
+  held : HasCheap l.pricing l.base l.priced.bound l.gap l.table l.k;
   none : HasNone l.pricing l.base l.table;
 }

@@ -17,7 +17,7 @@ row_behind-requires-clause-done c q among near =
 
 pub row_behind-requires-clause-tail : goal.row_behind-requires-clause-tail
 row_behind-requires-clause-tail c =
-    subst (λ n. IsTail c.args.network.now c.args.values.now n c.in_ok-end.end)
+    subst (λ n. IsTail c.args.chains.now.network.now c.args.chains.now.values.now n c.in_ok-end.end)
     (sym (ap length c.pairings-count.ensures.value)) c.in_ok-end.ensures.tail
 
 pub row_behind-requires-clause-near : goal.row_behind-requires-clause-near
@@ -30,17 +30,17 @@ first-requires c = omega (arith, c.in_ok-row.ensures.row.covers, c.requires.netw
 
 -- the law of flight, of this person
 adds : (c : goal.After-drop-end-inside-2) (set : List ℕ) → IsStrictlyIncreasing set
-    → AddsFlight c.args.problem.now c.args.k set
+    → AddsFlight c.args.chains.now.problem.now c.args.chains.now.person set
 adds c set rising =
-    let days = (home_of c.args.problem.now c.args.k).days in
-    let whole = c.flight_of_set.ensures c.args.problem.now days c.args.k set rising in
+    let days = (home_of c.args.chains.now.problem.now c.args.chains.now.person).days in
+    let whole = c.flight_of_set.ensures c.args.chains.now.problem.now days c.args.chains.now.person set rising in
     let none =
-    c.flight_of_set.ensures c.args.problem.now days c.args.k [] (λ i inside. absurd (omega arith)) in
+    c.flight_of_set.ensures c.args.chains.now.problem.now days c.args.chains.now.person [] (λ i inside. absurd (omega arith)) in
     omega (arith, whole, none)
 
 pub returns : goal.returns
 returns c =
-    let problem = c.args.problem.now in
+    let problem = c.args.chains.now.problem.now in
     let row = c.in_ok-row.row in
     let is = c.in_ok-row.ensures.row in
     let least : ℤ = c.first.result in
@@ -56,10 +56,10 @@ returns c =
     within-more (MOST_TARGET_TERM + (length c.args.rows.now + 1) * MOST_CHAIN_VALUE) MOST_LEAST least most here in
     let fits : FitsSigned w64 least = search rules in
     let told : to_z w64 (of_z w64 least) ≡ least = to_z-of_z w64 least fits in
-    subst (IsLeastOf problem c.args.prices.now c.args.k) (sym told) (record {
-      below = λ set line. subst (λ z. z ≤ℤ reduced problem c.args.prices.now c.args.k set) (sym first)
-          (least_is problem c.args.prices.now c.args.k c.args.network.now c.args.values.now row
-          (λ whole part parts legal. c.part_of_legal_is_legal.ensures problem c.args.k whole part c.is_sound.ensures.ordered c.is_sound.ensures.timed parts legal)
+    subst (IsLeastOf problem c.args.prices.now c.args.chains.now.person) (sym told) (record {
+      below = λ set line. subst (λ z. z ≤ℤ reduced problem c.args.prices.now c.args.chains.now.person set) (sym first)
+          (least_is problem c.args.prices.now c.args.chains.now.person c.args.chains.now.network.now c.args.chains.now.values.now row
+          (λ whole part parts legal. c.part_of_legal_is_legal.ensures problem c.args.chains.now.person whole part c.is_sound.ensures.ordered c.is_sound.ensures.timed parts legal)
           (adds c) c.requires.network c.requires.values is set line);
       within = within;
     })

@@ -30,16 +30,16 @@ followers_found problem network count back found is covers below at =
 
 -- what follows the pairing lies behind it, and may begin a chain
 behind : (c : goal.After-followers-3-1) (q : ℕ) → is_among c.index.result.now q ≡ true
-    → (length c.args.problem.now.pairings - 1 - c.args.back < q) × (q < length c.args.problem.now.pairings) × (is_among c.args.network.now.first q ≡ true)
+    → (length c.args.chains.now.problem.now.pairings - 1 - c.args.back < q) × (q < length c.args.chains.now.problem.now.pairings) × (is_among c.args.chains.now.network.now.first q ≡ true)
 behind c q among =
-    let problem = c.args.problem.now in
-    let network = c.args.network.now in
+    let problem = c.args.chains.now.problem.now in
+    let network = c.args.chains.now.network.now in
     let count = ap length c.pairings-count.ensures.value in
     let p : ℕ = length problem.pairings - 1 - c.args.back in
     let below : c.args.back < length problem.pairings = omega (arith, count, c.requires.some) in
     let followers = followers_found problem network (length c.pairings-count.result.now) c.args.back c.index.result.now count c.requires.network.covers below c.index.ensures in
-    follower_alone problem c.args.k network
-    (λ whole part parts legal. c.part_of_legal_is_legal.ensures problem c.args.k whole part c.is_sound.ensures.ordered c.is_sound.ensures.timed parts legal)
+    follower_alone problem c.args.chains.now.person network
+    (λ whole part parts legal. c.part_of_legal_is_legal.ensures problem c.args.chains.now.person whole part c.is_sound.ensures.ordered c.is_sound.ensures.timed parts legal)
     c.requires.network p q (omega (arith, below)) (subst (λ row. is_among row q ≡ true) followers among)
 
 pub row_behind-requires-clause-alone : goal.row_behind-requires-clause-alone
@@ -49,15 +49,15 @@ pub row_behind-requires-clause-done : goal.row_behind-requires-clause-done
 row_behind-requires-clause-done c q among near =
     let after = behind c q among in
     let count = ap length c.pairings-count.ensures.value in
-    let below : c.args.back < length c.args.problem.now.pairings =
+    let below : c.args.back < length c.args.chains.now.problem.now.pairings =
     omega (arith, count, c.requires.some) in
     let long = ap length c.deref.ensures.value ∙ c.requires.so_far.long in
     omega (arith, after.0, after.1, long, below)
 
 pub row_behind-requires-clause-tail : goal.row_behind-requires-clause-tail
 row_behind-requires-clause-tail c =
-    let problem = c.args.problem.now in
-    let network = c.args.network.now in
+    let problem = c.args.chains.now.problem.now in
+    let network = c.args.chains.now.network.now in
     let inv = c.requires.so_far in
     let count = ap length c.pairings-count.ensures.value in
     let from : ℕ = c.all_from-from.result in
@@ -65,7 +65,7 @@ row_behind-requires-clause-tail c =
     found_at c.args.tails.now.items (length c.pairings-count.result.now - from)
     (length problem.pairings - from) c.index-tail.result.now c.index-tail.ensures (omega (arith, count))
     (omega (arith, count, inv.longer, c.requires.some, c.all_from-from.ensures.place)) in
-    subst (λ n. IsTail network c.args.values.now n c.index-tail.result.now)
+    subst (λ n. IsTail network c.args.chains.now.values.now n c.index-tail.result.now)
     (omega (arith, count, c.all_from-from.ensures.place))
     (inv.are_tails.each (length problem.pairings - from) c.index-tail.result.now (omega arith) at)
 
@@ -85,13 +85,13 @@ row_behind-requires-clause-near c =
 
 pub longer_tail-requires-clause-row : goal.longer_tail-requires-clause-row
 longer_tail-requires-clause-row c =
-    let problem = c.args.problem.now in
-    let network = c.args.network.now in
+    let problem = c.args.chains.now.problem.now in
+    let network = c.args.chains.now.network.now in
     let count = ap length c.pairings-count.ensures.value in
     let followers = followers_found problem network (length c.pairings-count.result.now) c.args.back c.index.result.now count c.requires.network.covers c.requires.some c.index.ensures in
-    subst (λ n. IsRow network c.args.values.now (followers_of network.followers.items (n - 1 - c.args.back)) c.in_ok-row.row)
+    subst (λ n. IsRow network c.args.chains.now.values.now (followers_of network.followers.items (n - 1 - c.args.back)) c.in_ok-row.row)
     (sym count)
-    (subst (λ first. IsRow network c.args.values.now first c.in_ok-row.row) followers c.in_ok-row.ensures.row)
+    (subst (λ first. IsRow network c.args.chains.now.values.now first c.in_ok-row.row) followers c.in_ok-row.ensures.row)
 
 pub longer_tail-requires-clause-few : goal.longer_tail-requires-clause-few
 longer_tail-requires-clause-few c =
@@ -102,20 +102,20 @@ longer_tail-requires-clause-few c =
 
 pub longer_tail-requires-clause-tail : goal.longer_tail-requires-clause-tail
 longer_tail-requires-clause-tail c =
-    let problem = c.args.problem.now in
-    let network = c.args.network.now in
+    let problem = c.args.chains.now.problem.now in
+    let network = c.args.chains.now.network.now in
     let inv = c.requires.so_far in
     let count = ap length c.pairings-count.ensures.value in
     let at = found_at c.args.tails.now.items c.args.back c.args.back c.index-2.result.now c.index-2.ensures refl (omega (arith, inv.longer)) in
-    subst (λ n. IsTail network c.args.values.now n c.index-2.result.now)
+    subst (λ n. IsTail network c.args.chains.now.values.now n c.index-2.result.now)
     (omega (arith, count, c.requires.some))
     (inv.are_tails.each c.args.back c.index-2.result.now (omega (arith, count, c.requires.some)) at)
 
 pub returns : goal.returns
 returns c =
-    let problem = c.args.problem.now in
-    let network = c.args.network.now in
-    let values = c.args.values.now in
+    let problem = c.args.chains.now.problem.now in
+    let network = c.args.chains.now.network.now in
+    let values = c.args.chains.now.values.now in
     let inv = c.requires.so_far in
     let count = ap length c.pairings-count.ensures.value in
     let p : ℕ = length problem.pairings - 1 - c.args.back in

@@ -15,13 +15,13 @@ relax-requires-clause-same c =
 
 pub relax-requires-clause-value : goal.relax-requires-clause-value
 relax-requires-clause-value c =
-    value_within c.args.values.now c.args.p c.requires.values
+    value_within c.args.chains.now.values.now c.args.p c.requires.values
     (omega (arith, c.requires.covers, c.requires.place))
 
 pub returns-clause-tail : goal.returns-clause-tail
 returns-clause-tail c =
-    let network = c.args.network.now in
-    let values = c.args.values.now in
+    let network = c.args.chains.now.network.now in
+    let values = c.args.chains.now.values.now in
     let p = c.args.p in
     let copied : c.in_ok-longer.longer ≡ c.args.tail.now = c.in_ok-longer.ensures ∙ c.all.ensures in
     let long : length c.in_ok-longer.longer ≡ length network.terms.items =

@@ -10,13 +10,13 @@ use Rattle.roster_plan_bound.proofs.RowLemmas.{lowered, row_is, row_small, value
 use Rattle.roster_plan_bound.proofs.rows.row_behind.Goals as goal
 
 -- the place of the pairing
-inside_place : (c : goal.After-relax) → c.in-Some.q < length c.args.problem.now.pairings
+inside_place : (c : goal.After-relax) → c.in-Some.q < length c.args.chains.now.problem.now.pairings
 inside_place c =
     ((c.requires.network.alone c.in-Some.q).0 (c.requires.alone c.in-Some.q c.in-Some.ensures.place.2)).0
 
 -- the row that the pairing leads to
 row_found : (c : goal.After-relax) (row : List ℤ)
-    → slice_get c.args.rows.now (length c.args.problem.now.pairings - 1 - c.in-Some.q) ≡ Some row
+    → slice_get c.args.rows.now (length c.args.chains.now.problem.now.pairings - 1 - c.in-Some.q) ≡ Some row
     → c.index-rows-count.result ≡ row
 row_found c row at =
     let count = ap length c.pairings-count.ensures.value in
@@ -47,16 +47,16 @@ pub relax-requires-clause-value : goal.relax-requires-clause-value
 relax-requires-clause-value c =
     let among = c.requires.alone c.in-Some.q c.in-Some.ensures.place.2 in
     let place = ((c.requires.network.alone c.in-Some.q).0 among).0 in
-    value_within c.args.values.now c.in-Some.q c.requires.values (omega (arith, c.requires.covers, place))
+    value_within c.args.chains.now.values.now c.in-Some.q c.requires.values (omega (arith, c.requires.covers, place))
 
 pub relax-requires-clause-after : goal.relax-requires-clause-after
 relax-requires-clause-after c =
-    let problem = c.args.problem.now in
+    let problem = c.args.chains.now.problem.now in
     let row = c.index-rows-count.result in
     let count = ap length c.pairings-count.ensures.value in
     let done = c.requires.done c.in-Some.q c.in-Some.ensures.place.2 c.in-Some.ensures.place.1 in
     All-within-more MOST_LEAST MOST_AMOUNT row (omega arith)
-    (row_small problem c.args.network.now c.args.values.now c.args.rows.now (length c.pairings-count.result.now - 1 - c.in-Some.q) row
+    (row_small problem c.args.chains.now.network.now c.args.chains.now.values.now c.args.rows.now (length c.pairings-count.result.now - 1 - c.in-Some.q) row
     c.requires.rows c.is_sound.ensures.sound.pairings (omega (arith, count, done)) c.index-rows-count.is)
 
 pub loop-q-preserved : goal.loop-q-preserved
@@ -67,14 +67,14 @@ loop-q-preserved c =
       kept = λ f inside. let before = inv.kept f inside in let now = c.relax.ensures.kept f (omega (arith, inv.covers, inside)) in omega (arith, ints, before, now);
       led = λ q row below among at f inside. elim (cases_eq q c.in-Some.q) [
         | inl here ↦
-            let behind = row_found c row (subst (λ i. slice_get c.args.rows.now (length c.args.problem.now.pairings - 1 - i) ≡ Some row) here at) in
+            let behind = row_found c row (subst (λ i. slice_get c.args.rows.now (length c.args.chains.now.problem.now.pairings - 1 - i) ≡ Some row) here at) in
             let place = inside_place c in
-            let led = lowered c.args.values.now c.index-rows-count.result c.relax.new.self c.args.network.now.steps.items (length c.loop-q.row) (length c.args.network.now.terms.items) f c.in-Some.q c.index.result.now c.requires.values
+            let led = lowered c.args.chains.now.values.now c.index-rows-count.result c.relax.new.self c.args.chains.now.network.now.steps.items (length c.loop-q.row) (length c.args.chains.now.network.now.terms.items) f c.in-Some.q c.index.result.now c.requires.values
             (omega (arith, c.requires.covers, place))
             (omega (arith, c.requires.network.steps.covers, place)) c.index.ensures inv.covers
             (c.relax.ensures.through f (omega (arith, inv.covers, inside))) in
-            let told = subst (λ r. value_at c.relax.new.self f ≤ℤ (value_at c.args.values.now c.in-Some.q +ℤ value_at r (next_state (length c.args.network.now.terms.items) f (get_or c.args.network.now.steps.items c.in-Some.q 0)))) behind led in
-            subst (λ i. value_at c.relax.new.self f ≤ℤ (value_at c.args.values.now i +ℤ value_at row (next_state (length c.args.network.now.terms.items) f (get_or c.args.network.now.steps.items i 0)))) (sym here) told
+            let told = subst (λ r. value_at c.relax.new.self f ≤ℤ (value_at c.args.chains.now.values.now c.in-Some.q +ℤ value_at r (next_state (length c.args.chains.now.network.now.terms.items) f (get_or c.args.chains.now.network.now.steps.items c.in-Some.q 0)))) behind led in
+            subst (λ i. value_at c.relax.new.self f ≤ℤ (value_at c.args.chains.now.values.now i +ℤ value_at row (next_state (length c.args.chains.now.network.now.terms.items) f (get_or c.args.chains.now.network.now.steps.items i 0)))) (sym here) told
         | inr other ↦
             let before : q < c.loop-q.from = elim (cases_lt q c.loop-q.from) [
               | inl old ↦ old
@@ -95,7 +95,7 @@ loop-q-preserved c =
 pub returns-clause-row : goal.returns-clause-row
 returns-clause-row c =
     let inv = c.loop-q.invariant in
-    row_is c.args.problem.now c.args.network.now c.args.values.now c.args.rows.now c.args.first.now c.loop-q.row c.args.tail.now c.args.until c.requires.network.some c.requires.rows c.requires.tail inv.covers inv.kept
+    row_is c.args.chains.now.problem.now c.args.chains.now.network.now c.args.chains.now.values.now c.args.rows.now c.args.first.now c.loop-q.row c.args.tail.now c.args.until c.requires.network.some c.requires.rows c.requires.tail inv.covers inv.kept
     (λ q behind among near at f inside. inv.led q behind (elim (cases_lt q c.loop-q.from) [
       | inl old ↦ old
       | inr new ↦ absurd (false≢true (sym (c.in_default.ensures.least q new near) ∙ among))

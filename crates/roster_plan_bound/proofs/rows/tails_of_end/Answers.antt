@@ -8,9 +8,9 @@ use Rattle.roster_plan_bound.proofs.rows.tails_of_end.Goals as goal
 
 pub returns : goal.returns
 returns c =
-    let problem = c.args.problem.now in
-    let network = c.args.network.now in
-    let values = c.args.values.now in
+    let problem = c.args.chains.now.problem.now in
+    let network = c.args.chains.now.network.now in
+    let values = c.args.chains.now.values.now in
     let none : AreTails problem network values c.new-tails.result.items =
     subst (AreTails problem network values) (sym c.new-tails.ensures.items)
     (tails_none problem network values) in

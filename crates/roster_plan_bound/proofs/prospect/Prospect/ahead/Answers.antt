@@ -3,7 +3,8 @@ use Rattle.std.proofs.lemmas.Int.{ints, to_z-of_z}
 use Rattle.roster_cost.specs.Amounts.{IsWithin}
 use Rattle.roster_plan_bound.specs.declared.parts.TheConstants.{MOST_LEAST, MOST_SHORT, MOST_SUM}
 use Rattle.roster_plan_bound.specs.Prospects.{short_of, IsAhead, IsLeastPath, IsTable}
-use Rattle.roster_plan_bound.proofs.ProspectLemmas.{ahead_below, gain_low, none_beyond, rows_within, told_in}
+use Rattle.roster_plan_bound.proofs.ProductLemmas.{told_in}
+use Rattle.roster_plan_bound.proofs.ProspectLemmas.{ahead_below, gain_low, none_beyond, rows_within}
 use Rattle.roster_plan_bound.specs.Timelines.{spare_flight}
 use Rattle.roster_plan_bound.proofs.prospect.Prospect.ahead.Goals as goal
 

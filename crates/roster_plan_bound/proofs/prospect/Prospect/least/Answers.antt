@@ -3,7 +3,8 @@ use Rattle.std.proofs.lemmas.Int.{ints, to_z-of_z}
 use Rattle.roster_cost.specs.Amounts.{IsWithin}
 use Rattle.roster_plan_bound.specs.declared.parts.TheConstants.{MOST_LEAST, MOST_SHORT}
 use Rattle.roster_plan_bound.specs.Prospects.{short_of, IsLeastPath, IsTable}
-use Rattle.roster_plan_bound.proofs.ProspectLemmas.{begun_below, gain_low, told_in}
+use Rattle.roster_plan_bound.proofs.ProductLemmas.{told_in}
+use Rattle.roster_plan_bound.proofs.ProspectLemmas.{begun_below, gain_low}
 use Rattle.roster_plan_bound.proofs.prospect.Prospect.least.Goals as goal
 
 pub loop-i-init : goal.loop-i-init

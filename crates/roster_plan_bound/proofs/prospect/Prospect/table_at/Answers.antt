@@ -6,7 +6,9 @@ use Rattle.roster_plan_bound.specs.declared.parts.TheConstants.{MOST_LEAST, MOST
 use Rattle.roster_plan_bound.specs.Behinds.{AreBehind}
 use Rattle.roster_plan_bound.specs.Prospects.{short_of, AreWorth, IsFixed, IsTable}
 use Rattle.roster_plan_bound.specs.Timelines.{spare_flight}
-use Rattle.roster_plan_bound.proofs.ProspectLemmas.{told_in, weight_told, worths_are}
+use Rattle.roster_plan_bound.proofs.ProductLemmas.{told_in}
+use Rattle.roster_plan_bound.proofs.ProspectLemmas.{worths_are}
+use Rattle.roster_plan_bound.proofs.TargetLemmas.{weight_told}
 use Rattle.roster_plan_bound.proofs.prospect.Prospect.table_at.Goals as goal
 
 -- the worth, as it is kept

@@ -2,7 +2,8 @@ use Rattle.std.proofs.Common.{◌≡◌, w64, to_z, of_z, FitsSigned, rules, ari
 use Rattle.std.proofs.lemmas.Int.{to_z-of_z}
 use Rattle.roster_plan_bound.specs.declared.parts.TheConstants.{MOST_SHORT}
 use Rattle.roster_plan_bound.specs.Prospects.{term_of}
-use Rattle.roster_plan_bound.proofs.ProspectLemmas.{term_is, told_in, weight_told}
+use Rattle.roster_plan_bound.proofs.ProductLemmas.{told_in}
+use Rattle.roster_plan_bound.proofs.TargetLemmas.{term_is, weight_told}
 use Rattle.roster_plan_bound.proofs.prospect.Prospect.term.Goals as goal
 
 pub returns : goal.returns
