@@ -16,7 +16,7 @@ use roster_incumbent::Sight;
 use roster_lines_table::{Table, all_lines_are_some};
 use roster_problem::Problem;
 use roster_search::{Stop, least_of_box};
-use roster_search_least::Finder;
+use roster_search_least::{Finder, LineBox};
 use roster_subtreepool_spans::{Done, Piece, Span};
 use roster_values::Roster;
 use std::alloc::{AllocError, Global};
@@ -49,46 +49,40 @@ pub fn search<S: Sight>(
         (Some (arc_value known.now)) (arc_value done.best)) }
     ensures back { IfErr result (λ refused. refused.0 ≡ piece) }
 {
-    match best_of(
-        alloc,
-        problem,
-        table,
-        tables,
-        piece.span(),
-        sight,
-        every,
-        known,
-    ) {
+    let known = match Arc::try_clone(known) {
+        Ok(known) => known,
+        Err(refused) => return Err((piece, refused)),
+    };
+    let mut watch = Watch::new(problem, table, sight, every, known);
+    match best_of(alloc, problem, table, tables, piece.span(), &mut watch) {
         Ok(best) => Ok(Done { piece, best }),
         Err(refused) => Err((piece, refused)),
     }
 }
 
-/// The roster that the search of the span answers.
+/// The roster that the search of the span answers, with a watch that has seen nothing yet.
 fn best_of<S: Sight>(
     alloc: Global,
     problem: &Problem,
     table: &Table,
     tables: &Tables<'_>,
     span: &Span,
-    sight: &mut S,
-    every: usize,
-    known: &Arc<Roster>,
+    watch: &mut Watch<'_, S>,
 ) -> Result<Arc<Roster>, AllocError>
     requires table { IsTableOf problem.now table.now }
     requires tables { tables.now ≡ priced_table problem.now table.now tables.now.prices }
-    requires known { IsHeld problem.now (arc_value known.now) }
+    requires watch { watch.old.problem ≡ problem.now }
+    requires known { IsHeld problem.now watch.old.best }
     ensures { IfOk result (λ best. Settles problem.now (IsInSpan table.now span.now)
-        (λ places. every ≡ 0 → IsInSpan table.now span.now places)
-        (Some (arc_value known.now)) (arc_value best)) }
+        (λ places. watch.old.every ≡ 0 → IsInSpan table.now span.now places)
+        (Some watch.old.best) (arc_value best)) }
 {
-    let mut watch = Watch::new(problem, table, sight, every, Arc::try_clone(known)?);
     watch.node(0, 0);
     let held = watch.best()?;
     if is_settled(alloc, tables, span, &held)? {
         return Ok(held);
     }
-    let found = least_in(alloc, problem, table, span, &held, &mut watch)?;
+    let found = least_in(alloc, problem, table, span, &held, watch)?;
     let seen = watch.best()?;
     let best = earlier_if(alloc, found, seen)?;
     Ok(best)
@@ -148,6 +142,11 @@ fn least_in<F: Finder>(
 {
     all_lines_are_some();
     let ranges = ranges_of(alloc, problem, table, span)?;
-    let found = least_of_box(alloc, problem, table, &ranges, best, finder)?;
+    let lines = LineBox {
+        problem,
+        table,
+        ranges: &ranges,
+    };
+    let found = least_of_box(alloc, &lines, best, finder)?;
     Ok(found)
 }

@@ -12,7 +12,7 @@ use roster_incumbent::{Sight, is_held};
 use roster_lines_table::Table;
 use roster_problem::Problem;
 use roster_search::{Stop, find};
-use roster_search_least::Finder;
+use roster_search_least::{Budget, Finder};
 use roster_search_regions::{DualPrices, Region};
 use roster_search_relaxation::Relaxation;
 use roster_values::Roster;
@@ -143,12 +143,9 @@ impl<'a, S: Sight> Finder for Watch<'a, S> {
         region: Region,
         prices: &DualPrices,
         relaxation: &mut Relaxation,
-        most: i64,
-        enough: i64,
+        budget: Budget,
     ) -> Result<Option<Roster>, AllocError> {
-        find(
-            alloc, problem, region, prices, relaxation, most, enough, self,
-        )
+        find(alloc, problem, region, prices, relaxation, budget, self)
     }
 
     ghost stays = { keeps_nothing };

@@ -11,65 +11,57 @@ ghost use Rattle.roster_search_regions.specs.Regions.{IsInRanges};
 
 use crate::parts::least_at;
 use roster_bases::{all_open, united};
-use roster_lines_table::Table;
 use roster_model::limits::MOST_BASES;
-use roster_problem::Problem;
-use roster_search_least::{Finder, LeastOfBase, costs_fit, if_before};
+use roster_search_least::{Finder, LeastOfBase, LineBox, costs_fit, if_before};
 use roster_values::Roster;
 use std::alloc::{AllocError, Global};
 
-/// The least roster of the box, with its cost, if its key is before that of the known roster. The box has
-/// the legal rosters in which each person has a line of the table, whose number is in the person's range:
-/// from its first number up to the second, which isn't in it. The table may have some lines only.
+/// The least roster of the box, with its cost, if its key is before that of the known roster.
 ///
 /// No line has another base's pairing, so each base is searched apart, and the answers are united. Two
 /// problems that share nothing take as long as one after the other.
 pub fn least_of_box<F: Finder>(
     alloc: Global,
-    problem: &Problem,
-    table: &Table,
-    ranges: &[(usize, usize)],
+    lines: &LineBox<'_>,
     known: &Roster,
     finder: &mut F,
 ) -> Result<Option<Roster>, AllocError>
     requires finder { F.may_find }
-    requires table { AreListed problem.now table.now }
-    requires ranges { length ranges.now ≡ length table.now }
-    requires known { IsHeld problem.now known.now }
-    ensures settled { IfOk result (λ found. Settles problem.now
-        (IsInRanges table.now ranges.now) (IsInRanges table.now ranges.now)
+    requires table { AreListed lines.now.problem.now lines.now.table.now }
+    requires ranges { length lines.now.ranges.now ≡ length lines.now.table.now }
+    requires known { IsHeld lines.now.problem.now known.now }
+    ensures settled { IfOk result (λ found. Settles lines.now.problem.now
+        (IsInRanges lines.now.table.now lines.now.ranges.now) (IsInRanges lines.now.table.now lines.now.ranges.now)
         (Some known.now) (unwrap_or found known.now)) }
     ensures before { IfOk result (IsBefore known.now) }
     ensures goes_on { F.goes_on finder.old finder.new }
 {
-    least_with(alloc, problem, table, ranges, &[], known, finder)
+    least_with(alloc, lines, &[], known, finder)
 }
 
 /// `least_of_box`, if the least rosters of some bases are known, which aren't searched again.
 pub fn least_with<F: Finder>(
     alloc: Global,
-    problem: &Problem,
-    table: &Table,
-    ranges: &[(usize, usize)],
+    lines: &LineBox<'_>,
     parts: &[LeastOfBase],
     known: &Roster,
     finder: &mut F,
 ) -> Result<Option<Roster>, AllocError>
     requires finder { F.may_find }
-    requires table { AreListed problem.now table.now }
-    requires ranges { length ranges.now ≡ length table.now }
-    requires parts { AreBaseParts problem.now table.now ranges.now parts.now }
-    requires known { IsHeld problem.now known.now }
-    ensures settled { IfOk result (λ found. Settles problem.now
-        (IsInRanges table.now ranges.now) (IsInRanges table.now ranges.now)
+    requires table { AreListed lines.now.problem.now lines.now.table.now }
+    requires ranges { length lines.now.ranges.now ≡ length lines.now.table.now }
+    requires parts { AreBaseParts lines.now.problem.now lines.now.table.now lines.now.ranges.now parts.now }
+    requires known { IsHeld lines.now.problem.now known.now }
+    ensures settled { IfOk result (λ found. Settles lines.now.problem.now
+        (IsInRanges lines.now.table.now lines.now.ranges.now) (IsInRanges lines.now.table.now lines.now.ranges.now)
         (Some known.now) (unwrap_or found known.now)) }
     ensures before { IfOk result (IsBefore known.now) }
     ensures goes_on { F.goes_on finder.old finder.new }
 {
-    costs_fit(problem);
-    problem.is_sound();
-    match united_bases(alloc, problem, table, ranges, parts, finder)? {
-        Some(places) => Ok(if_before(problem, known, places)),
+    costs_fit(lines.problem);
+    lines.problem.is_sound();
+    match united_bases(alloc, lines, parts, finder)? {
+        Some(places) => Ok(if_before(lines.problem, known, places)),
         None => Ok(None),
     }
 }
@@ -78,26 +70,24 @@ pub fn least_with<F: Finder>(
 /// no roster.
 fn united_bases<F: Finder>(
     alloc: Global,
-    problem: &Problem,
-    table: &Table,
-    ranges: &[(usize, usize)],
+    lines: &LineBox<'_>,
     parts: &[LeastOfBase],
     finder: &mut F,
 ) -> Result<Option<Vec<u16>>, AllocError>
     requires finder { F.may_find }
-    requires table { AreListed problem.now table.now }
-    requires ranges { length ranges.now ≡ length table.now }
-    requires parts { AreBaseParts problem.now table.now ranges.now parts.now }
+    requires table { AreListed lines.now.problem.now lines.now.table.now }
+    requires ranges { length lines.now.ranges.now ≡ length lines.now.table.now }
+    requires parts { AreBaseParts lines.now.problem.now lines.now.table.now lines.now.ranges.now parts.now }
     ensures least { IfOk result (λ places. MatchOption places
-        (IsWithoutPart problem.now table.now ranges.now)
-        (λ places. IsLeast problem.now
-        (IsInRanges table.now ranges.now) (key_of problem.now places.items))) }
+        (IsWithoutPart lines.now.problem.now lines.now.table.now lines.now.ranges.now)
+        (λ places. IsLeast lines.now.problem.now
+        (IsInRanges lines.now.table.now lines.now.ranges.now) (key_of lines.now.problem.now places.items))) }
     ensures goes_on { F.goes_on finder.old finder.new }
 {
-    problem.is_sound();
-    let mut places = all_open(alloc, problem)?;
+    lines.problem.is_sound();
+    let mut places = all_open(alloc, lines.problem)?;
     for base in 0..MOST_BASES {
-        match with_base(alloc, problem, table, ranges, parts, base, places, finder)? {
+        match with_base(alloc, lines, parts, base, places, finder)? {
             Some(more) => places = more,
             None => return Ok(None),
         }
@@ -108,29 +98,28 @@ fn united_bases<F: Finder>(
 /// The places with those of the least roster of one base more; or none, if it has no roster.
 fn with_base<F: Finder>(
     alloc: Global,
-    problem: &Problem,
-    table: &Table,
-    ranges: &[(usize, usize)],
+    lines: &LineBox<'_>,
     parts: &[LeastOfBase],
     base: usize,
     places: Vec<u16>,
     finder: &mut F,
 ) -> Result<Option<Vec<u16>>, AllocError>
     requires finder { F.may_find }
-    requires table { AreListed problem.now table.now }
-    requires ranges { length ranges.now ≡ length table.now }
-    requires parts { AreBaseParts problem.now table.now ranges.now parts.now }
-    requires least { IsLeast problem.now (IsInPart problem.now table.now ranges.now (before base))
-        (key_of problem.now places.items) }
+    requires table { AreListed lines.now.problem.now lines.now.table.now }
+    requires ranges { length lines.now.ranges.now ≡ length lines.now.table.now }
+    requires parts { AreBaseParts lines.now.problem.now lines.now.table.now lines.now.ranges.now parts.now }
+    requires least { IsLeast lines.now.problem.now
+        (IsInPart lines.now.problem.now lines.now.table.now lines.now.ranges.now (before base))
+        (key_of lines.now.problem.now places.items) }
     ensures least { IfOk result (λ more. MatchOption more
-        (IsWithoutPart problem.now table.now ranges.now)
-        (λ more. IsLeast problem.now
-        (IsInPart problem.now table.now ranges.now (before (base + 1)))
-        (key_of problem.now more.items))) }
+        (IsWithoutPart lines.now.problem.now lines.now.table.now lines.now.ranges.now)
+        (λ more. IsLeast lines.now.problem.now
+        (IsInPart lines.now.problem.now lines.now.table.now lines.now.ranges.now (before (base + 1)))
+        (key_of lines.now.problem.now more.items))) }
     ensures goes_on { F.goes_on finder.old finder.new }
 {
-    match least_at(alloc, problem, table, ranges, parts, base, finder)? {
-        Some(part) => Ok(Some(united(alloc, problem, base, &part, &places)?)),
+    match least_at(alloc, lines, parts, base, finder)? {
+        Some(part) => Ok(Some(united(alloc, lines.problem, base, &part, &places)?)),
         None => Ok(None),
     }
 }

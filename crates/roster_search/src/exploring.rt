@@ -8,7 +8,7 @@ ghost use Rattle.roster_search.specs.Open.{limit_of, weight_of, ArePartsOf, IsEx
 use crate::stop::Stop;
 use crate::visiting::{OpenNode, Visited, visit};
 use roster_problem::Problem;
-use roster_search_least::roster_in;
+use roster_search_least::{Budget, roster_in};
 use roster_search_regions::{DualPrices, Region};
 use roster_search_relaxation::Relaxation;
 use roster_values::Roster;
@@ -41,18 +41,18 @@ pub fn first_nodes(
 
 /// What a roster may cost that costs less than the best one so far, and at most so much; or none, if the search
 /// is over: the best one costs no more than is enough, or nothing is left.
-pub fn limit(most: i64, enough: i64, best: &Option<Roster>, left: &[OpenNode]) -> Option<i64>
-    ensures limit { IfSome result (λ limit. limit ≡ limit_of most best.now) }
+pub fn limit(budget: Budget, best: &Option<Roster>, left: &[OpenNode]) -> Option<i64>
+    ensures limit { IfSome result (λ limit. limit ≡ limit_of budget.most best.now) }
     ensures left { IfSome result (λ _. 0 < length left.now) }
-    ensures over { result ≡ None → IsOver enough best.now left.now }
+    ensures over { result ≡ None → IsOver budget.enough best.now left.now }
 {
     if left.is_empty() {
         return None;
     }
     match best {
-        Some(roster) if roster.cost <= enough => None,
+        Some(roster) if roster.cost <= budget.enough => None,
         Some(roster) => Some(roster.cost - 1),
-        None => Some(most),
+        None => Some(budget.most),
     }
 }
 
@@ -65,19 +65,18 @@ pub fn explore<S: Stop>(
     problem: &Problem,
     whole: &Region,
     nodes: Vec<OpenNode>,
-    most: i64,
-    enough: i64,
+    budget: Budget,
     relaxation: &mut Relaxation,
     stop: &mut S,
 ) -> Result<Explored, AllocError>
     requires { ArePartsOf problem.now whole.now nodes.items }
     ensures explored { IfOk result (λ explored. IsExplored problem.now (IsIn problem.now whole.now)
-        (IsInSome problem.now nodes.items) most explored.best explored.left.items) }
+        (IsInSome problem.now nodes.items) budget.most explored.best explored.left.items) }
     ensures goes_on { S.goes_on stop.old stop.new }
 {
     let mut left = nodes;
     let mut best = None;
-    while let Some(most) = limit(most, enough, &best, &left) {
+    while let Some(most) = limit(budget, &best, &left) {
         if !stop.node(lines_of_last(problem, &left), left.len() - 1) {
             break;
         }

@@ -7,7 +7,7 @@ ghost use Rattle.roster_search_regions.specs.Regions.{IsIn, IsRegion};
 use crate::exploring::{Explored, explore, first_nodes, limit};
 use crate::stop::{Never, Stop};
 use roster_problem::Problem;
-use roster_search_least::Finder;
+use roster_search_least::{Budget, Finder};
 use roster_search_regions::{DualPrices, Region};
 use roster_search_relaxation::Relaxation;
 use roster_values::Roster;
@@ -24,20 +24,19 @@ pub fn find<S: Stop>(
     region: Region,
     prices: &DualPrices,
     relaxation: &mut Relaxation,
-    most: i64,
-    enough: i64,
+    budget: Budget,
     stop: &mut S,
 ) -> Result<Option<Roster>, AllocError>
     requires region { IsRegion problem.now region }
     ensures found { IfOk result
-        (IsCheapestWithin problem.now (IsIn problem.now region) most enough) }
+        (IsCheapestWithin problem.now (IsIn problem.now region) budget.most budget.enough) }
     ensures goes_on { S.goes_on stop.old stop.new }
 {
     let nodes = first_nodes(alloc, &region, prices)?;
     let Explored { best, left } = explore(
-        alloc, problem, &region, nodes, most, enough, relaxation, stop,
+        alloc, problem, &region, nodes, budget, relaxation, stop,
     )?;
-    match limit(most, enough, &best, &left) {
+    match limit(budget, &best, &left) {
         Some(_) => Err(AllocError),
         None => Ok(best),
     }
@@ -55,12 +54,9 @@ impl Finder for Never {
         region: Region,
         prices: &DualPrices,
         relaxation: &mut Relaxation,
-        most: i64,
-        enough: i64,
+        budget: Budget,
     ) -> Result<Option<Roster>, AllocError> {
-        find(
-            alloc, problem, region, prices, relaxation, most, enough, self,
-        )
+        find(alloc, problem, region, prices, relaxation, budget, self)
     }
 
     ghost stays = { λ now. tt };

@@ -9,7 +9,7 @@ use crate::root::root_prices;
 use crate::stop::Stop;
 use roster_lines_table::Table;
 use roster_problem::Problem;
-use roster_search_least::{Finder, least_of_region, whole};
+use roster_search_least::{Budget, Finder, least_of_region, whole};
 use roster_search_regions::{DualPrices, Region};
 use roster_search_relaxation::Relaxation;
 use roster_values::Roster;
@@ -114,12 +114,9 @@ impl Finder for Patience {
         region: Region,
         prices: &DualPrices,
         relaxation: &mut Relaxation,
-        most: i64,
-        enough: i64,
+        budget: Budget,
     ) -> Result<Option<Roster>, AllocError> {
-        find(
-            alloc, problem, region, prices, relaxation, most, enough, self,
-        )
+        find(alloc, problem, region, prices, relaxation, budget, self)
     }
 
     ghost stays = { λ now. tt };

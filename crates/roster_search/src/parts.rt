@@ -7,9 +7,7 @@ ghost use Rattle.roster_search_least.specs.Parts.{AreBaseParts, IsInPart};
 ghost use Rattle.roster_lines_table.specs.Person.{AreListed};
 
 use crate::root::root_prices;
-use roster_lines_table::Table;
-use roster_problem::Problem;
-use roster_search_least::{Finder, LeastOfBase, least_in, region_of_base};
+use roster_search_least::{Finder, LeastOfBase, LineBox, least_in, region_of_base};
 use roster_search_regions::DualPrices;
 use roster_values::Roster;
 use std::alloc::{AllocError, Global};
@@ -17,19 +15,17 @@ use std::alloc::{AllocError, Global};
 /// `least_of_base`, which is looked up among the parts first.
 pub(crate) fn least_at<F: Finder>(
     alloc: Global,
-    problem: &Problem,
-    table: &Table,
-    ranges: &[(usize, usize)],
+    lines: &LineBox<'_>,
     parts: &[LeastOfBase],
     base: usize,
     finder: &mut F,
 ) -> Result<Option<Roster>, AllocError>
     requires finder { F.may_find }
-    requires table { AreListed problem.now table.now }
-    requires ranges { length ranges.now ≡ length table.now }
-    requires parts { AreBaseParts problem.now table.now ranges.now parts.now }
-    ensures least { IfOk result (IsLeastBelow problem.now
-        (IsInPart problem.now table.now ranges.now (only base)) (pos (2 ^ 63 - 1))) }
+    requires table { AreListed lines.now.problem.now lines.now.table.now }
+    requires ranges { length lines.now.ranges.now ≡ length lines.now.table.now }
+    requires parts { AreBaseParts lines.now.problem.now lines.now.table.now lines.now.ranges.now parts.now }
+    ensures least { IfOk result (IsLeastBelow lines.now.problem.now
+        (IsInPart lines.now.problem.now lines.now.table.now lines.now.ranges.now (only base)) (pos (2 ^ 63 - 1))) }
     ensures goes_on { F.goes_on finder.old finder.new }
 {
     for i in 0..parts.len() {
@@ -38,7 +34,7 @@ pub(crate) fn least_at<F: Finder>(
             return copy_if(alloc, &part.1);
         }
     }
-    least_of_base(alloc, problem, table, ranges, base, finder)
+    least_of_base(alloc, lines, base, finder)
 }
 
 /// The same roster again, if there is one.
@@ -55,21 +51,19 @@ fn copy_if(alloc: Global, roster: &Option<Roster>) -> Result<Option<Roster>, All
 /// if there is one.
 fn least_of_base<F: Finder>(
     alloc: Global,
-    problem: &Problem,
-    table: &Table,
-    ranges: &[(usize, usize)],
+    lines: &LineBox<'_>,
     base: usize,
     finder: &mut F,
 ) -> Result<Option<Roster>, AllocError>
     requires finder { F.may_find }
-    requires table { AreListed problem.now table.now }
-    requires ranges { length ranges.now ≡ length table.now }
-    ensures least { IfOk result (IsLeastBelow problem.now
-        (IsInPart problem.now table.now ranges.now (only base)) (pos (2 ^ 63 - 1))) }
+    requires table { AreListed lines.now.problem.now lines.now.table.now }
+    requires ranges { length lines.now.ranges.now ≡ length lines.now.table.now }
+    ensures least { IfOk result (IsLeastBelow lines.now.problem.now
+        (IsInPart lines.now.problem.now lines.now.table.now lines.now.ranges.now (only base)) (pos (2 ^ 63 - 1))) }
     ensures goes_on { F.goes_on finder.old finder.new }
 {
-    let region = region_of_base(alloc, problem, table, ranges, base)?;
-    let first = DualPrices::of_penalties(alloc, problem, &region)?;
-    let root = root_prices(alloc, problem, &region, &first, i64::MAX)?;
-    least_in(alloc, problem, table, ranges, base, region, root, finder)
+    let region = region_of_base(alloc, lines, base)?;
+    let first = DualPrices::of_penalties(alloc, lines.problem, &region)?;
+    let root = root_prices(alloc, lines.problem, &region, &first, i64::MAX)?;
+    least_in(alloc, lines, base, region, root, finder)
 }

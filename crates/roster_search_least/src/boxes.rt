@@ -12,6 +12,18 @@ use roster_problem::Problem;
 use roster_values::{Places, Roster};
 use std::alloc::{AllocError, Global};
 
+/// The box of the legal rosters in which each person has a line of the table, whose number is in the person's
+/// range: from its first number up to the second, which isn't in it. The table may have some lines only.
+#[derive(Drop)]
+pub struct LineBox<'a> {
+    /// The problem.
+    pub problem: &'a Problem,
+    /// The lines of each of its persons.
+    pub table: &'a Table,
+    /// The range of each person.
+    pub ranges: &'a [(usize, usize)],
+}
+
 /// The range of all lines, for each person.
 pub fn whole(
     alloc: Global,

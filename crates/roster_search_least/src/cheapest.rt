@@ -4,12 +4,12 @@ ghost use Rattle.std.specs.Prelude.{◌≤ℤ◌, ◌<ℤ◌, IfOk};
 ghost use Rattle.roster_search_regions.specs.Regions.{IsIn, IsRegion};
 ghost use Rattle.roster_search_least.specs.Least.{CostsAtLeast, IsCheapestBelow};
 
-use crate::finder::Finder;
+use crate::finder::{Budget, Finder};
+use crate::least::RootPrices;
 use crate::tuning::{MOST_GAP, STEP_GROWTH, STEPS_OF_GAP};
 use roster_problem::Problem;
 use roster_search_fixing::cost_above;
-use roster_search_regions::{DualPrices, Region};
-use roster_search_relaxation::Relaxation;
+use roster_search_regions::Region;
 use roster_values::Roster;
 use std::alloc::{AllocError, Global};
 
@@ -24,10 +24,8 @@ pub(crate) fn cheapest<F: Finder>(
     alloc: Global,
     problem: &Problem,
     region: &Region,
-    prices: &DualPrices,
-    relaxation: &mut Relaxation,
+    root: &mut RootPrices,
     least: i64,
-    likely: i64,
     limit: i64,
     finder: &mut F,
 ) -> Result<Option<Roster>, AllocError>
@@ -39,18 +37,18 @@ pub(crate) fn cheapest<F: Finder>(
     ensures goes_on { F.goes_on finder.old finder.new }
 {
     let mut low = least;
-    let mut wanted = likely.saturating_sub(1);
+    let mut wanted = root.likely.saturating_sub(1);
     let mut step: i64 = 0;
     while low < limit {
         let most = raised(low, limit, wanted);
+        let budget = Budget { most, enough: low };
         match finder.find(
             alloc,
             problem,
             region.copy(alloc)?,
-            prices,
-            relaxation,
-            most,
-            low,
+            &root.prices,
+            &mut root.relaxation,
+            budget,
         )? {
             Some(roster) => return Ok(Some(roster)),
             None => low = cost_above(problem, region, most),

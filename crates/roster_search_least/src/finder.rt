@@ -10,6 +10,15 @@ use roster_search_relaxation::Relaxation;
 use roster_values::Roster;
 use std::alloc::{AllocError, Global};
 
+/// What a roster that is sought may cost, in cost units.
+#[derive(Clone, Copy)]
+pub struct Budget {
+    /// It costs at most so much.
+    pub most: i64,
+    /// One that costs no more than this is enough: a cheaper one isn't sought then.
+    pub enough: i64,
+}
+
 /// Finds a roster of a region that costs at most so much: one thread, or several.
 pub trait Finder {
     /// Whether it may be asked.
@@ -28,13 +37,12 @@ pub trait Finder {
         region: Region,
         prices: &DualPrices,
         relaxation: &mut Relaxation,
-        most: i64,
-        enough: i64,
+        budget: Budget,
     ) -> Result<Option<Roster>, AllocError>
         requires may_find { may_find }
         requires region { IsRegion problem.now region }
         ensures found { IfOk result
-            (IsCheapestWithin problem.now (IsIn problem.now region) most enough) }
+            (IsCheapestWithin problem.now (IsIn problem.now region) budget.most budget.enough) }
         ensures goes_on { goes_on self.old self.new };
 
     ghost stays: { (now : Self) → goes_on now now };

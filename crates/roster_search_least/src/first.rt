@@ -8,10 +8,10 @@ ghost use Rattle.roster_search_fixing.specs.Propagation.{IsEmpty};
 ghost use Rattle.roster_search_least.specs.Firsts.{AgreeBefore, IsSettledAt};
 ghost use Rattle.roster_search_least.specs.Least.{CostsAtLeast};
 
-use crate::finder::Finder;
+use crate::finder::{Budget, Finder};
+use crate::least::RootPrices;
 use roster_problem::{Problem, open_number};
-use roster_search_regions::{DualPrices, Region};
-use roster_search_relaxation::Relaxation;
+use roster_search_regions::Region;
 use roster_values::Roster;
 use std::alloc::{AllocError, Global};
 
@@ -25,8 +25,7 @@ pub(crate) fn first<F: Finder>(
     problem: &Problem,
     region: &mut Region,
     roster: &mut Roster,
-    prices: &DualPrices,
-    relaxation: &mut Relaxation,
+    root: &mut RootPrices,
     finder: &mut F,
 ) -> Result<(), AllocError>
     requires finder { F.may_find }
@@ -38,9 +37,7 @@ pub(crate) fn first<F: Finder>(
     ensures goes_on { F.goes_on finder.old finder.new }
 {
     for p in 0..problem.pairings().len() {
-        settle(
-            alloc, problem, region, roster, prices, relaxation, p, finder,
-        )?;
+        settle(alloc, problem, region, roster, root, p, finder)?;
         if is_empty(problem, region) {
             return Ok(());
         }
@@ -68,8 +65,7 @@ fn settle<F: Finder>(
     problem: &Problem,
     region: &mut Region,
     roster: &mut Roster,
-    prices: &DualPrices,
-    relaxation: &mut Relaxation,
+    root: &mut RootPrices,
     p: usize,
     finder: &mut F,
 ) -> Result<(), AllocError>
@@ -80,9 +76,7 @@ fn settle<F: Finder>(
         (IsSettledAt problem.now p region.old roster.old region.new roster.new) }
     ensures goes_on { F.goes_on finder.old finder.new }
 {
-    if let Some(earlier) = earlier_at(
-        alloc, problem, region, roster, prices, relaxation, p, finder,
-    )? {
+    if let Some(earlier) = earlier_at(alloc, problem, region, roster, root, p, finder)? {
         *roster = earlier;
     }
     Ok(())
@@ -95,8 +89,7 @@ fn earlier_at<F: Finder>(
     problem: &Problem,
     region: &mut Region,
     roster: &Roster,
-    prices: &DualPrices,
-    relaxation: &mut Relaxation,
+    root: &mut RootPrices,
     p: usize,
     finder: &mut F,
 ) -> Result<Option<Roster>, AllocError>
@@ -110,9 +103,8 @@ fn earlier_at<F: Finder>(
     let number = roster.places.as_slice()[p];
     let cost = roster.cost;
     for k in 0..usize::from(number) {
-        match with_person(
-            alloc, problem, region, k, p, prices, relaxation, cost, finder,
-        )? {
+        let holder = Holder { k, p };
+        match with_holder(alloc, problem, region, holder, root, cost, finder)? {
             Some(earlier) => {
                 region.give(alloc, problem, k, p)?;
                 return Ok(Some(earlier));
@@ -124,42 +116,55 @@ fn earlier_at<F: Finder>(
     Ok(None)
 }
 
-/// Some roster of the region that costs at most so much and in which person `k` has the pairing at place
-/// `p`, or none, and then each of them costs more.
-fn with_person<F: Finder>(
+/// A person, and a pairing that the person is to have, by their places.
+#[derive(Clone, Copy)]
+struct Holder {
+    k: usize,
+    p: usize,
+}
+
+/// Some roster of the region that costs at most so much and in which the holder has the pairing, or none, and
+/// then each of them costs more.
+fn with_holder<F: Finder>(
     alloc: Global,
     problem: &Problem,
     region: &Region,
-    k: usize,
-    p: usize,
-    prices: &DualPrices,
-    relaxation: &mut Relaxation,
+    holder: Holder,
+    root: &mut RootPrices,
     most: i64,
     finder: &mut F,
 ) -> Result<Option<Roster>, AllocError>
     requires finder { F.may_find }
     requires region { IsRegion problem.now region.now }
-    requires person { k < length problem.now.persons }
-    requires pairing { p < length problem.now.pairings }
+    requires person { holder.k < length problem.now.persons }
+    requires pairing { holder.p < length problem.now.pairings }
     ensures found { IfOk result (IsFoundWithin problem.now
-        (λ places. IsIn problem.now region.now places × Has k p places) most) }
+        (λ places. IsIn problem.now region.now places × Has holder.k holder.p places) most) }
     ensures goes_on { F.goes_on finder.old finder.new }
 {
-    if !may_have(problem, region, k, p) {
+    if !may_have(problem, region, holder) {
         return Ok(None);
     }
     let mut given = region.copy(alloc)?;
-    given.give(alloc, problem, k, p)?;
-    finder.find(alloc, problem, given, prices, relaxation, most, most)
+    given.give(alloc, problem, holder.k, holder.p)?;
+    let budget = Budget { most, enough: most };
+    finder.find(
+        alloc,
+        problem,
+        given,
+        &root.prices,
+        &mut root.relaxation,
+        budget,
+    )
 }
 
-/// Whether some line that the region leaves person `k` has the pairing at place `p`.
-fn may_have(problem: &Problem, region: &Region, k: usize, p: usize) -> bool
+/// Whether some line that the region leaves the holder has the pairing.
+fn may_have(problem: &Problem, region: &Region, holder: Holder) -> bool
     requires region { IsRegion problem.now region.now }
-    requires person { k < length problem.now.persons }
-    ensures { result ≡ false → IsWhollyIn problem.now region.now (HasNot k p) }
+    requires person { holder.k < length problem.now.persons }
+    ensures { result ≡ false → IsWhollyIn problem.now region.now (HasNot holder.k holder.p) }
 {
-    region.possible(k).has(p)
+    region.possible(holder.k).has(holder.p)
 }
 
 /// Leaves in the region only rosters that have the number at place `p`.

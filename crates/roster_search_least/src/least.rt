@@ -49,35 +49,12 @@ pub fn least_of_region<F: Finder>(
 {
     costs_fit(problem);
     let mut region = region;
-    let RootPrices {
-        prices,
-        mut relaxation,
-        likely,
-        rounded,
-    } = root;
-    let known = known_below(alloc, problem, &region, rounded, limit)?;
-    match cheapest_from(
-        alloc,
-        problem,
-        &region,
-        &prices,
-        &mut relaxation,
-        likely,
-        known,
-        limit,
-        finder,
-    )? {
+    let mut root = root;
+    let known = known_below(alloc, problem, &region, root.rounded.take(), limit)?;
+    match cheapest_from(alloc, problem, &region, &mut root, known, limit, finder)? {
         Some(roster) => {
             let mut roster = roster;
-            first_of_all(
-                alloc,
-                problem,
-                &mut region,
-                &mut roster,
-                &prices,
-                &mut relaxation,
-                finder,
-            )?;
+            first_of_all(alloc, problem, &mut region, &mut roster, &mut root, finder)?;
             Ok(Some(roster))
         }
         None => Ok(None),
@@ -134,9 +111,7 @@ fn cheapest_from<F: Finder>(
     alloc: Global,
     problem: &Problem,
     region: &Region,
-    prices: &DualPrices,
-    relaxation: &mut Relaxation,
-    likely: i64,
+    root: &mut RootPrices,
     known: Option<Roster>,
     limit: i64,
     finder: &mut F,
@@ -154,17 +129,7 @@ fn cheapest_from<F: Finder>(
         Some(roster) => roster.cost,
         None => limit,
     };
-    match cheapest(
-        alloc,
-        problem,
-        region,
-        prices,
-        relaxation,
-        i64::MIN,
-        likely,
-        most,
-        finder,
-    )? {
+    match cheapest(alloc, problem, region, root, i64::MIN, most, finder)? {
         Some(roster) => Ok(Some(roster)),
         None => Ok(known),
     }
@@ -177,8 +142,7 @@ fn first_of_all<F: Finder>(
     problem: &Problem,
     region: &mut Region,
     roster: &mut Roster,
-    prices: &DualPrices,
-    relaxation: &mut Relaxation,
+    root: &mut RootPrices,
     finder: &mut F,
 ) -> Result<(), AllocError>
     requires finder { F.may_find }
@@ -189,10 +153,10 @@ fn first_of_all<F: Finder>(
         (IsIn problem.now region.old) (Some roster.old) roster.new) }
     ensures goes_on { F.goes_on finder.old finder.new }
 {
-    if !tighten(alloc, problem, region, prices.prices(), 0, roster.cost)? {
+    if !tighten(alloc, problem, region, root.prices.prices(), 0, roster.cost)? {
         return Ok(());
     }
-    first(alloc, problem, region, roster, prices, relaxation, finder)
+    first(alloc, problem, region, roster, root, finder)
 }
 
 /// What a legal roster costs fits an `i64`, and is less than the greatest.

@@ -22,7 +22,7 @@ mod least;
 mod parts;
 mod tuning;
 
-pub use boxes::{if_before, whole};
-pub use finder::Finder;
+pub use boxes::{LineBox, if_before, whole};
+pub use finder::{Budget, Finder};
 pub use least::{RootPrices, costs_fit, least_of_region, roster_in};
 pub use parts::{LeastOfBase, least_in, region_of_base};

@@ -17,6 +17,15 @@ use std::alloc::{AllocError, Global};
 /// One whole, of which covers are parts.
 pub(crate) const WHOLE: u64 = 65_536;
 
+/// What a look is taken at: the prices, the persons and pairings that are left, and how far above the least of
+/// its person a line is listed, if any is.
+#[derive(Clone, Copy)]
+pub(crate) struct Aim<'a> {
+    pub(crate) prices: &'a DualPrices,
+    pub(crate) scope: &'a Scope,
+    pub(crate) reach: Option<i64>,
+}
+
 /// Some lines of person `k`, as a tree.
 #[derive(Drop)]
 pub(crate) struct List {
@@ -83,19 +92,17 @@ impl Look {
         alloc: Global,
         problem: &Problem,
         region: &Region,
-        prices: &DualPrices,
-        scope: &Scope,
-        reach: Option<i64>,
+        aim: Aim<'_>,
         turn: usize,
         turns: usize,
     )
         requires region { IsRegion problem.now region.now }
         requires turns { 0 < turns }
     {
-        self.clear(scope.pairings());
-        for (i, k) in scope.persons().iter().enumerate() {
+        self.clear(aim.scope.pairings());
+        for (i, k) in aim.scope.persons().iter().enumerate() {
             if i % turns == turn && *k < problem.persons().len() {
-                let looked = self.at_person(alloc, region, prices, scope, reach, *k);
+                let looked = self.at_person(alloc, region, aim, *k);
                 if looked.is_err() {
                     self.failed = true;
                 }
@@ -108,17 +115,16 @@ impl Look {
         &mut self,
         alloc: Global,
         region: &Region,
-        prices: &DualPrices,
-        scope: &Scope,
-        reach: Option<i64>,
+        aim: Aim<'_>,
         k: usize,
     ) -> Result<(), AllocError>
         requires { k < length region.now.choices }
     {
         let all = PersonLines::All(region.choices(k));
-        let least = self.add(&all, scope, prices.prices(), prices.softness())?;
+        let (prices, softness) = (aim.prices.prices(), aim.prices.softness());
+        let least = self.add(&all, aim.scope, prices, softness)?;
         self.bound = self.bound.wrapping_add(least);
-        if let Some(reach) = reach {
+        if let Some(reach) = aim.reach {
             let few = self.values.len() / NEAR_PART + FEW_NEAR_LINES;
             let choices = match most_of_few(&self.values, least, reach, few) {
                 Some(most) => lines_within(alloc, &all, &self.values, most)?,

@@ -4,7 +4,7 @@ ghost use Rattle.std.specs.Prelude.{◌<◌};
 ghost use Rattle.roster_search_regions.specs.Regions.{IsRegion};
 
 use crate::ascent::Ascent;
-use crate::look::Look;
+use crate::look::{Aim, Look};
 use crate::tuning::{FAIR_RISE, FEW_LINES_AT_A_NODE, FIXING_RISE, NEAR_HALVINGS, SAMPLE_LINES};
 use roster_problem::Problem;
 use roster_search_regions::{LINES_FOR_THREADS, Region};
@@ -82,10 +82,14 @@ impl Ascent {
         requires threads { 0 < threads }
     {
         add_looks(alloc, &mut self.looks, threads, problem.pairings().len())?;
-        let (prices, scope) = (&self.now, &self.scope);
+        let aim = Aim {
+            prices: &self.now,
+            scope: &self.scope,
+            reach,
+        };
         let look = |nth: usize, look: &mut Look|
             requires { IsRegion problem.now region.now × (0 < threads) }
-        { look.at_every(alloc, problem, region, prices, scope, reach, nth, threads) };
+        { look.at_every(alloc, problem, region, aim, nth, threads) };
         for_each_mut(rt, &mut self.looks, threads, &look);
         self.gather()
     }
@@ -112,9 +116,12 @@ impl Ascent {
     ) -> Result<(), AllocError>
         requires { IsRegion problem.now region.now }
     {
-        let (prices, scope) = (&self.now, &self.scope);
-        self.look
-            .at_every(alloc, problem, region, prices, scope, reach, 0, 1);
+        let aim = Aim {
+            prices: &self.now,
+            scope: &self.scope,
+            reach,
+        };
+        self.look.at_every(alloc, problem, region, aim, 0, 1);
         self.look.whole()
     }
 

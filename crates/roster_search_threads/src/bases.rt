@@ -10,7 +10,7 @@ use roster_incumbent::Gate;
 use roster_lines_table::{Table, all_lines_are_some};
 use roster_problem::Problem;
 use roster_search::{Never, least_with};
-use roster_search_least::whole;
+use roster_search_least::{LineBox, whole};
 use roster_values::Roster;
 use std::alloc::{AllocError, Global};
 use std::sync::Wait;
@@ -38,7 +38,11 @@ pub fn search_bases<R: Threads + Wait + Sync, G: Gate + Sync>(
 {
     all_lines_are_some();
     let ranges = whole(alloc, problem, table)?;
-    let ranges = ranges.as_slice();
-    let parts = parts_by_threads(rt, alloc, problem, table, ranges, threads, gate)?;
-    least_with(alloc, problem, table, ranges, &parts, known, &mut Never)
+    let lines = LineBox {
+        problem,
+        table,
+        ranges: ranges.as_slice(),
+    };
+    let parts = parts_by_threads(rt, alloc, &lines, threads, gate)?;
+    least_with(alloc, &lines, &parts, known, &mut Never)
 }

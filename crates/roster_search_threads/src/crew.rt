@@ -7,13 +7,13 @@ ghost use Rattle.roster_search_regions.specs.Regions.{IsIn, Region as PlainRegio
 ghost use Rattle.roster_search.specs.Open.{ArePartsOf};
 ghost use Rattle.roster_search_threads.specs.Explored.{AreExplored};
 
-use crate::exploring::{explore_together, or_best};
+use crate::exploring::{Lent, explore_together, or_best};
 use crate::idle::{Halves, Idle};
 use crate::member::MOST_TIMES;
 use roster_incumbent::{Gate, Incumbent, Point};
 use roster_problem::Problem;
 use roster_search::{Explored, Never, explore, first_nodes, limit};
-use roster_search_least::Finder;
+use roster_search_least::{Budget, Finder};
 use roster_search_regions::{DualPrices, Region};
 use roster_search_relaxation::Relaxation;
 use roster_values::{Places, Roster};
@@ -55,27 +55,21 @@ impl<'r, R: Threads + Wait + Sync, G: Gate> Finder for Crew<'r, R, G> {
         region: Region,
         prices: &DualPrices,
         relaxation: &mut Relaxation,
-        most: i64,
-        enough: i64,
+        budget: Budget,
     ) -> Result<Option<Roster>, AllocError> {
         self.gate.pass(self.worker, Point::Base);
         let nodes = first_nodes(alloc, &region, prices)?;
         let best = nothing_found(alloc)?;
-        let explored = explore_together(
-            self.rt,
+        let lent = Lent {
             alloc,
             problem,
-            &region,
-            nodes,
-            most,
-            enough,
-            relaxation,
-            MOST_TIMES,
-            &best,
-            self.idle,
-            &Halves::one(),
-        )?;
-        end_alone(alloc, problem, &region, explored, most, enough, relaxation)
+            whole: &region,
+            best: &best,
+            idle: self.idle,
+        };
+        let (rt, halves) = (self.rt, Halves::one());
+        let explored = explore_together(rt, &lent, nodes, budget, relaxation, MOST_TIMES, &halves)?;
+        end_alone(alloc, problem, &region, explored, budget, relaxation)
     }
 
     ghost stays = { λ now. tt };
@@ -98,24 +92,22 @@ fn end_alone(
     problem: &Problem,
     whole: &Region,
     explored: Explored,
-    most: i64,
-    enough: i64,
+    budget: Budget,
     relaxation: &mut Relaxation,
 ) -> Result<Option<Roster>, AllocError>
     requires { ArePartsOf problem.now whole.now explored.left.items }
     ensures { IfOk result (λ found. (nodes : List PlainRegion) → nodes ≡ [] ++ whole.now ∷ []
-        → AreExplored problem.now whole.now nodes most explored
-        → IsCheapestWithin problem.now (IsIn problem.now whole.now) most enough found) }
+        → AreExplored problem.now whole.now nodes budget.most explored
+        → IsCheapestWithin problem.now (IsIn problem.now whole.now) budget.most budget.enough found) }
 {
     let Explored { best, left } = explored;
-    let Some(less) = limit(most, enough, &best, &left) else {
+    let Some(most) = limit(budget, &best, &left) else {
         return Ok(best);
     };
-    let rest = explore(
-        alloc, problem, whole, left, less, enough, relaxation, &mut Never,
-    )?;
+    let less = Budget { most, ..budget };
+    let rest = explore(alloc, problem, whole, left, less, relaxation, &mut Never)?;
     let Explored { best, left } = or_best(rest, best);
-    match limit(most, enough, &best, &left) {
+    match limit(budget, &best, &left) {
         Some(_) => Err(AllocError),
         None => Ok(best),
     }

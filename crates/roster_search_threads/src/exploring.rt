@@ -12,12 +12,24 @@ use crate::member::Member;
 use roster_incumbent::Incumbent;
 use roster_problem::Problem;
 use roster_search::{Explored, OpenNode, explore, limit};
+use roster_search_least::Budget;
 use roster_search_regions::Region;
 use roster_search_relaxation::Relaxation;
 use roster_values::Roster;
 use std::alloc::{AllocError, Global};
 use std::sync::Wait;
 use std::thread::{Threads, join};
+
+/// What the threads that explore a region together are lent: memory, the problem, the whole region, the best
+/// roster that any of them has found, and how many have nothing to do.
+#[derive(Drop)]
+pub(crate) struct Lent<'a> {
+    pub(crate) alloc: Global,
+    pub(crate) problem: &'a Problem,
+    pub(crate) whole: &'a Region,
+    pub(crate) best: &'a Incumbent,
+    pub(crate) idle: &'a Idle,
+}
 
 /// Explores the open nodes, which are parts of the whole region: the cheapest roster of the whole that was
 /// found and costs at most so much, and what is left to search.
@@ -28,40 +40,35 @@ use std::thread::{Threads, join};
 #[cycle(together)]
 pub(crate) fn explore_together<R: Threads + Wait + Sync>(
     rt: &R,
-    alloc: Global,
-    problem: &Problem,
-    whole: &Region,
+    lent: &Lent<'_>,
     nodes: Vec<OpenNode>,
-    most: i64,
-    enough: i64,
+    budget: Budget,
     relaxation: &mut Relaxation,
     times: usize,
-    best: &Incumbent,
-    idle: &Idle,
     halves: &Halves,
 ) -> Result<Explored, AllocError>
-    requires { ArePartsOf problem.now whole.now nodes.items }
-    ensures { IfOk result (AreExplored problem.now whole.now nodes.items most) }
+    requires { ArePartsOf lent.now.problem.now lent.now.whole.now nodes.items }
+    ensures { IfOk result
+        (AreExplored lent.now.problem.now lent.now.whole.now nodes.items budget.most) }
 {
-    let mut member = Member::new(rt, alloc, best, idle, times);
+    let (problem, whole) = (lent.problem, lent.whole);
+    let mut member = Member::new(rt, lent.alloc, lent.best, lent.idle, times);
     let Explored { best: found, left } = explore(
-        alloc,
+        lent.alloc,
         problem,
         whole,
         nodes,
-        most,
-        enough,
+        budget,
         relaxation,
         &mut member,
     )?;
-    let Some(less) = limit(most, enough, &found, &left) else {
-        halves.end(idle);
+    let Some(most) = limit(budget, &found, &left) else {
+        halves.end(lent.idle);
         return Ok(Explored { best: found, left });
     };
-    let next = explore_halves(
-        rt, alloc, problem, whole, left, less, enough, relaxation, times, best, idle,
-    )?;
-    halves.end(idle);
+    let less = Budget { most, ..budget };
+    let next = explore_halves(rt, lent, left, less, relaxation, times)?;
+    halves.end(lent.idle);
     Ok(or_best(next, found))
 }
 
@@ -69,41 +76,57 @@ pub(crate) fn explore_together<R: Threads + Wait + Sync>(
 #[cycle(together)]
 fn explore_halves<R: Threads + Wait + Sync>(
     rt: &R,
-    alloc: Global,
-    problem: &Problem,
-    whole: &Region,
+    lent: &Lent<'_>,
     nodes: Vec<OpenNode>,
-    most: i64,
-    enough: i64,
+    budget: Budget,
     relaxation: &Relaxation,
     times: usize,
-    best: &Incumbent,
-    idle: &Idle,
 ) -> Result<Explored, AllocError>
-    requires { ArePartsOf problem.now whole.now nodes.items }
-    ensures { IfOk result (AreExplored problem.now whole.now nodes.items most) }
+    requires { ArePartsOf lent.now.problem.now lent.now.whole.now nodes.items }
+    ensures { IfOk result
+        (AreExplored lent.now.problem.now lent.now.whole.now nodes.items budget.most) }
 {
     let Some(fewer) = times.checked_sub(1) else {
         return Ok(unexplored(nodes));
     };
-    let (mine, theirs) = dealt(alloc, problem, nodes)?;
+    let (mine, theirs) = dealt(lent.alloc, lent.problem, nodes)?;
     let halves = Halves::both();
     let halves = &halves;
+    // A closure says nothing of what lies behind two references, so each half is lent these anew.
+    let Lent {
+        alloc,
+        problem,
+        whole,
+        best,
+        idle,
+    } = *lent;
     let here = move || -> Result<Explored, AllocError>
         requires { IsSync R.row × ArePartsOf problem.now whole.now mine.items }
-        ensures { IfOk result (AreExplored problem.entry.now whole.entry.now mine.items most) }
+        ensures { IfOk result
+            (AreExplored problem.entry.now whole.entry.now mine.items budget.most) }
     {
-        explore_half(
-            rt, alloc, problem, whole, mine, most, enough, relaxation, fewer, best, idle, halves,
-        )
+        let lent = Lent {
+            alloc,
+            problem: &*problem,
+            whole: &*whole,
+            best: &*best,
+            idle: &*idle,
+        };
+        explore_half(rt, &lent, mine, budget, relaxation, fewer, halves)
     };
     let there = move || -> Result<Explored, AllocError>
         requires { IsSync R.row × ArePartsOf problem.now whole.now theirs.items }
-        ensures { IfOk result (AreExplored problem.entry.now whole.entry.now theirs.items most) }
+        ensures { IfOk result
+            (AreExplored problem.entry.now whole.entry.now theirs.items budget.most) }
     {
-        explore_half(
-            rt, alloc, problem, whole, theirs, most, enough, relaxation, fewer, best, idle, halves,
-        )
+        let lent = Lent {
+            alloc,
+            problem: &*problem,
+            whole: &*whole,
+            best: &*best,
+            idle: &*idle,
+        };
+        explore_half(rt, &lent, theirs, budget, relaxation, fewer, halves)
     };
     let (here, there) = join(rt, here, there);
     both(here?, there?)
@@ -113,25 +136,19 @@ fn explore_halves<R: Threads + Wait + Sync>(
 #[cycle(together)]
 fn explore_half<R: Threads + Wait + Sync>(
     rt: &R,
-    alloc: Global,
-    problem: &Problem,
-    whole: &Region,
+    lent: &Lent<'_>,
     nodes: Vec<OpenNode>,
-    most: i64,
-    enough: i64,
+    budget: Budget,
     relaxation: &Relaxation,
     times: usize,
-    best: &Incumbent,
-    idle: &Idle,
     halves: &Halves,
 ) -> Result<Explored, AllocError>
-    requires { ArePartsOf problem.now whole.now nodes.items }
-    ensures { IfOk result (AreExplored problem.now whole.now nodes.items most) }
+    requires { ArePartsOf lent.now.problem.now lent.now.whole.now nodes.items }
+    ensures { IfOk result
+        (AreExplored lent.now.problem.now lent.now.whole.now nodes.items budget.most) }
 {
-    let mut own = relaxation.copy(alloc)?;
-    explore_together(
-        rt, alloc, problem, whole, nodes, most, enough, &mut own, times, best, idle, halves,
-    )
+    let mut own = relaxation.copy(lent.alloc)?;
+    explore_together(rt, lent, nodes, budget, &mut own, times, halves)
 }
 
 /// Nothing is found, and all is left.

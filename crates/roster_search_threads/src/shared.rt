@@ -15,7 +15,7 @@ use roster_lines_table::Table;
 use roster_model::limits::MOST_BASES;
 use roster_problem::Problem;
 use roster_search::root_prices_by_threads;
-use roster_search_least::{LeastOfBase, least_in, region_of_base};
+use roster_search_least::{LeastOfBase, LineBox, least_in, region_of_base};
 use roster_search_regions::DualPrices;
 use roster_values::Roster;
 use std::alloc::{AllocError, Global};
@@ -23,38 +23,56 @@ use std::sync::Wait;
 use std::sync::atomic::{AtomicUsize, Ordering};
 use std::thread::{Threads, map_indices};
 
+/// The bases that threads share out, how many of them are taken, and the threads that found none left.
+#[derive(Drop)]
+struct Bases<'a> {
+    order: &'a [usize],
+    taken: AtomicUsize,
+    idle: Idle,
+}
+
+impl<'a> Bases<'a> {
+    /// None of them is taken.
+    fn new(order: &'a [usize]) -> Bases<'a> {
+        Bases {
+            order,
+            taken: AtomicUsize::new(0),
+            idle: Idle::nobody(),
+        }
+    }
+
+    /// The next one, if one is left.
+    fn take(&self) -> Option<usize> {
+        let next = self.taken.fetch_add(1, Ordering::SeqCst);
+        self.order.get(next).copied()
+    }
+}
+
 /// The least rosters of bases, found by so many threads. What is missing is searched by the caller.
 pub(crate) fn parts_by_threads<R: Threads + Wait + Sync, G: Gate + Sync>(
     rt: &R,
     alloc: Global,
-    problem: &Problem,
-    table: &Table,
-    ranges: &[(usize, usize)],
+    lines: &LineBox<'_>,
     threads: usize,
     gate: &G,
 ) -> Result<Vec<LeastOfBase>, AllocError>
-    requires table { AreListed problem.now table.now }
-    requires ranges { length ranges.now ≡ length table.now }
+    requires table { AreListed lines.now.problem.now lines.now.table.now }
+    requires ranges { length lines.now.ranges.now ≡ length lines.now.table.now }
     requires threads { 0 < threads }
-    ensures { IfOk result (λ parts. AreBaseParts problem.now table.now ranges.now parts.items) }
+    ensures { IfOk result (λ parts.
+        AreBaseParts lines.now.problem.now lines.now.table.now lines.now.ranges.now parts.items) }
 {
-    let bases = by_size(alloc, problem, table)?;
-    let bases = bases.as_slice();
-    let next = AtomicUsize::new(0);
-    let idle = Idle::nobody();
-    let each = threads_a_base(problem, threads);
+    let order = by_size(alloc, lines.problem, lines.table)?;
+    let bases = Bases::new(&order);
+    let each = threads_a_base(lines.problem, threads);
     let turns = |worker: usize| -> Result<Vec<LeastOfBase>, AllocError>
-        requires { IsSync R.row × AreListed problem.now table.now
-            × (length ranges.now ≡ length table.now) × (0 < each) }
-        ensures { IfOk result (λ parts.
-            AreBaseParts problem.entry.now table.entry.now ranges.entry.now parts.items) }
-    {
-        parts_in_turn(
-            rt, alloc, each, problem, table, ranges, bases, &next, &idle, worker, gate,
-        )
-    };
+        requires { IsSync R.row × AreListed lines.now.problem.now lines.now.table.now
+            × (length lines.now.ranges.now ≡ length lines.now.table.now) × (0 < each) }
+        ensures { IfOk result (λ parts. AreBaseParts lines.entry.now.problem.now
+            lines.entry.now.table.now lines.entry.now.ranges.now parts.items) }
+    { parts_in_turn(rt, alloc, each, lines, &bases, worker, gate) };
     let lists = map_indices(rt, alloc, threads, &turns)?;
-    gathered(alloc, problem, table, ranges, lists)
+    gathered(alloc, lines, lists)
 }
 
 /// All bases, those whose persons have the most lines first. No answer rests on the order.
@@ -107,34 +125,27 @@ fn parts_in_turn<R: Threads + Wait + Sync, G: Gate>(
     rt: &R,
     alloc: Global,
     threads: usize,
-    problem: &Problem,
-    table: &Table,
-    ranges: &[(usize, usize)],
-    bases: &[usize],
-    next: &AtomicUsize,
-    idle: &Idle,
+    lines: &LineBox<'_>,
+    bases: &Bases<'_>,
     worker: usize,
     gate: &G,
 ) -> Result<Vec<LeastOfBase>, AllocError>
-    requires table { AreListed problem.now table.now }
-    requires ranges { length ranges.now ≡ length table.now }
+    requires table { AreListed lines.now.problem.now lines.now.table.now }
+    requires ranges { length lines.now.ranges.now ≡ length lines.now.table.now }
     requires threads { 0 < threads }
-    ensures { IfOk result (λ parts. AreBaseParts problem.now table.now ranges.now parts.items) }
+    ensures { IfOk result (λ parts.
+        AreBaseParts lines.now.problem.now lines.now.table.now lines.now.ranges.now parts.items) }
 {
     let mut parts = Vec::new(alloc);
-    for _ in 0..bases.len() {
-        let turn = next.fetch_add(1, Ordering::SeqCst);
-        if turn >= bases.len() {
+    for _ in 0..bases.order.len() {
+        let Some(base) = bases.take() else {
             break;
-        }
-        let base = bases[turn];
-        let mut crew = Crew::new(rt, idle, worker, gate);
-        let least = least_of_base_by_threads(
-            rt, alloc, threads, problem, table, ranges, base, &mut crew,
-        )?;
+        };
+        let mut crew = Crew::new(rt, &bases.idle, worker, gate);
+        let least = least_of_base_by_threads(rt, alloc, threads, lines, base, &mut crew)?;
         parts.push((base, least))?;
     }
-    idle.add();
+    bases.idle.add();
     Ok(parts)
 }
 
@@ -144,35 +155,34 @@ fn least_of_base_by_threads<R: Threads + Wait + Sync, G: Gate>(
     rt: &R,
     alloc: Global,
     threads: usize,
-    problem: &Problem,
-    table: &Table,
-    ranges: &[(usize, usize)],
+    lines: &LineBox<'_>,
     base: usize,
     crew: &mut Crew<'_, R, G>,
 ) -> Result<Option<Roster>, AllocError>
-    requires table { AreListed problem.now table.now }
-    requires ranges { length ranges.now ≡ length table.now }
+    requires table { AreListed lines.now.problem.now lines.now.table.now }
+    requires ranges { length lines.now.ranges.now ≡ length lines.now.table.now }
     requires threads { 0 < threads }
-    ensures { IfOk result (IsLeastBelow problem.now
-        (IsInPart problem.now table.now ranges.now (only base)) (pos (2 ^ 63 - 1))) }
+    ensures { IfOk result (IsLeastBelow lines.now.problem.now
+        (IsInPart lines.now.problem.now lines.now.table.now lines.now.ranges.now (only base)) (pos (2 ^ 63 - 1))) }
 {
-    let region = region_of_base(alloc, problem, table, ranges, base)?;
+    let problem = lines.problem;
+    let region = region_of_base(alloc, lines, base)?;
     let first = DualPrices::of_penalties(alloc, problem, &region)?;
     let root = root_prices_by_threads(rt, alloc, threads, problem, &region, &first, i64::MAX)?;
-    least_in(alloc, problem, table, ranges, base, region, root, crew)
+    least_in(alloc, lines, base, region, root, crew)
 }
 
 /// All that the threads found; or that memory ran out for one of them.
 fn gathered(
     alloc: Global,
-    problem: &Problem,
-    table: &Table,
-    ranges: &[(usize, usize)],
+    lines: &LineBox<'_>,
     lists: Vec<Result<Vec<LeastOfBase>, AllocError>>,
 ) -> Result<Vec<LeastOfBase>, AllocError>
     requires { All (λ parts. IfOk parts
-        (λ parts. AreBaseParts problem.now table.now ranges.now parts.items)) lists.items }
-    ensures { IfOk result (λ parts. AreBaseParts problem.now table.now ranges.now parts.items) }
+        (λ parts. AreBaseParts lines.now.problem.now lines.now.table.now lines.now.ranges.now parts.items))
+        lists.items }
+    ensures { IfOk result (λ parts.
+        AreBaseParts lines.now.problem.now lines.now.table.now lines.now.ranges.now parts.items) }
 {
     let mut lists = lists;
     let mut all = Vec::new(alloc);

@@ -13,12 +13,13 @@ use Rattle.roster_branchtree.proofs.searching.best_of.Goals as goal
 pub returns : goal.returns
 returns g c =
     let problem = c.args.problem.now in
-    let every = c.args.every in
-    let known = arc_value c.args.known.now in
+    let began : Watched = c.args.watch.now in
+    let every = began.every in
+    let known = began.best in
     let region = IsInSpan c.args.table.now c.args.span.now in
     let mid : Watched = c.node.new.self in
     let now : Watched = c.least_in.new.finder in
-    let start = c.new-watch.ensures ∙ ap (watch_of problem every) c.in_ok-try_clone.ensures in
+    let start : began ≡ watch_of problem every known = ap (λ problem. watch_of problem every known) c.requires.watch in
     let first = subst (λ (w : Watched). KeepsWatch w mid) start c.node.ensures in
     let second : KeepsWatch mid now = c.in_ok-found.ensures.goes_on in
     let held = c.deref-2.ensures ∙ c.in_ok-held.ensures in

@@ -10,9 +10,9 @@ use Rattle.roster_search.proofs.boxes.least_with.Goals as goal
 
 pub returns-in-None-clause-settled : goal.returns-in-None-clause-settled
 returns-in-None-clause-settled g c =
-    let problem = c.args.problem.now in
-    let table = c.args.table.now in
-    let ranges = c.args.ranges.now in
+    let problem = c.args.lines.now.problem.now in
+    let table = c.args.lines.now.table.now in
+    let ranges = c.args.lines.now.ranges.now in
     let covers : length ranges ≡ length problem.persons =
     omega (arith, c.requires.ranges, c.requires.table.covers) in
     let none : IsWithoutPart problem table ranges = subst (λ found. MatchOption found (IsWithoutPart problem table ranges) (λ places. IsLeast problem (IsInRanges table ranges) (key_of problem places.items))) c.in-None.is c.in_ok-places.ensures.least in
@@ -20,9 +20,9 @@ returns-in-None-clause-settled g c =
 
 pub returns-in-Some-clause-settled : goal.returns-in-Some-clause-settled
 returns-in-Some-clause-settled g c =
-    let problem = c.args.problem.now in
-    let table = c.args.table.now in
-    let ranges = c.args.ranges.now in
+    let problem = c.args.lines.now.problem.now in
+    let table = c.args.lines.now.table.now in
+    let ranges = c.args.lines.now.ranges.now in
     let covers : length ranges ≡ length problem.persons =
     omega (arith, c.requires.ranges, c.requires.table.covers) in
     let least = MatchOption-at_some _ _ _ c.in-Some.is c.in_ok-places.ensures.least in

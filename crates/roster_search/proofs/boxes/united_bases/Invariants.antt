@@ -7,7 +7,7 @@ use Rattle.roster_search.proofs.boxes.united_bases.Given as goal
 -- the bases so far are united
 abbrev pub invariant-loop-base : goal.invariant-loop-base
 invariant-loop-base g l = record {
-  least : IsLeast l.problem (IsInPart l.problem l.table l.ranges (before l.base))
-      (key_of l.problem l.places.items);
+  least : IsLeast l.lines.problem.now (IsInPart l.lines.problem.now l.lines.table.now l.lines.ranges.now (before l.base))
+      (key_of l.lines.problem.now l.places.items);
   goes_on : g.F.Finder.goes_on l.initial.finder l.finder;
 }

@@ -8,15 +8,15 @@ use Rattle.roster_search.proofs.boxes.with_base.Goals as goal
 
 pub returns-clause-least : goal.returns-clause-least
 returns-clause-least g c =
-    let problem = c.args.problem.now in
+    let problem = c.args.lines.now.problem.now in
     let base : ℕ = c.args.base in
-    (base, subst (λ found. IsLeastBelow problem (IsInPart problem c.args.table.now c.args.ranges.now (only base)) (pos (2 ^ 63 - 1)) found) c.in-None.is c.in_ok-part.ensures.least)
+    (base, subst (λ found. IsLeastBelow problem (IsInPart problem c.args.lines.now.table.now c.args.lines.now.ranges.now (only base)) (pos (2 ^ 63 - 1)) found) c.in-None.is c.in_ok-part.ensures.least)
 
 pub returns-in-Some-clause-least : goal.returns-in-Some-clause-least
 returns-in-Some-clause-least g c =
-    let problem = c.args.problem.now in
-    let table = c.args.table.now in
-    let ranges = c.args.ranges.now in
+    let problem = c.args.lines.now.problem.now in
+    let table = c.args.lines.now.table.now in
+    let ranges = c.args.lines.now.ranges.now in
     let covers : length ranges ≡ length problem.persons =
     omega (arith, c.requires.ranges, c.requires.table.covers) in
     let base : ℕ = c.args.base in

@@ -17,7 +17,7 @@ loop-most-preserved-in-Some-2 g c =
     let Whole : List ℕ → Type 0 = IsIn problem c.args.whole.now in
     let Here : List ℕ → Type 0 = IsInSome problem c.args.nodes.items in
     let Left : List ℕ → Type 0 = IsInSome problem c.loop-most.left.items in
-    let most : ℤ = to_z w64 (of_z w64 c.args.most) in
+    let most : ℤ = c.args.budget.most in
     let less : ℤ = to_z w64 (of_z w64 c.in-Some.most) in
     let best : Option Key = c.loop-most.best in
     let new : List Region = c.next.new.nodes.items in
@@ -36,7 +36,7 @@ loop-most-preserved g c =
     let Whole : List ℕ → Type 0 = IsIn problem c.args.whole.now in
     let Here : List ℕ → Type 0 = IsInSome problem c.args.nodes.items in
     let Left : List ℕ → Type 0 = IsInSome problem c.loop-most.left.items in
-    let most : ℤ = to_z w64 (of_z w64 c.args.most) in
+    let most : ℤ = c.args.budget.most in
     let less : ℤ = to_z w64 (of_z w64 c.in-Some.most) in
     let best : Option Key = c.loop-most.best in
     let new : List Region = c.next.new.nodes.items in
@@ -52,11 +52,3 @@ loop-most-preserved g c =
 pub returns-in_err-roster-clause-goes_on : goal.returns-in_err-roster-clause-goes_on
 returns-in_err-roster-clause-goes_on g c =
     g.met.S.Stop.follows _ _ _ (g.met.S.Stop.follows _ _ _ c.loop-most.invariant.goes_on c.node.ensures) c.next.ensures.goes_on
-
-pub returns-clause-explored : goal.returns-clause-explored
-returns-clause-explored g c =
-    let problem = c.args.problem.now in
-    let Whole : List ℕ → Type 0 = IsIn problem c.args.whole.now in
-    let Here : List ℕ → Type 0 = IsInSome problem c.args.nodes.items in
-    subst (λ most. IsExplored problem Whole Here most c.loop-most.best c.loop-most.left.items)
-    (to_z-of_z w64 c.args.most c.ranges.most) c.loop-most.invariant.explored

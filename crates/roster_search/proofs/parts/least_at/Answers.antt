@@ -8,9 +8,9 @@ use Rattle.roster_search.proofs.parts.least_at.Goals as goal
 
 pub returns-then-part-base-clause-least : goal.returns-then-part-base-clause-least
 returns-then-part-base-clause-least g c =
-    let problem = c.args.problem.now in
-    let table = c.args.table.now in
-    let ranges = c.args.ranges.now in
+    let problem = c.args.lines.now.problem.now in
+    let table = c.args.lines.now.table.now in
+    let ranges = c.args.lines.now.ranges.now in
     let found = c.index-parts-i.result in
     let least : ℕ → Option Key → Type 0 =
     λ base. IsLeastBelow problem (IsInPart problem table ranges (only base)) (pos (2 ^ 63 - 1)) in

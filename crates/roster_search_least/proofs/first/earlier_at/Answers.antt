@@ -19,7 +19,7 @@ loop-k-preserved g c =
     record {
       tried = tried_one_more problem c.args.p c.loop-k.k c.args.region.now c.loop-k.region c.deny.new.self key c.loop-k.invariant.tried
           (subst (CostsMore problem Here) cost none) c.in_ok-deny-in-None.ensures.narrowed;
-      goes_on = g.met.F.Finder.follows _ _ _ c.loop-k.invariant.goes_on c.with_person.ensures.goes_on;
+      goes_on = g.met.F.Finder.follows _ _ _ c.loop-k.invariant.goes_on c.with_holder.ensures.goes_on;
     }
 
 pub returns-in-Some-clause-settled : goal.returns-in-Some-clause-settled
@@ -55,15 +55,15 @@ returns-clause-settled g c =
     settled_as_is problem c.args.p number c.args.region.now c.loop-k.region c.leave_number.new.region key c.requires.agree tried left.narrowed left.wholly has c.requires.pairing
 
 pub returns-in_err-earlier-clause-goes_on : goal.returns-in_err-earlier-clause-goes_on
-returns-in_err-earlier-clause-goes_on g c = g.met.F.Finder.follows _ _ _ c.loop-k.invariant.goes_on c.with_person.ensures.goes_on
+returns-in_err-earlier-clause-goes_on g c = g.met.F.Finder.follows _ _ _ c.loop-k.invariant.goes_on c.with_holder.ensures.goes_on
 
 pub returns-in_err-give-in-Some-clause-goes_on : goal.returns-in_err-give-in-Some-clause-goes_on
 returns-in_err-give-in-Some-clause-goes_on g c =
-    g.met.F.Finder.follows _ _ _ c.loop-k.invariant.goes_on c.with_person.ensures.goes_on
+    g.met.F.Finder.follows _ _ _ c.loop-k.invariant.goes_on c.with_holder.ensures.goes_on
 
 pub returns-in-Some-clause-goes_on : goal.returns-in-Some-clause-goes_on
-returns-in-Some-clause-goes_on g c = g.met.F.Finder.follows _ _ _ c.loop-k.invariant.goes_on c.with_person.ensures.goes_on
+returns-in-Some-clause-goes_on g c = g.met.F.Finder.follows _ _ _ c.loop-k.invariant.goes_on c.with_holder.ensures.goes_on
 
 pub returns-in_err-deny-in-None-clause-goes_on : goal.returns-in_err-deny-in-None-clause-goes_on
 returns-in_err-deny-in-None-clause-goes_on g c =
-    g.met.F.Finder.follows _ _ _ c.loop-k.invariant.goes_on c.with_person.ensures.goes_on
+    g.met.F.Finder.follows _ _ _ c.loop-k.invariant.goes_on c.with_holder.ensures.goes_on

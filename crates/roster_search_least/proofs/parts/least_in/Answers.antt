@@ -9,9 +9,9 @@ use Rattle.roster_search_least.proofs.parts.least_in.Goals as goal
 
 pub returns-clause-least : goal.returns-clause-least
 returns-clause-least g c =
-    let problem = c.args.problem.now in
-    let table = c.args.table.now in
-    let ranges = c.args.ranges.now in
+    let problem = c.args.lines.now.problem.now in
+    let table = c.args.lines.now.table.now in
+    let ranges = c.args.lines.now.ranges.now in
     let base = c.args.base in
     let region = c.args.region in
     IfOk-weaker c.least_of_region.result (IsLeastBelow problem (IsIn problem region) (pos (2 ^ 63 - 1)))

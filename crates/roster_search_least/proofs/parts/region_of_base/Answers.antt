@@ -6,9 +6,9 @@ use Rattle.roster_search_least.proofs.parts.region_of_base.Goals as goal
 
 pub returns : goal.returns
 returns c =
-    let problem = c.args.problem.now in
-    let table = c.args.table.now in
-    let ranges = c.args.ranges.now in
+    let problem = c.args.lines.now.problem.now in
+    let table = c.args.lines.now.table.now in
+    let ranges = c.args.lines.now.ranges.now in
     let base = c.args.base in
     let own = c.deref.result.now in
     let covers : length ranges ≡ length problem.persons =

@@ -13,9 +13,9 @@ returns-clause-settled g c =
     let problem = c.args.problem.now in
     let table = c.args.table.now in
     let known : Key = c.args.known.now in
-    let ranges = c.as_slice-ranges.result.now in
+    let ranges = c.as_slice.result.now in
     let are =
-    subst (AreWhole table (length table)) (sym c.as_slice-ranges.ensures.value) c.in_ok-ranges.ensures in
+    subst (AreWhole table (length table)) (sym c.as_slice.ensures.value) c.in_ok-ranges.ensures in
     if_ok c.least_with.result
     (λ found. Settles problem (IsInRanges table ranges) (IsInRanges table ranges) (Some known) (unwrap_or found known))
     (λ found. Settles problem Anywhere Anywhere (Some known) (unwrap_or found known))

@@ -6,8 +6,8 @@ use Rattle.roster_search_threads.proofs.shared.gathered.Given as goal
 abbrev pub invariant-loop-parts : goal.invariant-loop-parts
 invariant-loop-parts l = record {
   lists : All
-      (λ parts. IfOk parts (λ parts. AreBaseParts l.problem l.table l.ranges parts.items)) l.lists.items;
-  all : AreBaseParts l.problem l.table l.ranges l.all.items;
+      (λ parts. IfOk parts (λ parts. AreBaseParts l.lines.problem.now l.lines.table.now l.lines.ranges.now parts.items)) l.lists.items;
+  all : AreBaseParts l.lines.problem.now l.lines.table.now l.lines.ranges.now l.all.items;
 }
 
 abbrev pub decreases-loop-parts : goal.decreases-loop-parts

@@ -1,6 +1,4 @@
-use Rattle.std.proofs.Common.{List, ℤ, w64, to_z, of_z, subst}
-use Rattle.std.specs.Prelude.{IfOk}
-use Rattle.std.proofs.lemmas.Int.{to_z-of_z}
+use Rattle.std.proofs.Common.{List, ℤ}
 use Rattle.roster_search_least.specs.Least.{IsCheapestWithin}
 use Rattle.roster_search_regions.specs.Regions.{IsIn, Region}
 use Rattle.roster_search_least.proofs.FindLemmas.{if_ok}
@@ -26,9 +24,7 @@ returns-clause-found g c =
     let problem = c.args.problem.now in
     let region : Region = c.args.region in
     let Here = IsIn problem region in
-    let most : ℤ = to_z w64 (of_z w64 c.args.most) in
-    let enough : ℤ = to_z w64 (of_z w64 c.args.enough) in
+    let most : ℤ = c.args.budget.most in
+    let enough : ℤ = c.args.budget.enough in
     let nodes : List Region = c.in_ok-nodes.nodes.items in
-    let found = if_ok c.end_alone.result _ (IsCheapestWithin problem Here most enough) c.end_alone.ensures (λ found is. is nodes c.in_ok-nodes.ensures c.in_ok-explored.ensures) in
-    subst (λ most. IfOk c.end_alone.result (IsCheapestWithin problem Here most c.args.enough)) (to_z-of_z w64 c.args.most c.ranges.most)
-    (subst (λ enough. IfOk c.end_alone.result (IsCheapestWithin problem Here most enough)) (to_z-of_z w64 c.args.enough c.ranges.enough) found)
+    if_ok c.end_alone.result _ (IsCheapestWithin problem Here most enough) c.end_alone.ensures (λ found is. is nodes c.in_ok-nodes.ensures c.in_ok-explored.ensures)
