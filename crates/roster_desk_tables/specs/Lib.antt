@@ -1,1 +1,3 @@
 pub mod Cells
+pub mod Differences
+pub mod Sums

@@ -1,6 +1,7 @@
 //! A row for each person.
 
-ghost use Rattle.std.specs.Prelude.{◌≡◌, ◌<◌, length};
+ghost use Rattle.std.specs.Prelude.{◌≡◌, ◌==◌, ◌<◌, length};
+ghost use Rattle.std.specs.List.{count_by};
 
 use crate::month::month_days;
 use crate::sums::sums_of;
@@ -29,14 +30,13 @@ pub(crate) const COLUMNS: [&[u8]; 15] = [
 ];
 
 /// How many pairings the roster gives to person `k`.
-fn count_of(places: &[u16], k: usize) -> usize {
-    let mut count = 0usize;
-    for place in places {
-        if usize::from(*place) == k {
-            count = count.saturating_add(1);
-        }
-    }
-    count
+fn count_of(places: &[u16], k: usize) -> usize
+    ensures { result ≡ count_by (λ place. place == k) places.now }
+{
+    places
+        .iter()
+        .filter(|place| usize::from(**place) == k)
+        .count()
 }
 
 /// How many leaves person `k` has.
@@ -67,11 +67,11 @@ pub(crate) fn push_person(
     let free = month.free.to_string(alloc)?;
     let weekends = month.weekends.to_string(alloc)?;
     let sums = sums_of(alloc, problem, places, k)?;
-    let flight = sums.minutes[0].to_string(alloc)?;
-    let duty7 = sums.minutes[1].to_string(alloc)?;
-    let duty14 = sums.minutes[2].to_string(alloc)?;
-    let duty28 = sums.minutes[3].to_string(alloc)?;
-    let flight28 = sums.minutes[4].to_string(alloc)?;
+    let flight = sums.flight.to_string(alloc)?;
+    let duty7 = sums.duty7.to_string(alloc)?;
+    let duty14 = sums.duty14.to_string(alloc)?;
+    let duty28 = sums.duty28.to_string(alloc)?;
+    let flight28 = sums.flight28.to_string(alloc)?;
     let target = person.target.to_string(alloc)?;
     let cost = sums.cost.to_string(alloc)?;
     rows.push(&[

@@ -1,5 +1,9 @@
 //! Times, days and names.
 
+ghost use Rattle.std.specs.Prelude.{◌≡◌, ◌++◌, IfOk, OnOk, string_bytes};
+ghost use Rattle.std.specs.List.{flat_map};
+ghost use Rattle.roster_desk_words.specs.Words.{name_at, time_text};
+
 use jiff_core::civil::Date;
 use roster_instants::{Minute, Period};
 use roster_model::limits::DAYS_BEFORE;
@@ -7,7 +11,9 @@ use roster_problem::{Duty, DutyList, Problem};
 use std::alloc::{AllocError, Global};
 
 /// Appends the parts one behind another.
-pub fn push_all(out: &mut Vec<u8>, parts: &[&[u8]]) -> Result<(), AllocError> {
+pub fn push_all(out: &mut Vec<u8>, parts: &[&[u8]]) -> Result<(), AllocError>
+    ensures { OnOk result (out.new.items ≡ out.old.items ++ flat_map (λ part. part.now) parts.now) }
+{
     for part in parts {
         out.extend_from_slice(part)?;
     }
@@ -15,7 +21,9 @@ pub fn push_all(out: &mut Vec<u8>, parts: &[&[u8]]) -> Result<(), AllocError> {
 }
 
 /// Minutes as hours and minutes, as in `12:59`.
-pub fn time(alloc: Global, minutes: u64) -> Result<String, AllocError> {
+pub fn time(alloc: Global, minutes: u64) -> Result<String, AllocError>
+    ensures { IfOk result (λ text. string_bytes text ≡ time_text minutes) }
+{
     let hours = minutes / 60;
     let (tens, ones) = (minutes % 60 / 10, minutes % 10);
     format!(in alloc; "{hours}:{tens}{ones}")
@@ -27,7 +35,9 @@ pub(crate) fn push_time(
     out: &mut Vec<u8>,
     minutes: u64,
     behind: &[u8],
-) -> Result<(), AllocError> {
+) -> Result<(), AllocError>
+    ensures { OnOk result (out.new.items ≡ out.old.items ++ time_text minutes ++ behind.now) }
+{
     let text = time(alloc, minutes)?;
     push_all(out, &[text.as_bytes(), behind])
 }
@@ -85,9 +95,11 @@ pub(crate) fn duty_name<'a>(list: &'a DutyList<'a>, i: usize) -> &'a [u8] {
 }
 
 /// The name of the pairing at a place of the book; `-` if it has none there.
-pub fn pairing_name(problem: &Problem, p: usize) -> &[u8] {
-    if p >= problem.pairings().len() {
-        return b"-";
+pub fn pairing_name(problem: &Problem, p: usize) -> &[u8]
+    ensures { result.now ≡ name_at problem.now p }
+{
+    match problem.pairings().get(p) {
+        Some(pairing) => pairing.id.as_bytes(),
+        None => b"-",
     }
-    problem.pairing(p).id.as_bytes()
 }
