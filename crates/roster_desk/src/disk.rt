@@ -97,6 +97,8 @@ impl<'a> Shelf for Disk<'a> {
 
     ghost must_open = { λ _ _. ⊥ };
 
+    ghost may_lack = { λ _ _. ⊤ };
+
     ghost lends = { λ _ _ _. ⊤ };
 
     fn open(&self, path: &str) -> io::Result<Opened> {

@@ -1,7 +1,8 @@
 //! What comes to each weight of a whole.
 
-ghost use Rattle.std.specs.Prelude.{◌≡◌, ◌<◌, ◌+◌, ◌*◌, ◌/◌, ◌++◌, ◌∷◌, [], IfOk, IfSome, OnOk, sum};
+ghost use Rattle.std.specs.Prelude.{◌≡◌, ◌<◌, ◌+◌, ◌*◌, ◌/◌, ◌++◌, ◌∷◌, [], IfErr, IfOk, IfSome, OnOk, sum};
 ghost use Rattle.roster_desk_fair.specs.Fair.{share_of, shares_of};
+ghost use Rattle.roster_desk_fair.specs.Unfair.{TellsFault};
 
 use crate::unfair::Unfair;
 use std::alloc::{AllocError, Global};
@@ -55,7 +56,8 @@ pub(crate) fn push(numbers: &mut Vec<u64>, number: u64) -> Result<(), AllocError
 
 /// The shares of the weights in the flight, unless nothing counts or a number is no machine's.
 pub(crate) fn shares(alloc: Global, flight: u64, weights: &[u64]) -> Result<Vec<u64>, Unfair>
-    ensures { IfOk result (λ shares. shares.items ≡ shares_of flight weights.now) }
+    ensures found { IfOk result (λ shares. shares.items ≡ shares_of flight weights.now) }
+    ensures fault { IfErr result TellsFault }
 {
     let Some(whole) = sum_of(weights) else {
         return Err(Unfair::Other);

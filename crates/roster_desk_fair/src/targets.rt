@@ -1,8 +1,9 @@
 //! What there is to fly at a base, and each person's share of it.
 
-ghost use Rattle.std.specs.Prelude.{◌≡◌, ◌<◌, IfOk, IfSome, length, map, slice_get, unwrap_or};
+ghost use Rattle.std.specs.Prelude.{◌≡◌, ◌<◌, IfErr, IfOk, IfSome, length, map, slice_get, unwrap_or};
 ghost use Rattle.std.specs.List.{range_with_len};
 ghost use Rattle.roster_desk_fair.specs.Fair as spec;
+ghost use Rattle.roster_desk_fair.specs.Unfair.{TellsFault};
 
 use crate::shares::{push, shares};
 use crate::unfair::Unfair;
@@ -135,7 +136,8 @@ fn number_at(numbers: &[u64], k: usize) -> u64
 /// The share of person `k` in what there is to fly at the home base, unless a number is no machine's.
 fn fair_of(alloc: Global, problem: &Problem, k: usize) -> Result<u64, Unfair>
     requires { k < length problem.now.persons }
-    ensures { IfOk result (λ minutes. minutes ≡ spec.fair_target problem.now k) }
+    ensures found { IfOk result (λ minutes. minutes ≡ spec.fair_target problem.now k) }
+    ensures fault { IfErr result TellsFault }
 {
     let Some(flight) = to_fly(problem, k) else {
         return Err(Unfair::Other);
@@ -147,8 +149,9 @@ fn fair_of(alloc: Global, problem: &Problem, k: usize) -> Result<u64, Unfair>
 
 /// The fair target of each person, in book order, unless a number is no machine's.
 pub(crate) fn fair_targets(alloc: Global, problem: &Problem) -> Result<Vec<u64>, Unfair>
-    ensures { IfOk result (λ fair. fair.items
+    ensures found { IfOk result (λ fair. fair.items
         ≡ map (spec.fair_target problem.now) (range_with_len 0 (length problem.now.persons))) }
+    ensures fault { IfErr result TellsFault }
 {
     let mut fair = Vec::new(alloc);
     for k in 0..problem.persons().len() {

@@ -14,6 +14,11 @@ pub enum Unfair {
 }
 
 impl From<AllocError> for Unfair {
+    ghost use Rattle.std.specs.Prelude.{◌≡◌};
+    ghost use Rattle.roster_desk_fair.specs.declared.unfair.Unfair.TheVariants.{Memory};
+
+    ghost from_gives = { λ _ e. e ≡ Memory };
+
     fn from(_error: AllocError) -> Unfair {
         Unfair::Memory
     }

@@ -1,12 +1,14 @@
 //! The text of a book with fair targets, on `csv`.
 
-ghost use Rattle.std.specs.Prelude.{◌≡◌, ◌<◌, ℕ, IfOk, IsTrue, None, Some, length, map, slice_get};
+ghost use Rattle.std.specs.Prelude.{◌≡◌, ◌<◌, ℕ, IfErr, IfOk, IsTrue, None, Some, length, map, slice_get};
 ghost use Rattle.std.specs.List.{range_with_len};
 ghost use Rattle.roster_model.specs.Answer.{records_of};
 ghost use Rattle.roster_model.specs.Faults.{first_fault};
 ghost use Rattle.roster_model.specs.Problem.{problem_of, target_of};
 ghost use Rattle.roster_model.specs.Record.{Check};
+ghost use Rattle.roster_book.specs.Reading.{TellsFirst};
 ghost use Rattle.roster_desk_fair.specs.Fair.{IsFair, fair_target};
+ghost use Rattle.roster_desk_fair.specs.Unfair.{TellsFault};
 
 use crate::targets::fair_targets;
 use crate::unfair::Unfair;
@@ -80,6 +82,7 @@ fn text_with(alloc: Global, text: &[u8], fair: &[u64]) -> Result<Vec<u8>, AllocE
 fn book_of(alloc: Global, text: &[u8]) -> Result<Book, BookFault>
     ensures faultless { IfOk result (λ _. first_fault Check (records_of text.now) ≡ None) }
     ensures problem { IfOk result (λ book. book.problem ≡ problem_of (records_of text.now)) }
+    ensures fault { IfErr result (TellsFirst Check (records_of text.now)) }
 {
     let mut reader = Watched::new(text);
     read_book(alloc, &mut reader, Command::Check)
@@ -110,6 +113,7 @@ fn judged(text: Vec<u8>, read: &Problem, book: &Problem, fair: &[u64]) -> Result
     requires problem { read.now ≡ problem_of (records_of text.items) }
     ensures faultless { IfOk result (λ text. first_fault Check (records_of text.items) ≡ None) }
     ensures fair { IfOk result (λ text. IsFair book.now (problem_of (records_of text.items))) }
+    ensures fault { IfErr result TellsFault }
 {
     if has_targets(read, fair) {
         Ok(text)
@@ -123,6 +127,7 @@ fn judged(text: Vec<u8>, read: &Problem, book: &Problem, fair: &[u64]) -> Result
 pub fn fair_book(alloc: Global, text: &[u8], book: &Problem) -> Result<Vec<u8>, Unfair>
     ensures faultless { IfOk result (λ text. first_fault Check (records_of text.items) ≡ None) }
     ensures fair { IfOk result (λ text. IsFair book.now (problem_of (records_of text.items))) }
+    ensures fault { IfErr result TellsFault }
 {
     let fair = fair_targets(alloc, book)?;
     let text = text_with(alloc, text, fair.as_slice())?;

@@ -20,6 +20,12 @@ is_lost kept.Fine = false
 is_lost kept.Refused = true
 is_lost kept.Short = true
 
+-- what became of a file that couldn't take a text, and of one for whose text there was no memory
+abbrev pub kept_of : Bool → Bool → Kept
+kept_of true short = kept.Refused
+kept_of false true = kept.Short
+kept_of false false = kept.Fine
+
 -- the path of the file that keeps the plan, if the line names one
 abbrev pub keep_of : PlanLine → Option (List ℕ)
 keep_of line = option_map (λ path. path.now) line.keep

@@ -39,13 +39,17 @@ pub trait Shelf {
     // Whether the file at a path is known to open.
     ghost must_open: { Self → List ℕ → Type 0 };
 
+    // Whether memory may run out while it is opened.
+    ghost may_lack: { Self → List ℕ → Type 0 };
+
     // What it may be once the file at a path was lent to keep a plan.
     ghost lends: { Self → List ℕ → Self → Type 0 };
 
     /// The file at the path, or standard input at `-`, from its first byte.
     fn open(&self, path: &str) -> io::Result<Self::Input>
         ensures bytes { IfOk result (λ input. Self.Input.remaining input ≡ bytes_at self.now path.now) }
-        ensures opens { IfErr result (λ error. error_kind error ≢ OutOfMemory → ¬ must_open self.now path.now) };
+        ensures opens { IfErr result (λ error. error_kind error ≢ OutOfMemory → ¬ must_open self.now path.now) }
+        ensures lacks { IfErr result (λ error. error_kind error ≡ OutOfMemory → may_lack self.now path.now) };
 
     /// Whether a file that is put at the path would take the place of the one at the other path.
     fn takes(&self, path: &str, other: &str) -> Result<bool, AllocError>
@@ -102,6 +106,31 @@ impl<S: Shelf> Files<S> {
         self.failed
     }
 
+    /// The file at the path, from its first byte. Whoever reads it says whether that failed.
+    fn opened(&mut self, path: &str) -> Result<S::Input, Unread>
+        ensures shelf { shelf_of self.new ≡ shelf_of self.old }
+        ensures bytes { IfOk result (λ input. S.Input.remaining input
+            ≡ S.bytes_at (shelf_of self.old) path.now) }
+        ensures goes { OnOk result (has_missed self.new ≡ has_missed self.old) }
+        ensures either { IfErr result (λ fault. (fault ≡ Unread.Unopened) ⊎ (fault ≡ Unread.Memory)) }
+        ensures fails { IfErr result (λ fault. fault ≡ Unread.Unopened → has_missed self.new ≡ true) }
+        ensures unopened { IfErr result (λ fault. fault ≡ Unread.Unopened
+            → ¬ S.must_open (shelf_of self.old) path.now) }
+        ensures memory { IfErr result (λ fault. fault ≡ Unread.Memory
+            → has_missed self.new ≡ has_missed self.old) }
+        ensures lacks { IfErr result (λ fault. fault ≡ Unread.Memory
+            → S.may_lack (shelf_of self.old) path.now) }
+    {
+        match self.shelf.open(path) {
+            Ok(input) => Ok(input),
+            Err(error) if error.kind() == io::ErrorKind::OutOfMemory => Err(Unread::Memory),
+            Err(_) => {
+                self.failed = true;
+                Err(Unread::Unopened)
+            }
+        }
+    }
+
     /// The file at the path, from its first byte.
     pub(crate) fn open(&mut self, path: &str) -> Result<Watched<S::Input>, Unread>
         ensures shelf { shelf_of self.new ≡ shelf_of self.old }
@@ -115,14 +144,13 @@ impl<S: Shelf> Files<S> {
             → ¬ S.must_open (shelf_of self.old) path.now) }
         ensures memory { IfErr result (λ fault. fault ≡ Unread.Memory
             → has_missed self.new ≡ has_missed self.old) }
+        // Want of memory is told only if it may run out.
+        ensures lacks { IfErr result (λ fault. fault ≡ Unread.Memory
+            → S.may_lack (shelf_of self.old) path.now) }
     {
-        match self.shelf.open(path) {
+        match self.opened(path) {
             Ok(input) => Ok(Watched::new(input)),
-            Err(error) if error.kind() == io::ErrorKind::OutOfMemory => Err(Unread::Memory),
-            Err(_) => {
-                self.failed = true;
-                Err(Unread::Unopened)
-            }
+            Err(fault) => Err(fault),
         }
     }
 
@@ -151,13 +179,9 @@ impl<S: Shelf> Files<S> {
         ensures others { IfErr result (λ fault. (fault ≡ Unread.TooLong) ⊎ (fault ≡ Unread.Memory)
             → has_missed self.new ≡ has_missed self.old) }
     {
-        let input = match self.shelf.open(path) {
+        let input = match self.opened(path) {
             Ok(input) => input,
-            Err(error) if error.kind() == io::ErrorKind::OutOfMemory => return Err(Unread::Memory),
-            Err(_) => {
-                self.failed = true;
-                return Err(Unread::Unopened);
-            }
+            Err(fault) => return Err(fault),
         };
         let mut bytes = Vec::new(alloc);
         match input.take(MOST_REPORT_BYTES).read_to_end(&mut bytes) {

@@ -1,9 +1,9 @@
 //! What is known of a plan is kept in a file.
 
-ghost use Rattle.std.specs.Prelude.{◌≡◌, ◌≢◌, IfSome, true};
+ghost use Rattle.std.specs.Prelude.{◌≡◌, ◌≢◌, IfSome, None, Some, false, true};
 ghost use Rattle.roster_plan.specs.Planned.{IsKnown};
 ghost use Rattle.roster_desk_run.specs.Run.{IsKnownText};
-ghost use Rattle.roster_desk_program.specs.Keeping.{HasRefused, is_lost};
+ghost use Rattle.roster_desk_program.specs.Keeping.{HasRefused, is_lost, kept_of};
 
 use crate::slots::Slot;
 use roster_desk_run::{Starter, write_known};
@@ -57,7 +57,11 @@ impl<K: Slot> KeptFile<'_, K> {
     /// Puts what is known of the plan. Whether that could be done.
     fn keep(&mut self, alloc: Global, problem: &Problem, planned: &Planned) -> bool
         requires { IsKnown problem.now planned.now }
-        ensures { result ≡ true → IfSome (K.held self.new.slot) (IsKnownText problem.now) }
+        ensures held { result ≡ true → IfSome (K.held self.new.slot) (IsKnownText problem.now) }
+        ensures goes { result ≡ true → kept_of (K.has_refused self.new.slot) self.new.is_short
+            ≡ kept_of (K.has_refused self.old.slot) self.old.is_short }
+        ensures lost { result ≡ false
+            → is_lost (kept_of (K.has_refused self.new.slot) self.new.is_short) ≡ true }
     {
         let mut writer = Watched::new(Vec::new(alloc));
         if write_known(alloc, problem, planned, &mut writer).is_err() {
@@ -69,7 +73,7 @@ impl<K: Slot> KeptFile<'_, K> {
 
     /// What became of it so far.
     fn state(&self) -> Kept
-        ensures { result ≡ Kept.Refused → HasRefused K.has_refused }
+        ensures { result ≡ kept_of (K.has_refused self.now.slot) self.now.is_short }
     {
         if self.slot.refused() {
             return Kept::Refused;
@@ -93,7 +97,10 @@ pub(crate) struct Keeper<'p, 'w, K, P> {
 impl<K: Slot, P> Keeper<'_, '_, K, P> {
     /// What became of the file.
     pub(crate) fn state(&self) -> Kept
-        ensures { result ≡ Kept.Refused → HasRefused K.has_refused }
+        ensures file { IfSome self.now.file
+            (λ file. result ≡ kept_of (K.has_refused file.slot) file.is_short) }
+        ensures none { self.now.file ≡ None → result ≡ Kept.Fine }
+        ensures refused { result ≡ Kept.Refused → HasRefused K.has_refused }
     {
         match &self.file {
             Some(file) => file.state(),

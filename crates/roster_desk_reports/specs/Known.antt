@@ -1,6 +1,6 @@
 -- What a report gives of a book that doesn't have all of its persons and pairings.
 use Rattle.std.specs.Prelude.{◌++◌, ◌∷◌, ℕ, Bool, List, [], Option, codes, filter, if◌then◌else◌, is_some, map}
-use Rattle.std.specs.List.{flat_map}
+use Rattle.std.specs.List.{flat_map, list_all}
 use Rattle.std.specs.Option.{option_or}
 use Rattle.roster_model.specs.Problem.{Problem}
 use Rattle.roster_model.specs.Record.{place_named}
@@ -39,16 +39,18 @@ fault_of_known problem text =
 
 -- ---- what is passed over
 
--- the line of a pairing of the person
-abbrev pub unknown_line : List ℕ → List ℕ → List ℕ
-unknown_line person pairing = codes "not in the book: " ++ pairing ++ codes " of " ++ person ++ 10 ∷ []
+-- the name of a pairing and a blank, if the book doesn't have it
+abbrev pub unknown_name : Problem → List ℕ → List ℕ
+unknown_name problem pairing = if is_known problem pairing then [] else pairing ++ 32 ∷ []
 
--- that of the pairing if the book doesn't have it
-abbrev pub unknown_name : Problem → List ℕ → List ℕ → List ℕ
-unknown_name problem person pairing = if is_known problem pairing then [] else unknown_line person pairing
+-- the line of the pairings of a person that the book doesn't have, if there are some
+abbrev pub unknown_line : Problem → Given → List ℕ
+unknown_line problem given =
+    if list_all (is_known problem) given.1 then []
+    else codes "not in the book: " ++ flat_map (unknown_name problem) given.1 ++ codes "of " ++ given.0 ++ 10 ∷ []
 
--- the line of the person if the book doesn't have the person, and else those of the pairings that it doesn't have
+-- the line of the person if the book doesn't have the person, and else that of the pairings
 abbrev pub unknown_of : Problem → Given → List ℕ
 unknown_of problem given =
-    if is_there problem given.0 then flat_map (unknown_name problem given.0) given.1
+    if is_there problem given.0 then unknown_line problem given
     else codes "not in the book: person " ++ given.0 ++ 10 ∷ []

@@ -1,9 +1,9 @@
 //! What a report has and the book doesn't.
 
 ghost use Rattle.std.specs.Prelude.{◌≡◌, ◌++◌, IfErr, IfOk, map, OnOk};
-ghost use Rattle.std.specs.List.{flat_map};
+ghost use Rattle.std.specs.List.{flat_map, list_all};
 ghost use Rattle.roster_desk_reports.specs.Faults.{IsTold, fault_of_text};
-ghost use Rattle.roster_desk_reports.specs.Known.{unknown_line, unknown_name, unknown_of};
+ghost use Rattle.roster_desk_reports.specs.Known.{is_known, unknown_line, unknown_name, unknown_of};
 ghost use Rattle.roster_desk_reports.specs.Text.{given_by_line, given_by_text};
 
 use crate::fault::ReportFault;
@@ -13,41 +13,51 @@ use roster_problem::Problem;
 use roster_values::Name;
 use std::alloc::{AllocError, Global};
 
-/// Appends the line of a pairing of the person.
-fn push_line(out: &mut Vec<u8>, person: &Name, pairing: &Name) -> Result<(), AllocError>
-    ensures { OnOk result (out.new.items ≡ out.old.items ++ unknown_line person.now pairing.now) }
+/// Whether the book has all pairings of the names.
+fn has_all(problem: &Problem, names: &[Name]) -> bool
+    ensures { result ≡ list_all (is_known problem.now) names.now }
 {
-    out.extend_from_slice(b"not in the book: ")?;
-    out.extend_from_slice(pairing.as_bytes())?;
-    out.extend_from_slice(b" of ")?;
-    out.extend_from_slice(person.as_bytes())?;
-    out.push(b'\n')?;
-    Ok(())
+    names
+        .iter()
+        .all(|name| pairing_named(problem, name.as_bytes()).is_some())
 }
 
-/// Appends the line of the pairing of the person, if the book doesn't have it.
-fn push_name(
-    out: &mut Vec<u8>,
-    problem: &Problem,
-    person: &Name,
-    pairing: &Name,
-) -> Result<(), AllocError>
-    ensures { OnOk result (out.new.items ≡ out.old.items ++ unknown_name problem.now person.now pairing.now) }
+/// Appends the name of a pairing and a blank, if the book doesn't have it.
+fn push_name(out: &mut Vec<u8>, problem: &Problem, pairing: &Name) -> Result<(), AllocError>
+    ensures { OnOk result (out.new.items ≡ out.old.items ++ unknown_name problem.now pairing.now) }
 {
     if pairing_named(problem, pairing.as_bytes()).is_some() {
         return Ok(());
     }
-    push_line(out, person, pairing)
+    out.extend_from_slice(pairing.as_bytes())?;
+    out.push(b' ')?;
+    Ok(())
 }
 
-/// Appends a line for each pairing of the `CREW` line that the book doesn't have.
-fn push_names(out: &mut Vec<u8>, problem: &Problem, crew: &CrewLine) -> Result<(), AllocError>
-    ensures { OnOk result (out.new.items
-        ≡ out.old.items ++ flat_map (unknown_name problem.now crew.now.person) crew.now.pairings.items) }
+/// Appends those of the names that the book doesn't have.
+fn push_names(out: &mut Vec<u8>, problem: &Problem, names: &[Name]) -> Result<(), AllocError>
+    ensures { OnOk result
+        (out.new.items ≡ out.old.items ++ flat_map (unknown_name problem.now) names.now) }
 {
-    for i in 0..crew.pairings.len() {
-        push_name(out, problem, &crew.person, &crew.pairings[i])?;
+    for i in 0..names.len() {
+        push_name(out, problem, &names[i])?;
     }
+    Ok(())
+}
+
+/// Appends a line of the pairings of the `CREW` line that the book doesn't have, if there are some.
+fn push_line(out: &mut Vec<u8>, problem: &Problem, crew: &CrewLine) -> Result<(), AllocError>
+    ensures { OnOk result (out.new.items
+        ≡ out.old.items ++ unknown_line problem.now (given_by_line crew.now)) }
+{
+    if has_all(problem, crew.pairings.as_slice()) {
+        return Ok(());
+    }
+    out.extend_from_slice(b"not in the book: ")?;
+    push_names(out, problem, crew.pairings.as_slice())?;
+    out.extend_from_slice(b"of ")?;
+    out.extend_from_slice(crew.person.as_bytes())?;
+    out.push(b'\n')?;
     Ok(())
 }
 
@@ -57,7 +67,7 @@ fn push_crew(out: &mut Vec<u8>, problem: &Problem, crew: &CrewLine) -> Result<()
         (out.new.items ≡ out.old.items ++ unknown_of problem.now (given_by_line crew.now)) }
 {
     if person_named(problem, crew.person.as_bytes()).is_some() {
-        return push_names(out, problem, crew);
+        return push_line(out, problem, crew);
     }
     out.extend_from_slice(b"not in the book: person ")?;
     out.extend_from_slice(crew.person.as_bytes())?;
@@ -77,8 +87,8 @@ fn unknown_in(alloc: Global, problem: &Problem, report: &Report) -> Result<Vec<u
     Ok(out)
 }
 
-/// A line for each person of the report whom the book doesn't have, and for each other pairing of it that the
-/// book doesn't have, in the order of the report.
+/// A line for each person of the report whom the book doesn't have, and for each other one who has pairings by it
+/// that the book doesn't have, in the order of the report.
 pub fn unknown_text(alloc: Global, problem: &Problem, text: &[u8]) -> Result<Vec<u8>, ReportFault>
     ensures text { IfOk result (λ out. out.items ≡ flat_map (unknown_of problem.now) (given_by_text text.now)) }
     // It is refused as `read_report` refuses it.

@@ -79,6 +79,8 @@ impl<'a> Shelf for One<'a> {
 
     ghost must_open = { λ _ _. ⊤ };
 
+    ghost may_lack = { λ _ _. ⊥ };
+
     ghost lends = { λ old _ new. new ≡ old };
 
     fn open(&self, _path: &str) -> io::Result<&'a [u8]> {
@@ -137,6 +139,8 @@ impl<'a> Shelf for Pages<'a> {
     ghost must_take = { λ _ _ _. ⊥ };
 
     ghost must_open = { λ _ _. ⊥ };
+
+    ghost may_lack = { λ _ _. ⊤ };
 
     ghost lends = { λ old _ new. new ≡ old };
 

@@ -13,8 +13,8 @@ loop-i-preserved c =
     c.loop-i-test.true (search rules) c.loop-i.invariant in
     rw (c.in_ok-push.ensures, c.in-Some-next_share.ensures.0, c.in-Some-next_share.ensures.1) more
 
-pub returns : goal.returns
-returns c =
+pub returns-clause-found : goal.returns-clause-found
+returns-clause-found c =
     let flight = c.args.flight in
     let weights = c.args.weights.now in
     no-more flight c.in-Some.whole c.loop-i.before weights c.loop-i.shares.items (shares_of flight weights) c.loop-i.i

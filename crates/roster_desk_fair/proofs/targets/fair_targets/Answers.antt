@@ -6,4 +6,4 @@ use Rattle.roster_desk_fair.proofs.targets.fair_targets.Goals as goal
 pub loop-k-preserved : goal.loop-k-preserved
 loop-k-preserved c =
     let more = map-range_with_len_more (fair_target c.args.problem.now) 0 c.loop-k.k c.loop-k.k (omega arith) in
-    rw (c.in_ok-push.ensures, c.in_ok-minutes.ensures, c.loop-k.invariant) (sym more)
+    rw (c.in_ok-push.ensures, c.in_ok-minutes.ensures.found, c.loop-k.invariant) (sym more)
