@@ -252,8 +252,12 @@ def wrongs(run, roster, desk, paths, book, published, start, change, repaired, r
     told = int(re.search(rb"COST here \+ (-?\d+)", repaired.stderr)[1])
     if cost_in(check.stdout) != cost_in(rest.stdout) + told - change * len(moves):
         yield "another cost"
-    gone = [f"not in the book: {name} of {person}\n".encode() for name, person in published.items() if name not in duties]
-    if not all(line in repaired.stderr for line in gone):
+    gone = {}
+    for name, person in published.items():
+        if name not in duties:
+            gone.setdefault(person, []).append(name)
+    lines = [f"not in the book: {' '.join(names)} of {person}\n".encode() for person, names in gone.items()]
+    if not all(line in repaired.stderr for line in lines):
         yield f"whose pairing is gone isn't told: {repaired.stderr}"
     differs = run(desk, "diff", "--persons", paths[3], paths[1], paths[2])
     called = [line.split()[0].decode() for line in differs.stdout.splitlines()]
