@@ -16,6 +16,9 @@ one_more n =
     ap (range_with_len 0) one ∙ next_in_range 0 n n (omega arith)
 
 -- lines
+pub behind : {all mid new : List ℕ} (line : List ℕ) → new ≡ mid ++ line → mid ≡ all → new ≡ all ++ line
+behind line is was = is ∙ ap (λ t. t ++ line) was
+
 pub lines_more : (line : ℕ → List ℕ) (out : List ℕ) (n : ℕ)
     → (out ++ flat_map line (range_with_len 0 n)) ++ line n ≡ out ++ flat_map line (range_with_len 0 (n + 1))
 lines_more line out n =

@@ -86,7 +86,7 @@ fn is_moved_at(before: &[u16], after: &[u16], k: usize, p: usize) -> bool
 }
 
 /// Whether person `k` has a pairing by one of the rosters only.
-#[tactic(auto, using(crate::proofs::Steps::none_more, crate::proofs::Steps::any_below))]
+#[tactic(auto, using(crate::proofs::Steps::none_more))]
 fn is_moved(before: &[u16], after: &[u16], k: usize) -> bool
     requires { length before.now ≡ length after.now }
     ensures { result ≡ spec.is_moved before.now after.now k }
