@@ -359,7 +359,7 @@ def broken_off(tests, run, roster, desk, root):
     told = run(desk, "why", "-", book=late.stdout)
     tests.told("a positioning that is too late", b"P7-2 - nobody can fly it: REST: 9:59 of rest between P7-2 and D2 " not in told.stdout and f"told {told.stdout}")
     over = made("P7:2024-03-10T16:00Z/2024-03-11T06:01Z")
-    tests.told("a positioning that ends after the next report", over.returncode != 1 and f"status {over.returncode}", over.stdout and "a book", b" 8\n" not in over.stderr and f"told {over.stderr}")
+    tests.told("a positioning that ends after the next report", over.returncode != 1 and f"status {over.returncode}", over.stdout and "a book", b" 8\n" not in over.stderr and f"told {over.stderr}", not over.stderr.endswith(b"\nthis book comes of --broken P7:2024-03-10T16:00Z/2024-03-11T06:01Z\n") and f"told {over.stderr}")
     # B is there, and flies on.
     stays = made("P7:B")
     plan = run(desk, "plan", "-", book=stays.stdout).stdout
@@ -370,8 +370,21 @@ def broken_off(tests, run, roster, desk, root):
         # 6:00 with each of D2 and D3.
         rows_by(plan) != {"A": (["-"], 480), "B": (["-"], 720)} and f"told {plan}",
     )
+    busy = made("P7:B", of=book + "leave,B,2024-03-12T00:00Z,2024-03-13T00:00Z\n")
+    tests.told(
+        "the rest stays with who has leave",
+        busy.returncode != 1 and f"status {busy.returncode}",
+        busy.stdout and "a book",
+        b" 13\n" not in busy.stderr and f"told {busy.stderr}",
+        not busy.stderr.endswith(b"\nthis book comes of --broken P7:B\n") and f"told {busy.stderr}",
+    )
     whole = made()
-    tests.told("who is under way has leave", whole.returncode != 1 and f"status {whole.returncode}", b" 13\n" not in whole.stderr and f"told {whole.stderr}")
+    tests.told(
+        "who is under way has leave",
+        whole.returncode != 1 and f"status {whole.returncode}",
+        b" 13\n" not in whole.stderr and f"told {whole.stderr}",
+        not whole.stderr.endswith(b"\nif somebody is under way: begin the leave at the release, or say --broken\n") and f"told {whole.stderr}",
+    )
     # A name that is taken, and one that is too long for another number.
     taken = made("P7:2024-03-10T16:00Z/2024-03-10T19:00Z", of=book + "duty,P7-2,C,B,BAS,2024-03-01T06:00Z,2024-03-01T08:00Z\n")
     tests.told("a name that a duty has", b"\npairing,P7-3,BAS,1000\n" not in taken.stdout and f"told {taken}")

@@ -3,10 +3,11 @@
 ghost use Rattle.std.specs.Prelude.{◌<◌, IfOk, length};
 
 use crate::telling::Untold;
+use crate::unmade::unmade;
 use roster_desk_arguments::RepairLine;
-use roster_desk_fault::fault_text;
 use roster_desk_given::Unknown;
-use roster_desk_repair::{Unrepaired, break_off};
+use roster_desk_made::Unmade;
+use roster_desk_repair::break_off;
 use roster_desk_repair_judged::{Break, Rest, is_under_way};
 use roster_desk_reports::{pairing_named, person_named};
 use roster_instants::{Minute, read_minute};
@@ -22,15 +23,29 @@ const NO_REST: &str =
 const NOT_UNDER_WAY: &str =
     "--broken wants a pairing that has begun at --from, and has a duty that reports later";
 
-/// Why there is no book.
-pub(crate) fn unmade<'a>(alloc: Global, why: Unrepaired) -> Untold<'a> {
-    match why {
-        Unrepaired::At { text, .. } => match fault_text(alloc, &text) {
-            Ok(faults) => Untold::Faulty(faults),
-            Err(_) => Untold::Memory,
-        },
-        Unrepaired::Other => Untold::Unlike,
-        Unrepaired::Memory => Untold::Memory,
+/// Which option may keep a fault of the code away from a repair, if one may.
+fn remedy(code: u8) -> &'static str {
+    match code {
+        5 => "if units are too low: take a smaller --change or --notice\n",
+        13 => "if somebody is under way: begin the leave at the release, or say --broken\n",
+        _ => "",
+    }
+}
+
+/// Why the rest has no book. An option is named that may help.
+pub(crate) fn unrepaired<'a>(alloc: Global, why: Unmade) -> Untold<'a> {
+    let said = match &why {
+        Unmade::At { code, .. } => remedy(*code),
+        Unmade::Unlike | Unmade::Memory => "",
+    };
+    unmade(alloc, why, said)
+}
+
+/// Why there is no book in which a pairing breaks off as the words of the option say. The option is named.
+fn unbroken<'a>(alloc: Global, why: Unmade, words: &str) -> Untold<'a> {
+    match format!(in alloc; "this book comes of --broken {words}\n") {
+        Ok(said) => unmade(alloc, why, said.as_str()),
+        Err(_) => Untold::Memory,
     }
 }
 
@@ -69,8 +84,8 @@ fn break_in<'a>(book: &Problem, at: Minute, words: &str) -> Result<Break, Untold
     Ok(off)
 }
 
-/// The text and the tables of the book, whose bytes are the text, once each pairing that the line names breaks off
-/// at the instant.
+/// The text and the tables of the book, whose bytes are the text, once each pairing that the line names
+/// breaks off at the instant.
 pub(crate) fn broken_off<'a>(
     alloc: Global,
     line: &RepairLine<'a>,
@@ -86,7 +101,7 @@ pub(crate) fn broken_off<'a>(
                 text = broken.text;
                 book = broken.problem;
             }
-            Err(why) => return Err(unmade(alloc, why)),
+            Err(why) => return Err(unbroken(alloc, why, *words)),
         }
     }
     Ok((text, book))

@@ -4,13 +4,12 @@ ghost use Rattle.std.specs.Prelude.{◌≡◌, IfOk, IfSome, None, false, length
 ghost use Rattle.roster_watched.specs.Watch.{has_failed};
 
 use crate::telling::{Untold, refuse, refused, write};
+use crate::unmade::unmade;
 use roster_book::{BookFault, Command, read_book};
 use roster_desk_arguments::CarryLine;
 use roster_desk_carry::{
-    CarriedBook, Uncarried, carried_tables, carry_by_book, carry_by_ledger, read_ledger,
-    unlike_text,
+    CarriedBook, carried_tables, carry_by_book, carry_by_ledger, read_ledger, unlike_text,
 };
-use roster_desk_fault::fault_text;
 use roster_desk_folder::{Cells, TableFile};
 use roster_desk_given::Status;
 use roster_desk_reports::read_roster;
@@ -55,18 +54,6 @@ fn bytes_of(files: &[TableFile], table: Table) -> Option<&[u8]> {
     None
 }
 
-/// Why no book was made.
-fn uncarried<'a>(alloc: Global, why: Uncarried) -> Untold<'a> {
-    match why {
-        Uncarried::At { text, .. } => match fault_text(alloc, &text) {
-            Ok(told) => Untold::Faulty(told),
-            Err(_) => Untold::Memory,
-        },
-        Uncarried::Other => Untold::Unlike,
-        Uncarried::Memory => Untold::Memory,
-    }
-}
-
 /// The next month's book: by the ledger if there is one. What is wrong with the ledger, and where it says
 /// otherwise than the book, is told.
 fn next_book<'a>(
@@ -84,7 +71,7 @@ fn next_book<'a>(
         notes.extend_from_slice(NO_LEDGER)?;
         return match carry_by_book(alloc, text, book, places) {
             Ok(made) => Ok(Some(made)),
-            Err(why) => Err(uncarried(alloc, why)),
+            Err(why) => Err(unmade(alloc, why, "")),
         };
     };
     let mut cells = Cells {
@@ -101,7 +88,7 @@ fn next_book<'a>(
     notes.extend_from_slice(unlike.as_slice())?;
     match carry_by_ledger(alloc, text, book, places, ledger.as_slice()) {
         Ok(made) => Ok(Some(made)),
-        Err(why) => Err(uncarried(alloc, why)),
+        Err(why) => Err(unmade(alloc, why, "")),
     }
 }
 

@@ -3,6 +3,7 @@
 //!
 //! - `telling`: what is told of a roster, and the records of a report
 //! - `pages`: what is told of the records of a book
+//! - `unmade`: why no book was made
 //! - `breaking`: the book in which pairings break off
 //! - `mending`: the book of a repair
 //! - `making`: the book of the tables of a folder
@@ -15,6 +16,7 @@ mod making;
 mod mending;
 mod pages;
 mod telling;
+mod unmade;
 
 pub use carrying::{Carried, CarryFiles, carry_on};
 pub use making::write_book;

@@ -3,7 +3,7 @@
 ghost use Rattle.std.specs.Prelude.{◌≡◌, false};
 ghost use Rattle.roster_watched.specs.Watch.{has_failed};
 
-use crate::breaking::{broken_off, unmade};
+use crate::breaking::{broken_off, unrepaired};
 use crate::telling::{Noted, Untold, push_unknown, refuse, refused, write};
 use roster_book::{BookFault, Command, read_book};
 use roster_desk_arguments::RepairLine;
@@ -152,7 +152,7 @@ fn repaired<'a>(
     };
     match repair(alloc, text, book, published.as_slice(), terms) {
         Ok(made) => Ok(made),
-        Err(why) => Err(unmade(alloc, why)),
+        Err(why) => Err(unrepaired(alloc, why)),
     }
 }
 

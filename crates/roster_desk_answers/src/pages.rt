@@ -7,9 +7,10 @@ ghost use Rattle.roster_model.specs.Faults.{first_fault};
 ghost use Rattle.roster_model.specs.Record.{Check};
 
 use crate::telling::{Untold, refuse, write};
+use crate::unmade::unmade;
 use roster_book::{BookFault, Command, read_book};
 use roster_desk_arguments::Page;
-use roster_desk_fair::{Unfair, fair_book};
+use roster_desk_fair::fair_book;
 use roster_desk_fault::{fault_text, warn_text};
 use roster_desk_given::Status;
 use roster_problem::Problem;
@@ -61,8 +62,6 @@ fn fair(alloc: Global, book: &[u8], problem: &Problem) -> Result<Vec<u8>, Untold
 {
     match fair_book(alloc, book, problem) {
         Ok(text) => Ok(text),
-        Err(Unfair::Faulty(text)) => Err(Untold::Faulty(fault_text(alloc, &text)?)),
-        Err(Unfair::Other) => Err(Untold::Unlike),
-        Err(Unfair::Memory) => Err(Untold::Memory),
+        Err(why) => Err(unmade(alloc, why, "")),
     }
 }

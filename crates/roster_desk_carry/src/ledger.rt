@@ -147,7 +147,8 @@ pub fn unlike_text(alloc: Global, book: &Problem, rows: &[Flown]) -> Result<Vec<
         out.extend_from_slice(person.id.as_bytes())?;
         let (own_year, own_eleven) = (person.year, person.eleven);
         let line = format!(in alloc;
-            ": YEAR and ELEVEN before {month} are {own_year} and {own_eleven} by the book, {year} and {eleven} by the ledger, which counts\n"
+            ": YEAR and ELEVEN before {month} are {own_year} and {own_eleven} by the book, \
+             {year} and {eleven} by the ledger, which counts\n"
         )?;
         out.extend_from_slice(line.as_bytes())?;
     }

@@ -15,6 +15,6 @@ mod ledger;
 mod tables;
 mod writing;
 
-pub use carrying::{CarriedBook, Uncarried, carry, carry_by_book, carry_by_ledger};
+pub use carrying::{CarriedBook, carry, carry_by_book, carry_by_ledger};
 pub use ledger::{read_ledger, unlike_text};
 pub use tables::carried_tables;

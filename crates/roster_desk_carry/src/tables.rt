@@ -2,7 +2,7 @@
 
 ghost use Rattle.std.specs.Prelude.{◌≡◌, length};
 
-use crate::writing::{minute_text, month_text};
+use crate::writing::{kind_text, minute_text, month_text};
 use roster_desk_carry_judged::flight_in;
 use roster_desk_folder::TableFile;
 use roster_desk_reports::person_named;
@@ -95,12 +95,8 @@ fn push_sectors<'a>(
         for sector in &duty.sectors {
             let off = minute_text(alloc, sector.off)?;
             let on = minute_text(alloc, sector.on)?;
-            let letter = if sector.operates {
-                b"O".as_slice()
-            } else {
-                b"P".as_slice()
-            };
-            records.push(&[*person, off.as_bytes(), on.as_bytes(), letter])?;
+            let kind = kind_text(*sector);
+            records.push(&[*person, off.as_bytes(), on.as_bytes(), &kind])?;
         }
     }
     Ok(())

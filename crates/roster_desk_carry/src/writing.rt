@@ -54,6 +54,11 @@ pub(crate) fn minute_text(alloc: Global, at: Minute) -> Result<String, AllocErro
     }
 }
 
+/// Whether the sector is operated or positioning, as a book and a table write it.
+pub(crate) fn kind_text(sector: Sector) -> [u8; 1] {
+    if sector.operates { *b"O" } else { *b"P" }
+}
+
 /// When the next month's window begins for person `k`: each day of it that this one has begins with this
 /// month's day of the same place from the end.
 fn start_for(book: &Problem, k: usize) -> Minute
@@ -171,13 +176,9 @@ impl Draft {
     fn push_sector(&mut self, sector: Sector, name: &[u8]) -> Result<(), AllocError> {
         let off = minute_text(self.alloc, sector.off)?;
         let on = minute_text(self.alloc, sector.on)?;
-        let letter = if sector.operates {
-            b"O".as_slice()
-        } else {
-            b"P".as_slice()
-        };
+        let kind = kind_text(sector);
         self.records
-            .push(&[b"sector", name, letter, off.as_bytes(), on.as_bytes()])
+            .push(&[b"sector", name, &kind, off.as_bytes(), on.as_bytes()])
     }
 
     /// The records of a duty of the person, and of its sectors. Its name tells this month, and counts.

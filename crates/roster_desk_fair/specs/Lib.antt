@@ -1,2 +1,1 @@
 pub mod Fair
-pub mod Unfair

@@ -3,7 +3,6 @@
 //! `fair_book` writes the book anew, reads its own text again, and gives it only if each person has the fair
 //! target. In reading order:
 //!
-//! - `unfair`: why there is no book
 //! - `shares`: what comes to each weight of a whole
 //! - `targets`: what there is to fly at a base, and each person's share of it
 //! - `writing`: the text, on `csv`
@@ -13,9 +12,7 @@
 mod laws;
 mod shares;
 mod targets;
-mod unfair;
 mod writing;
 
 pub use laws::{shares_add_up, shares_are_near};
-pub use unfair::Unfair;
 pub use writing::fair_book;

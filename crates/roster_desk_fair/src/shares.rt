@@ -2,9 +2,9 @@
 
 ghost use Rattle.std.specs.Prelude.{◌≡◌, ◌<◌, ◌+◌, ◌*◌, ◌/◌, ◌++◌, ◌∷◌, [], IfErr, IfOk, IfSome, OnOk, sum};
 ghost use Rattle.roster_desk_fair.specs.Fair.{share_of, shares_of};
-ghost use Rattle.roster_desk_fair.specs.Unfair.{TellsFault};
+ghost use Rattle.roster_desk_made.specs.Made.{TellsFault};
 
-use crate::unfair::Unfair;
+use roster_desk_made::Unmade;
 use std::alloc::{AllocError, Global};
 
 /// The sum of the weights, if it is a machine's number.
@@ -55,21 +55,21 @@ pub(crate) fn push(numbers: &mut Vec<u64>, number: u64) -> Result<(), AllocError
 }
 
 /// The shares of the weights in the flight, unless nothing counts or a number is no machine's.
-pub(crate) fn shares(alloc: Global, flight: u64, weights: &[u64]) -> Result<Vec<u64>, Unfair>
+pub(crate) fn shares(alloc: Global, flight: u64, weights: &[u64]) -> Result<Vec<u64>, Unmade>
     ensures found { IfOk result (λ shares. shares.items ≡ shares_of flight weights.now) }
     ensures fault { IfErr result TellsFault }
 {
     let Some(whole) = sum_of(weights) else {
-        return Err(Unfair::Other);
+        return Err(Unmade::Unlike);
     };
     if whole == 0 {
-        return Err(Unfair::Other);
+        return Err(Unmade::Unlike);
     }
     let mut shares = Vec::new(alloc);
     let mut before = 0u64;
     for i in 0..weights.len() {
         let Some((minutes, upto)) = next_share(flight, whole, before, weights[i]) else {
-            return Err(Unfair::Other);
+            return Err(Unmade::Unlike);
         };
         push(&mut shares, minutes)?;
         before = upto;

@@ -3,11 +3,11 @@
 ghost use Rattle.std.specs.Prelude.{◌≡◌, ◌<◌, IfErr, IfOk, IfSome, length, map, slice_get, unwrap_or};
 ghost use Rattle.std.specs.List.{range_with_len};
 ghost use Rattle.roster_desk_fair.specs.Fair as spec;
-ghost use Rattle.roster_desk_fair.specs.Unfair.{TellsFault};
+ghost use Rattle.roster_desk_made.specs.Made.{TellsFault};
 
 use crate::shares::{push, shares};
-use crate::unfair::Unfair;
 use roster_cost::{fixed_flight, pairing_flight};
+use roster_desk_made::Unmade;
 use roster_problem::{Person, Problem};
 use std::alloc::{AllocError, Global};
 
@@ -134,13 +134,13 @@ fn number_at(numbers: &[u64], k: usize) -> u64
 }
 
 /// The share of person `k` in what there is to fly at the home base, unless a number is no machine's.
-fn fair_of(alloc: Global, problem: &Problem, k: usize) -> Result<u64, Unfair>
+fn fair_of(alloc: Global, problem: &Problem, k: usize) -> Result<u64, Unmade>
     requires { k < length problem.now.persons }
     ensures found { IfOk result (λ minutes. minutes ≡ spec.fair_target problem.now k) }
     ensures fault { IfErr result TellsFault }
 {
     let Some(flight) = to_fly(problem, k) else {
-        return Err(Unfair::Other);
+        return Err(Unmade::Unlike);
     };
     let weights = weights_at(alloc, problem, base_of(problem, k))?;
     let shares = shares(alloc, flight, weights.as_slice())?;
@@ -148,7 +148,7 @@ fn fair_of(alloc: Global, problem: &Problem, k: usize) -> Result<u64, Unfair>
 }
 
 /// The fair target of each person, in book order, unless a number is no machine's.
-pub(crate) fn fair_targets(alloc: Global, problem: &Problem) -> Result<Vec<u64>, Unfair>
+pub(crate) fn fair_targets(alloc: Global, problem: &Problem) -> Result<Vec<u64>, Unmade>
     ensures found { IfOk result (λ fair. fair.items
         ≡ map (spec.fair_target problem.now) (range_with_len 0 (length problem.now.persons))) }
     ensures fault { IfErr result TellsFault }

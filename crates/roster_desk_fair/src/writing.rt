@@ -6,17 +6,14 @@ ghost use Rattle.roster_model.specs.Answer.{records_of};
 ghost use Rattle.roster_model.specs.Faults.{first_fault};
 ghost use Rattle.roster_model.specs.Problem.{problem_of, target_of};
 ghost use Rattle.roster_model.specs.Record.{Check};
-ghost use Rattle.roster_book.specs.Reading.{TellsFirst};
+ghost use Rattle.roster_desk_made.specs.Made.{IsRead, TellsFault};
 ghost use Rattle.roster_desk_fair.specs.Fair.{IsFair, fair_target};
-ghost use Rattle.roster_desk_fair.specs.Unfair.{TellsFault};
 
 use crate::targets::fair_targets;
-use crate::unfair::Unfair;
-use csv::{ByteRecord, ReaderBuilder};
-use roster_book::{Book, BookFault, Command, read_book};
+use csv::ByteRecord;
+use roster_desk_made::{MadeBook, Unmade, book_of, records_in};
 use roster_desk_sheets::Records;
 use roster_problem::Problem;
-use roster_watched::Watched;
 use std::alloc::{AllocError, Global};
 
 /// Where the target stands in the record of a person.
@@ -41,51 +38,23 @@ fn push_person(
     records.push(cells.as_slice())
 }
 
-/// Puts the record behind the others as it is.
-fn push_other(alloc: Global, records: &mut Records, fields: &ByteRecord) -> Result<(), AllocError> {
-    let mut cells = Vec::new(alloc);
-    for i in 0..fields.len() {
-        cells.push(fields.get(i).unwrap_or(&[]))?;
-    }
-    records.push(cells.as_slice())
-}
-
 /// The book, whose bytes are the text, with these targets of its persons, in book order.
 fn text_with(alloc: Global, text: &[u8], fair: &[u64]) -> Result<Vec<u8>, AllocError> {
-    let reader = ReaderBuilder::new()
-        .has_headers(false)
-        .flexible(true)
-        .from_reader(alloc, text);
     let mut records = Records::new(alloc);
     let mut k = 0usize;
-    for record in reader.into_byte_records() {
-        // Bytes that are in memory are read without a fault of a device, and a record may have any number
-        // of fields of any bytes: so nothing but want of memory is left.
-        let Ok(fields) = record else {
-            return Err(AllocError);
-        };
+    for fields in &records_in(alloc, text)? {
         let is_person = fields.get(0).is_some_and(|kind| kind == b"crew".as_slice());
         let target = if is_person { fair.get(k) } else { None };
         match target {
             Some(target) => {
                 k = k.saturating_add(1);
                 let target = target.to_string(alloc)?;
-                push_person(alloc, &mut records, &fields, target.as_bytes())?;
+                push_person(alloc, &mut records, fields, target.as_bytes())?;
             }
-            None => push_other(alloc, &mut records, &fields)?,
+            None => records.copy(fields)?,
         }
     }
     records.finish()
-}
-
-/// The book that is read from the text.
-fn book_of(alloc: Global, text: &[u8]) -> Result<Book, BookFault>
-    ensures faultless { IfOk result (λ _. first_fault Check (records_of text.now) ≡ None) }
-    ensures problem { IfOk result (λ book. book.problem ≡ problem_of (records_of text.now)) }
-    ensures fault { IfErr result (TellsFirst Check (records_of text.now)) }
-{
-    let mut reader = Watched::new(text);
-    read_book(alloc, &mut reader, Command::Check)
 }
 
 /// Whether the book has these targets, and no others.
@@ -106,35 +75,33 @@ fn has_targets(book: &Problem, fair: &[u64]) -> bool
     true
 }
 
-/// The text of the book, if its targets are the fair ones.
-fn judged(text: Vec<u8>, read: &Problem, book: &Problem, fair: &[u64]) -> Result<Vec<u8>, Unfair>
+/// The text of the book that was read, if its targets are the fair ones.
+fn judged(read: MadeBook, book: &Problem, fair: &[u64]) -> Result<Vec<u8>, Unmade>
     requires targets { fair.now ≡ map (fair_target book.now) (range_with_len 0 (length book.now.persons)) }
-    requires faultless { first_fault Check (records_of text.items) ≡ None }
-    requires problem { read.now ≡ problem_of (records_of text.items) }
+    requires read { IsRead read }
     ensures faultless { IfOk result (λ text. first_fault Check (records_of text.items) ≡ None) }
     ensures fair { IfOk result (λ text. IsFair book.now (problem_of (records_of text.items))) }
     ensures fault { IfErr result TellsFault }
 {
-    if has_targets(read, fair) {
+    let MadeBook { text, problem } = read;
+    if has_targets(&problem, fair) {
         Ok(text)
     } else {
-        Err(Unfair::Other)
+        Err(Unmade::Unlike)
     }
 }
 
 /// The book, whose bytes are the text, with fair targets. None is given if a share is more than a book may
 /// have.
-pub fn fair_book(alloc: Global, text: &[u8], book: &Problem) -> Result<Vec<u8>, Unfair>
+pub fn fair_book(alloc: Global, text: &[u8], book: &Problem) -> Result<Vec<u8>, Unmade>
     ensures faultless { IfOk result (λ text. first_fault Check (records_of text.items) ≡ None) }
     ensures fair { IfOk result (λ text. IsFair book.now (problem_of (records_of text.items))) }
     ensures fault { IfErr result TellsFault }
 {
     let fair = fair_targets(alloc, book)?;
     let text = text_with(alloc, text, fair.as_slice())?;
-    match book_of(alloc, &text) {
-        Ok(read) => judged(text, &read.problem, book, fair.as_slice()),
-        Err(BookFault::Device) => Err(Unfair::Other),
-        Err(BookFault::At { .. }) => Err(Unfair::Faulty(text)),
-        Err(BookFault::Memory) => Err(Unfair::Memory),
+    match book_of(alloc, text) {
+        Ok(read) => judged(read, book, fair.as_slice()),
+        Err(why) => Err(why),
     }
 }

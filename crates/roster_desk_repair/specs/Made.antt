@@ -20,7 +20,8 @@ pub record IsMade (book : Problem) (published : List ℕ) (terms : Terms) (repai
   pub problem : repair.problem ≡ problem_of (records_of repair.text.items)
   pub fixed : repair.fixed.items ≡ fixed_of book terms published
   pub repaired : IsRepair book published repair.fixed.items (price_at book terms) repair.problem
-  pub costs : KeepsCosts book published repair.fixed.items (price_at book terms) repair.problem repair.constant
+  pub costs : KeepsCosts book published repair.fixed.items (price_at book terms)
+      repair.problem repair.constant
   pub duties : KeepsDuties book repair.fixed.items repair.problem
 
 -- The text is a book without a fault, and its problem is the book in which the pairing breaks off.

@@ -1,15 +1,12 @@
 //! A text that is a book in which a pairing breaks off.
 
-ghost use Rattle.std.specs.Prelude.{◌≡◌, ◌<◌, IfOk, None, length};
-ghost use Rattle.roster_model.specs.Answer.{records_of};
-ghost use Rattle.roster_model.specs.Faults.{first_fault};
-ghost use Rattle.roster_model.specs.Problem.{problem_of};
-ghost use Rattle.roster_model.specs.Record.{Check};
+ghost use Rattle.std.specs.Prelude.{◌<◌, IfErr, IfOk, length};
+ghost use Rattle.roster_desk_made.specs.Made.{IsRead, TellsFault};
 ghost use Rattle.roster_desk_repair.specs.Made.{IsBroken};
 
 use crate::keeping::Off;
-use crate::repairing::{Unrepaired, book_of, unread};
 use crate::writing::broken_text;
+use roster_desk_made::{MadeBook, Unmade, book_of};
 use roster_desk_repair_judged::{Break, is_broken_off};
 use roster_desk_reports::pairing_named;
 use roster_model::limits::MOST_NAME_BYTES;
@@ -50,21 +47,16 @@ fn free_name(alloc: Global, book: &Problem, name: &[u8]) -> Result<Vec<u8>, Allo
     Vec::from_slice(alloc, name)
 }
 
-/// The book of the text, if it is the one in which the pairing breaks off.
-fn broken(
-    book: &Problem,
-    off: &Break,
-    name: Vec<u8>,
-    text: Vec<u8>,
-    problem: Problem,
-) -> Result<BrokenBook, Unrepaired>
+/// The book that was read, if it is the one in which the pairing breaks off.
+fn broken(book: &Problem, off: &Break, name: Vec<u8>, read: MadeBook) -> Result<BrokenBook, Unmade>
     requires pairing { off.now.pairing < length book.now.pairings }
-    requires faultless { first_fault Check (records_of text.items) ≡ None }
-    requires problem { problem ≡ problem_of (records_of text.items) }
-    ensures { IfOk result (IsBroken book.now off.now) }
+    requires read { IsRead read }
+    ensures broken { IfOk result (IsBroken book.now off.now) }
+    ensures fault { IfErr result TellsFault }
 {
+    let MadeBook { text, problem } = read;
     if !is_broken_off(book, off, &name, &problem) {
-        return Err(Unrepaired::Other);
+        return Err(Unmade::Unlike);
     }
     Ok(BrokenBook {
         text,
@@ -73,16 +65,17 @@ fn broken(
     })
 }
 
-/// The book, whose bytes are the text, in which a pairing breaks off. None is given if it would have a fault, as
-/// a duty that brings somebody there too late.
+/// The book, whose bytes are the text, in which a pairing breaks off. None is given if it would have a fault,
+/// as a duty that brings somebody there too late.
 pub fn break_off(
     alloc: Global,
     text: &[u8],
     book: &Problem,
     off: &Break,
-) -> Result<BrokenBook, Unrepaired>
+) -> Result<BrokenBook, Unmade>
     requires { off.now.pairing < length book.now.pairings }
-    ensures { IfOk result (IsBroken book.now off.now) }
+    ensures broken { IfOk result (IsBroken book.now off.now) }
+    ensures fault { IfErr result TellsFault }
 {
     let name = free_name(alloc, book, book.pairing(off.pairing).id.as_bytes())?;
     let left = Off {
@@ -91,8 +84,8 @@ pub fn break_off(
         name: &name,
     };
     let text = broken_text(alloc, text, &left)?;
-    match book_of(alloc, &text) {
-        Ok(read) => broken(book, off, name, text, read.problem),
-        Err(fault) => Err(unread(text, fault)),
+    match book_of(alloc, text) {
+        Ok(read) => broken(book, off, name, read),
+        Err(why) => Err(why),
     }
 }

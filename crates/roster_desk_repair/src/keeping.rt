@@ -1,4 +1,5 @@
-//! Which records of a book stay in a repair, which ones are left of a pairing that breaks off, and what they say.
+//! Which records of a book stay in a repair, which ones are left of a pairing that breaks off, and what they
+//! say.
 
 use roster_desk_repair_judged::{Break, Rest, Terms, is_left};
 use roster_desk_reports::{pairing_named, person_named};

@@ -3,9 +3,11 @@
 ghost use Rattle.std.specs.Prelude.{◌<◌, length};
 
 use crate::keeping::{Fate, Kept, Off};
-use csv::{ByteRecord, ReaderBuilder, Writer, WriterBuilder};
+use csv::ByteRecord;
+use roster_desk_made::records_in;
 use roster_desk_repair_judged::{Rest, price_at, station_of};
 use roster_desk_reports::pairing_named;
+use roster_desk_sheets::Records;
 use roster_desk_words::instant;
 use std::alloc::{AllocError, Global};
 
@@ -14,46 +16,6 @@ const OF_PERSON: &[u8] = b"C";
 
 /// The letter of a pairing's duty.
 const OF_PAIRING: &[u8] = b"P";
-
-/// Records that are written. Nothing but want of memory can fail.
-#[derive(Drop)]
-struct Records {
-    writer: Writer<Vec<u8>>,
-}
-
-impl Records {
-    /// No record.
-    fn new(alloc: Global) -> Records {
-        let writer = WriterBuilder::new()
-            .flexible(true)
-            .from_writer(Vec::new(alloc));
-        Records { writer }
-    }
-
-    /// Puts a record behind the others.
-    fn push(&mut self, fields: &[&[u8]]) -> Result<(), AllocError> {
-        match self.writer.write_fields(fields) {
-            Ok(()) => Ok(()),
-            Err(_) => Err(AllocError),
-        }
-    }
-
-    /// Puts a record that was read behind the others.
-    fn copy(&mut self, fields: &ByteRecord) -> Result<(), AllocError> {
-        match self.writer.write_byte_record(fields) {
-            Ok(()) => Ok(()),
-            Err(_) => Err(AllocError),
-        }
-    }
-
-    /// The text.
-    fn finish(self) -> Result<Vec<u8>, AllocError> {
-        match self.writer.into_inner() {
-            Ok(text) => Ok(text),
-            Err(_) => Err(AllocError),
-        }
-    }
-}
 
 /// What was written so far. A record names only what stands before it: so duties, which may come to name a
 /// person who stands below them in the book, are put behind all persons.
@@ -237,24 +199,6 @@ impl Draft {
         text.extend_from_slice(costs.as_slice())?;
         Ok(text)
     }
-}
-
-/// The records of a book, whose bytes are the text.
-fn records_in(alloc: Global, text: &[u8]) -> Result<Vec<ByteRecord>, AllocError> {
-    let reader = ReaderBuilder::new()
-        .has_headers(false)
-        .flexible(true)
-        .from_reader(alloc, text);
-    let mut records = Vec::new(alloc);
-    for record in reader.into_byte_records() {
-        // Bytes that are in memory are read without a fault of a device, and a record may have any number
-        // of fields of any bytes: so nothing but want of memory is left.
-        let Ok(fields) = record else {
-            return Err(AllocError);
-        };
-        records.push(fields)?;
-    }
-    Ok(records)
 }
 
 /// The text of the repair of the book, whose bytes are the text.

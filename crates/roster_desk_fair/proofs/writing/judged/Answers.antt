@@ -4,5 +4,5 @@ use Rattle.roster_desk_fair.proofs.writing.judged.Goals as goal
 pub returns-then-has_targets-clause-fair : goal.returns-then-has_targets-clause-fair
 returns-then-has_targets-clause-fair c =
     let given = c.has_targets.ensures c.if-has_targets.true in
-    rw (← c.requires.problem)
-    (fair-targets c.args.book.now c.args.read.now c.args.fair.now c.requires.targets given.0 given.1)
+    rw (← c.requires.read.problem)
+    (fair-targets c.args.book.now c.args.read.problem c.args.fair.now c.requires.targets given.0 given.1)
