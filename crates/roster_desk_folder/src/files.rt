@@ -1,5 +1,8 @@
 //! The files of a folder, and the zone files that its tables name.
 
+ghost use Rattle.std.specs.Prelude.{◌≡◌, All, IfOk, IfSome, OnOk, string_bytes, true};
+ghost use Rattle.roster_desk_times.specs.Zones as zones;
+
 use roster_desk_sheets::{Column, Mistakes, Place, Sheet, Table, read_sheet};
 use roster_desk_times::{is_zone_name, read_zone};
 use std::alloc::{AllocError, Global};
@@ -122,21 +125,27 @@ impl Sheets {
     }
 }
 
+/// The name of a zone in the cell, if it has one in place of a rule.
+fn named_zone(cell: &[u8]) -> Option<&str>
+    ensures { IfSome result (λ name. (name.now ≡ cell.now) × (zones.is_zone_name name.now ≡ true)) }
+{
+    if read_zone(cell).is_some() || !is_zone_name(cell) {
+        return None;
+    }
+    str::from_utf8(cell).ok()
+}
+
 /// Puts the names of zones in the table behind the others.
-fn push_zone_names(
-    alloc: Global,
-    names: &mut Vec<String>,
-    sheet: &Sheet,
-) -> Result<(), AllocError> {
+fn push_zone_names(alloc: Global, names: &mut Vec<String>, sheet: &Sheet) -> Result<(), AllocError>
+    requires { All (λ name. zones.is_zone_name (string_bytes name) ≡ true) names.old.items }
+    ensures { OnOk result
+        (All (λ name. zones.is_zone_name (string_bytes name) ≡ true) names.new.items) }
+{
     for i in 0..sheet.len() {
         let Some(entry) = sheet.entry(i) else {
             continue;
         };
-        let zone = entry.get(Column::Zone);
-        if zone.is_empty() || read_zone(zone).is_some() || !is_zone_name(zone) {
-            continue;
-        }
-        if let Ok(name) = str::from_utf8(zone) {
+        if let Some(name) = named_zone(entry.get(Column::Zone)) {
             names.push(String::from_str(alloc, name)?)?;
         }
     }
@@ -144,7 +153,10 @@ fn push_zone_names(
 }
 
 /// The names of the zones whose files the tables want. None of them leads out of a folder of zone files.
-pub fn zone_names(alloc: Global, files: &[TableFile]) -> Result<Vec<String>, AllocError> {
+pub fn zone_names(alloc: Global, files: &[TableFile]) -> Result<Vec<String>, AllocError>
+    ensures { IfOk result (λ names.
+        All (λ name. zones.is_zone_name (string_bytes name) ≡ true) names.items) }
+{
     let mut untold = Mistakes::none(alloc);
     let mut names = Vec::new(alloc);
     let bases = sheet_in(alloc, files, Table::Bases, &mut untold)?;
