@@ -48,7 +48,8 @@ pub trait Shelf {
     /// The file at the path, or standard input at `-`, from its first byte.
     fn open(&self, path: &str) -> io::Result<Self::Input>
         ensures bytes { IfOk result (λ input. Self.Input.remaining input ≡ bytes_at self.now path.now) }
-        ensures opens { IfErr result (λ error. error_kind error ≢ OutOfMemory → ¬ must_open self.now path.now) }
+        ensures opens { IfErr result (λ error. error_kind error ≢ OutOfMemory
+            → ¬ must_open self.now path.now) }
         ensures lacks { IfErr result (λ error. error_kind error ≡ OutOfMemory → may_lack self.now path.now) };
 
     /// Whether a file that is put at the path would take the place of the one at the other path.
@@ -84,7 +85,7 @@ pub struct Files<S> {
 
 impl<S: Shelf> Files<S> {
     ghost use Rattle.std.specs.Prelude.{◌||◌, ◌⊎◌, option_map};
-    ghost use Rattle.roster_desk_program.specs.Files.{has_missed, shelf_of};
+    ghost use Rattle.roster_desk_program.specs.Files.{IsUnopened, has_missed, shelf_of};
     ghost use Rattle.roster_desk_program.specs.Keeping.{IsLent, is_lost};
     ghost use Rattle.roster_desk_program.specs.declared.files.Unread.{Unread};
 
@@ -112,14 +113,7 @@ impl<S: Shelf> Files<S> {
         ensures bytes { IfOk result (λ input. S.Input.remaining input
             ≡ S.bytes_at (shelf_of self.old) path.now) }
         ensures goes { OnOk result (has_missed self.new ≡ has_missed self.old) }
-        ensures either { IfErr result (λ fault. (fault ≡ Unread.Unopened) ⊎ (fault ≡ Unread.Memory)) }
-        ensures fails { IfErr result (λ fault. fault ≡ Unread.Unopened → has_missed self.new ≡ true) }
-        ensures unopened { IfErr result (λ fault. fault ≡ Unread.Unopened
-            → ¬ S.must_open (shelf_of self.old) path.now) }
-        ensures memory { IfErr result (λ fault. fault ≡ Unread.Memory
-            → has_missed self.new ≡ has_missed self.old) }
-        ensures lacks { IfErr result (λ fault. fault ≡ Unread.Memory
-            → S.may_lack (shelf_of self.old) path.now) }
+        ensures fault { IfErr result (IsUnopened S.must_open S.may_lack path.now self.old self.new) }
     {
         match self.shelf.open(path) {
             Ok(input) => Ok(input),
@@ -138,15 +132,7 @@ impl<S: Shelf> Files<S> {
             ≡ S.bytes_at (shelf_of self.old) path.now) }
         ensures open { IfOk result (λ reader. has_failed reader ≡ false) }
         ensures goes { OnOk result (has_missed self.new ≡ has_missed self.old) }
-        ensures either { IfErr result (λ fault. (fault ≡ Unread.Unopened) ⊎ (fault ≡ Unread.Memory)) }
-        ensures fails { IfErr result (λ fault. fault ≡ Unread.Unopened → has_missed self.new ≡ true) }
-        ensures unopened { IfErr result (λ fault. fault ≡ Unread.Unopened
-            → ¬ S.must_open (shelf_of self.old) path.now) }
-        ensures memory { IfErr result (λ fault. fault ≡ Unread.Memory
-            → has_missed self.new ≡ has_missed self.old) }
-        // Want of memory is told only if it may run out.
-        ensures lacks { IfErr result (λ fault. fault ≡ Unread.Memory
-            → S.may_lack (shelf_of self.old) path.now) }
+        ensures fault { IfErr result (IsUnopened S.must_open S.may_lack path.now self.old self.new) }
     {
         match self.opened(path) {
             Ok(input) => Ok(Watched::new(input)),
