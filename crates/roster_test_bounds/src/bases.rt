@@ -7,7 +7,7 @@ ghost use Rattle.roster_model.specs.Settled.{IsHeld};
 ghost use Rattle.roster_bounds.specs.Chosen.{priced_table};
 
 use crate::books::{AS_EQUAL, EQUAL_SHARES};
-use crate::spans::{all_open, is, searched};
+use crate::spans::{Over, all_open, is, searched};
 use roster_bounds::Tables;
 use roster_branchtree::{Path, Sight, Span};
 use roster_incumbent::Open;
@@ -143,7 +143,12 @@ fn looked(
         hi: 216,
     };
     let mut looks = Looks { count: 0 };
-    let best = searched(alloc, problem, table, tables, span, &mut looks, 1, known)?;
+    let over = Over {
+        problem,
+        table,
+        tables,
+    };
+    let best = searched(alloc, over, span, &mut looks, 1, known)?;
     Ok(Seen {
         none_before: [tables.none_before(known), tables.none_before(opening)],
         finds_best: is(&best, AS_EQUAL, 4),

@@ -2,11 +2,14 @@
 
 /// One person and two pairings with a minute too little between them: no line has both.
 pub(crate) const ONE_OF_TWO: &[u8] =
-    b"period,2024-03\nbase,BAS,UTC0\ncrew,A,BAS,0,0,0\npairing,P1,BAS,100\nduty,Q1,P,P1,BAS,2024-03-04T06:00Z,2024-03-04T14:00Z\npairing,P2,BAS,100\nduty,Q2,P,P2,BAS,2024-03-05T01:59Z,2024-03-05T10:00Z\n";
+    b"period,2024-03\nbase,BAS,UTC0\ncrew,A,BAS,0,0,0\npairing,P1,BAS,100\n\
+      duty,Q1,P,P1,BAS,2024-03-04T06:00Z,2024-03-04T14:00Z\npairing,P2,BAS,100\n\
+      duty,Q2,P,P2,BAS,2024-03-05T01:59Z,2024-03-05T10:00Z\n";
 
 /// Two persons and one pairing, which costs as much with either as open.
 pub(crate) const ALL_ALIKE: &[u8] =
-    b"period,2024-03\nbase,BAS,UTC0\ncrew,A,BAS,0,0,0\ncrew,B,BAS,0,0,0\npairing,P1,BAS,5\nduty,Q1,P,P1,BAS,2024-03-04T06:00Z,2024-03-04T14:00Z\ncost,A,P1,5\ncost,B,P1,5\n";
+    b"period,2024-03\nbase,BAS,UTC0\ncrew,A,BAS,0,0,0\ncrew,B,BAS,0,0,0\npairing,P1,BAS,5\n\
+      duty,Q1,P,P1,BAS,2024-03-04T06:00Z,2024-03-04T14:00Z\ncost,A,P1,5\ncost,B,P1,5\n";
 
 /// Five persons, and on each of three days five pairings at one time. Flight can hardly be shared out
 /// equally, and each minute off its target costs 1. Each person has 216 legal sets.

@@ -57,21 +57,33 @@ pub(crate) fn all_open(alloc: Global, problem: &Problem, table: &Table) -> Resul
     Err("leaving all open is legal")?
 }
 
+/// A problem, its lines, and the tables over which they are searched.
+#[derive(Clone, Copy)]
+pub(crate) struct Over<'a> {
+    pub(crate) problem: &'a Problem,
+    pub(crate) table: &'a Table,
+    pub(crate) tables: &'a Tables<'a>,
+}
+
 /// What the search of this span answers.
 pub(crate) fn searched<S: Sight>(
     alloc: Global,
-    problem: &Problem,
-    table: &Table,
-    tables: &Tables<'_>,
+    over: Over<'_>,
     span: Span,
     sight: &mut S,
     every: usize,
     known: &Arc<Roster>,
 ) -> Result<Arc<Roster>, AllocError>
-    requires table { IsTableOf problem.now table.now }
-    requires tables { tables.now ≡ priced_table problem.now table.now tables.now.prices }
-    requires known { IsHeld problem.now (arc_value known.now) }
+    requires table { IsTableOf over.problem.now over.table.now }
+    requires tables { over.tables.now
+        ≡ priced_table over.problem.now over.table.now over.tables.now.prices }
+    requires known { IsHeld over.problem.now (arc_value known.now) }
 {
+    let Over {
+        problem,
+        table,
+        tables,
+    } = over;
     let piece = Piece::of(span);
     match search(alloc, problem, table, tables, piece, sight, every, known) {
         Ok(Done { piece, best }) => {
@@ -88,25 +100,17 @@ pub(crate) fn searched<S: Sight>(
 /// The search over these tables, which knows the roster that leaves all open.
 fn found_under<S: Sight>(
     alloc: Global,
-    problem: &Problem,
-    table: &Table,
-    tables: &Tables<'_>,
-    path: &[usize],
-    lo: usize,
-    hi: usize,
+    over: Over<'_>,
+    span: Span,
     sight: &mut S,
     every: usize,
 ) -> Result<Arc<Roster>, Fail>
-    requires table { IsTableOf problem.now table.now }
-    requires tables { tables.now ≡ priced_table problem.now table.now tables.now.prices }
+    requires table { IsTableOf over.problem.now over.table.now }
+    requires tables { over.tables.now
+        ≡ priced_table over.problem.now over.table.now over.tables.now.prices }
 {
-    let known = all_open(alloc, problem, table)?;
-    let span = Span {
-        path: Path::new(path.to_vec(alloc)?),
-        lo,
-        hi,
-    };
-    Ok(searched(alloc, problem, table, tables, span, sight, every, &known)?)
+    let known = all_open(alloc, over.problem, over.table)?;
+    Ok(searched(alloc, over, span, sight, every, &known)?)
 }
 
 /// The search in this problem.
@@ -121,7 +125,17 @@ fn found_over<S: Sight>(
 ) -> Result<Arc<Roster>, Fail> {
     let table = table_of(alloc, problem)?;
     let tables = choose_tables(alloc, problem, &table)?;
-    found_under(alloc, problem, &table, &tables, path, lo, hi, sight, every)
+    let over = Over {
+        problem,
+        table: &table,
+        tables: &tables,
+    };
+    let span = Span {
+        path: Path::new(path.to_vec(alloc)?),
+        lo,
+        hi,
+    };
+    found_under(alloc, over, span, sight, every)
 }
 
 /// The search of a span of this book.
