@@ -16,8 +16,8 @@ fn words_of(alloc: Global, texts: &[&str]) -> Result<Vec<String>, AllocError> {
     Ok(words)
 }
 
-/// These words ask for nothing and end with this status, and something is told to just one of both writers: to
-/// standard error if they are refused.
+/// These words ask for nothing and end with this status, and something is told to just one of both writers:
+/// to standard error if they are refused.
 fn refused<R: Abort + AllocGlobal>(rt: &R, texts: &[&str], status: u8) -> Result<(), Fail> {
     let words = words_of(rt.alloc(), texts)?;
     let mut writer = Watched::new(Vec::new(rt.alloc()));
