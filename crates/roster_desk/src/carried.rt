@@ -48,8 +48,8 @@ fn read_old(rt: &HostRuntime, folder: &str) -> Result<Option<Vec<TableFile>>, Al
     Ok(Some(old))
 }
 
-/// The ledger of the folder: one without rows, if it has none; none if it can't be read, as standard error was
-/// told.
+/// The ledger of the folder: one without rows, if it has none; none if it can't be read, as standard error
+/// was told.
 fn read_own_ledger(rt: &HostRuntime, folder: &str) -> Result<Option<Vec<u8>>, AllocError> {
     match find_table(rt, folder, Table::Flown)? {
         Found::Bytes(bytes) => Ok(Some(bytes)),
@@ -58,8 +58,8 @@ fn read_own_ledger(rt: &HostRuntime, folder: &str) -> Result<Option<Vec<u8>>, Al
     }
 }
 
-/// The files that are needed besides the book, the report and the ledger that the line names, if it does; none
-/// if one can't be read, as standard error was told.
+/// The files that are needed besides the book, the report and the ledger that the line names, if it does;
+/// none if one can't be read, as standard error was told.
 pub(crate) fn read_carry_files(
     rt: &HostRuntime,
     into: Option<&str>,

@@ -8,8 +8,8 @@
 //! - `months`: the commands that write a book, or tables of one
 //! - `ending`: how a run ends
 //!
-//! `main` hands the words to `asked` of `roster_desk_program`, and the line of a plan to its `program`; for other lines it
-//! reads the book and the reports whole and hands them to `roster_desk_answers`.
+//! `main` hands the words to `asked` of `roster_desk_program`, and the line of a plan to its `program`; for
+//! other lines it reads the book and the reports whole and hands them to `roster_desk_answers`.
 #![tactic(auto)]
 
 mod carried;

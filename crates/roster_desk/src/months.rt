@@ -121,7 +121,8 @@ fn carry(
     }
 }
 
-/// Puts the files into the folder of the line, if it names one. Whether that could be done; if not, it is told.
+/// Puts the files into the folder of the line, if it names one. Whether that could be done; if not, it is
+/// told.
 fn is_put(rt: &HostRuntime, line: &CarryLine<'_>, files: &[TableFile]) -> bool {
     let Some(folder) = line.into else {
         return true;

@@ -147,8 +147,8 @@ fn tell_others(rt: &HostRuntime, folder: &str) -> Result<(), AllocError> {
     Ok(())
 }
 
-/// The files of the folder, and the zone files that they name; none if a file can't be read, as standard error
-/// was told.
+/// The files of the folder, and the zone files that they name; none if a file can't be read, as standard
+/// error was told.
 pub(crate) fn read_files(rt: &HostRuntime, folder: &str) -> Result<Option<Files>, AllocError> {
     tell_others(rt, folder)?;
     let Some(tables) = read_tables(rt, folder)? else {

@@ -44,8 +44,8 @@ pub(crate) fn begin_of(zone: &TimeZone<'static>, date: Date) -> Option<i64> {
     Some(midnight(zone, date)?.as_second())
 }
 
-/// The second at which the date begins on the clocks. No book reaches the dates before 1970 and behind 9998, as
-/// 9999-12-31, by which some mean that there is no end: they are before all seconds or behind them.
+/// The second at which the date begins on the clocks. No book reaches the dates before 1970 and behind 9998,
+/// as 9999-12-31, by which some mean that there is no end: they are before all seconds or behind them.
 pub(crate) fn reached(zone: &TimeZone<'static>, date: Date) -> i64 {
     match begin_of(zone, date) {
         Some(second) => second,

@@ -137,8 +137,8 @@ fn rank_of_persons<'a>(tables: &'a Tables, taken: &Taken) -> &'a [u8] {
     &[]
 }
 
-/// The first pairing whose rank isn't that of the persons, or of the pairings before it. An empty one agrees with
-/// each.
+/// The first pairing whose rank isn't that of the persons, or of the pairings before it. An empty one agrees
+/// with each.
 fn pairing_of_other_rank<'a>(tables: &'a Tables, taken: &Taken) -> Option<&'a Pairing> {
     let mut rank = rank_of_persons(tables, taken);
     for (p, pairing) in tables.pairings.iter().enumerate() {

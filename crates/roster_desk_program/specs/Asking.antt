@@ -12,7 +12,8 @@ kind_number _ = 2
 
 -- the status is that of one of the kinds, or memory ran out
 abbrev pub EndsByKind : Kinds → ℕ → Type 0
-EndsByKind kinds status = (status ≡ 3) ⊎ ((kind : ErrorKind) × IsAmong kind kinds × (status ≡ kind_number kind))
+EndsByKind kinds status =
+    (status ≡ 3) ⊎ ((kind : ErrorKind) × IsAmong kind kinds × (status ≡ kind_number kind))
 
 -- what standard error is told if a word is no text
 abbrev pub no_text : List ℕ

@@ -41,8 +41,8 @@ standard_input = codes "-"
 abbrev pub named_text : List ℕ → List ℕ → List ℕ
 named_text path wrong = (codes "error: " ++ path) ++ wrong
 
--- What standard error is told before the line feed; none if nothing is. If the file that keeps a plan couldn't be
--- written, the watcher was told. Of a report that is refused nothing is said here.
+-- What standard error is told before the line feed; none if nothing is. If the file that keeps a plan
+-- couldn't be written, the watcher was told. Of a report that is refused nothing is said here.
 abbrev pub ending_text : Ending → Option (List ℕ)
 ending_text endings.Planned = None
 ending_text endings.Faulty = None
@@ -90,15 +90,19 @@ IsRefusedStart book report (endings.StartRefused line wrong) =
     OfTold (IsStartFault report (statuses.StartRefused line wrong)) book
 IsRefusedStart book report _ = ⊤
 
--- What a writer holds that ended so, over a book of these bytes and a report of those, or no report: a plan that begins
--- with the report, whole and flushed; the line of the first fault; the first bytes of one of them; or nothing.
-pub record IsEnding {W : Type 0} (contents : W → Option (List ℕ)) (book : Option (List ℕ)) (report : Option (List ℕ)) (old new : Watched W) (ending : Ending) : Type 0 where
+-- What a writer holds that ended so, over a book of these bytes and a report of those, or no report: a plan
+-- that begins with the report, whole and flushed; the line of the first fault; the first bytes of one of
+-- them; or nothing.
+pub record IsEnding {W : Type 0} (contents : W → Option (List ℕ)) (book : Option (List ℕ))
+    (report : Option (List ℕ)) (old new : Watched W) (ending : Ending) : Type 0 where
   pub planned : ending ≡ endings.Planned → OfTold
-      (λ records. Writes (IsPlanOfBook report records) (contents (inner_of old)) (contents (inner_of new))) book
+      (λ records. Writes (IsPlanOfBook report records)
+      (contents (inner_of old)) (contents (inner_of new))) book
   pub faulty : ending ≡ endings.Faulty → OfTold
       (λ records. Writes (IsRefusal Check records) (contents (inner_of old)) (contents (inner_of new))) book
   pub part : has_failed new ≡ true → OfTold
-      (λ records. WritesPart (IsAnswerTo report records) (contents (inner_of old)) (contents (inner_of new))) book
+      (λ records. WritesPart (IsAnswerTo report records)
+      (contents (inner_of old)) (contents (inner_of new))) book
   pub flushed : (ending ≡ endings.Planned → is_flushed new ≡ true)
       × (ending ≡ endings.Faulty → is_flushed new ≡ true)
   pub unkept : IsUnkept ending → OfTold
@@ -156,8 +160,8 @@ TellsPath bytes_at line endings.InputUnread =
     (line.book.now ≡ standard_input) ⊎ (start_of line ≡ Some standard_input)
 TellsPath bytes_at line _ = ⊤
 
--- What is told of a file has a cause: one that can't be opened isn't known to open, and if a plan isn't kept some file
--- couldn't take its text.
+-- What is told of a file has a cause: one that can't be opened isn't known to open, and if a plan isn't kept
+-- some file couldn't take its text.
 abbrev pub HasCause : {K : Type 0} → (List ℕ → Type 0) → (K → Bool) → Ending → Type 0
 HasCause must_open has_refused (endings.Unopened path) = ¬ must_open path.now
 HasCause must_open has_refused endings.Unkept = HasRefused has_refused
@@ -168,7 +172,8 @@ HasCause must_open has_refused _ = ⊤
 -- it is that of a run whose plan isn't kept
 abbrev pub EndsLost : Status → Type 0
 EndsLost status =
-    (status ≡ statuses.Answered) ⊎ (status ≡ statuses.Refused) ⊎ (status ≡ statuses.Memory) ⊎ IsStartRefused status
+    (status ≡ statuses.Answered) ⊎ (status ≡ statuses.Refused) ⊎ (status ≡ statuses.Memory)
+    ⊎ IsStartRefused status
 
 -- it was the run's status that ended it so
 abbrev pub EndsRun : Status → Ending → Type 0

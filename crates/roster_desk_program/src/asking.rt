@@ -21,8 +21,8 @@ use std::io;
 use std::io::Write;
 use std::process::ExitCode;
 
-/// What the words ask for, of which the first is the program's name. If they ask for nothing it is the exit status:
-/// `writer` was told the help or the version that they call for, or `errors` why they are refused.
+/// What the words ask for, of which the first is the program's name. If they ask for nothing it is the exit
+/// status: `writer` was told the help or the version that they call for, or `errors` why they are refused.
 pub fn asked<'a, W: Write, E: Write>(
     alloc: Global,
     words: &'a [String],
@@ -32,9 +32,11 @@ pub fn asked<'a, W: Write, E: Write>(
     ensures asked { IfOk result (Asks (map string_bytes words.entry.now)) }
     ensures faultless { IfOk result (λ _. fault_of desk_app (map string_bytes words.entry.now) ≡ []) }
     ensures untold { OnOk result ((writer.new ≡ writer.old) × (errors.new ≡ errors.old)) }
-    // 0 for help and the version, 2 for what clap refuses, each for one of its own reasons. Memory may run out first.
+    // 0 for help and the version, 2 for what clap refuses, each for one of its own reasons. Memory may run
+    // out first.
     ensures kind { fault_of desk_app (map string_bytes words.entry.now) ≢ []
-        → IfErr result (λ code. EndsByKind (fault_of desk_app (map string_bytes words.entry.now)) (exit_status code)) }
+        → IfErr result (λ code.
+        EndsByKind (fault_of desk_app (map string_bytes words.entry.now)) (exit_status code)) }
     ensures taken { fault_of desk_app (map string_bytes words.entry.now) ≡ []
         → IfErr result (λ code. (exit_status code ≡ 2) ⊎ (exit_status code ≡ 3)) }
     // Only one of them is told.
@@ -78,7 +80,8 @@ fn out_of_memory<E: Write>(errors: &mut Watched<E>) -> ExitCode
     Ending::Memory.exit_code()
 }
 
-/// Tells that a word of the command line is no text, or that memory ran out on the way. It gives the exit status.
+/// Tells that a word of the command line is no text, or that memory ran out on the way. It gives the exit
+/// status.
 pub fn unread_words<E: Write>(error: &io::Error, errors: &mut Watched<E>) -> ExitCode
     ensures memory { error_kind error.now ≡ OutOfMemory → (exit_status result ≡ 3)
         × TellsEnding E.contents Ending.Memory errors.old errors.new }

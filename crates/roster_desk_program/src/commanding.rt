@@ -63,7 +63,8 @@ pub fn program<T: Threads + Sync, S: Shelf, W: Write, E: Write, P: Watcher + Sta
         → (exit_status result ≡ 2) ⊎ (exit_status result ≡ 3) }
     ensures shared { SharesInput line.now → (exit_status result ≡ 2) ⊎ (exit_status result ≡ 3) }
     ensures memory { exit_status result ≡ 3 → writer.new ≡ writer.old }
-    // Only the file in which the line keeps the plan is lent, if it names one, and only for texts of known plans.
+    // Only the file in which the line keeps the plan is lent, if it names one, and only for texts of known
+    // plans.
     ensures lent { IsLent S.lends (keep_of line.now) (shelf_of files.old) (shelf_of files.new) }
     // A failure is told if it happened, and only then.
     ensures failed { (exit_status result ≡ 4)

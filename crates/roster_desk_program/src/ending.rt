@@ -42,7 +42,8 @@ pub enum Ending<'a> {
     Unwritten,
     /// The file that keeps the plan couldn't be written. What was found was written, if memory was there.
     Unkept,
-    /// Memory for the text of a plan that was to be kept ran out. What was found was written, if memory was there.
+    /// Memory for the text of a plan that was to be kept ran out. What was found was written, if memory was
+    /// there.
     Forgotten,
 }
 

@@ -1,6 +1,6 @@
 //! What is known of a plan is kept in a file.
 
-ghost use Rattle.std.specs.Prelude.{◌≡◌, ◌≢◌, IfSome, None, Some, false, true};
+ghost use Rattle.std.specs.Prelude.{◌≡◌, ◌≢◌, IfSome, None, false, true};
 ghost use Rattle.roster_plan.specs.Planned.{IsKnown};
 ghost use Rattle.roster_desk_run.specs.Run.{IsKnownText};
 ghost use Rattle.roster_desk_program.specs.Keeping.{HasRefused, is_lost, kept_of};

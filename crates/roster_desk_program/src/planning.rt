@@ -49,7 +49,8 @@ pub fn plan_line<'a, T: Threads + Sync, S: Shelf, W: Write, P: Watcher + Starter
     ensures path { TellsPath (S.bytes_at (shelf_of files.old)) line.now result }
     // No file is told as failed that is known to be there.
     ensures cause { HasCause (S.must_open (shelf_of files.old)) S.Keep.has_refused result }
-    // Only the file in which the line keeps the plan is lent, if it names one, and only for texts of known plans.
+    // Only the file in which the line keeps the plan is lent, if it names one, and only for texts of known
+    // plans.
     ensures lent { IsLent S.lends (keep_of line.now) (shelf_of files.old) (shelf_of files.new) }
     // A file's failure is told if it happened, and only then; but a writer's is told first.
     ensures missed { IsMissed result → has_missed files.new ≡ true }
@@ -156,7 +157,8 @@ fn file_of<'a, K: Drop>(line: &PlanLine<'a>, slot: Option<K>) -> Option<KeptFile
     }
 }
 
-/// How a run ends over the line's book that ended with this status, with what became of the file that keeps the plan.
+/// How a run ends over the line's book that ended with this status, with what became of the file that keeps
+/// the plan.
 fn ending_of<'a>(line: &PlanLine<'a>, status: Status, kept: Kept) -> Ending<'a>
     ensures run { EndsRun status result }
     ensures of_book { IsOfBook line.now result }
