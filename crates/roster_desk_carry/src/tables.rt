@@ -1,6 +1,7 @@
 //! What is carried as tables of a folder, of which `book` reads it.
 
-ghost use Rattle.std.specs.Prelude.{◌≡◌, length};
+ghost use Rattle.std.specs.Prelude.{◌≡◌, IfOk, length, map};
+ghost use Rattle.roster_desk_carry.specs.Tables.{carried};
 
 use crate::writing::{kind_text, minute_text, month_text};
 use roster_desk_carry_judged::flight_in;
@@ -172,6 +173,7 @@ fn written(
     mistakes: &mut Mistakes,
 ) -> Result<TableFile, AllocError>
     requires { length places.now ≡ length book.now.pairings }
+    ensures { IfOk result (λ file. file.table ≡ table) }
 {
     let month = month_text(alloc, book.period())?;
     let duties = held_duties(alloc, next)?;
@@ -206,6 +208,7 @@ pub fn carried_tables(
     mistakes: &mut Mistakes,
 ) -> Result<Vec<TableFile>, AllocError>
     requires { length places.now ≡ length book.now.pairings }
+    ensures { IfOk result (λ files. map (λ file. file.table) files.items ≡ carried) }
 {
     let mut files = Vec::new(alloc);
     for &table in &WRITTEN {
