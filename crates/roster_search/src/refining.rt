@@ -88,7 +88,7 @@ fn fix_by_solutions(
     requires { IsRegion problem.now region.old }
     ensures { IfOk result (IsFixed problem.now most region.old region.new) }
 {
-    relaxation.begin(alloc, problem, region)?;
+    relaxation.begin(alloc, problem, region, room(region, most))?;
     for _ in 0..MOST_SOLUTIONS {
         let before = left_in(problem, region);
         relaxation.solve(alloc, problem, region)?;

@@ -280,7 +280,8 @@ impl Rise {
         if let Some(places) = &self.rounded {
             self.relaxation.take_roster(problem, &self.part, places)?;
         }
-        self.relaxation.begin(alloc, problem, &self.part)?;
+        let room = self.room(region);
+        self.relaxation.begin(alloc, problem, &self.part, room)?;
         Ok(true)
     }
 

@@ -50,6 +50,16 @@ pub(crate) struct Column {
     end: usize,
 }
 
+/// A column that may be used, and where its ones or minus ones stand in the list of all columns' rows: to look at many
+/// takes little memory.
+#[derive(Clone, Copy)]
+pub(crate) struct Usable {
+    pub(crate) c: usize,
+    pub(crate) is_negative: bool,
+    first: usize,
+    end: usize,
+}
+
 impl Column {
     /// The person whose line it is, if it is one.
     pub(crate) fn person(&self) -> Option<usize> {
@@ -237,6 +247,35 @@ impl Columns {
     /// The rows in which a column has ones.
     pub(crate) fn ones_of(&self, column: &Column) -> &[usize] {
         self.ones.get(column.first..column.end).unwrap_or(&[])
+    }
+
+    /// Lists the columns that may be used.
+    pub(crate) fn put_usable(&self, usable: &mut Vec<Usable>) -> Result<(), AllocError> {
+        usable.clear();
+        for (c, column) in self.list.iter().enumerate() {
+            if !column.is_forbidden {
+                usable.push(Usable {
+                    c,
+                    is_negative: column.is_negative,
+                    first: column.first,
+                    end: column.end,
+                })?;
+            }
+        }
+        Ok(())
+    }
+
+    /// The rows in which a column that may be used has ones, or minus ones.
+    pub(crate) fn ones_of_usable(&self, usable: &Usable) -> &[usize] {
+        self.ones.get(usable.first..usable.end).unwrap_or(&[])
+    }
+
+    /// Whether column `c` is basic.
+    pub(crate) fn is_basic(&self, c: usize) -> bool {
+        match self.list.get(c) {
+            Some(column) => column.row != NOWHERE,
+            None => false,
+        }
     }
 
     /// What column `c` costs more than the duals pay for it.

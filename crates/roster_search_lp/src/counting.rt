@@ -57,6 +57,7 @@ impl Simplex {
         if number == old {
             return Ok(());
         }
+        self.go_back()?;
         let row = self.free_row(count)?;
         let difference = whole_number(number).wrapping_sub(whole_number(old));
         let place = self.count_row(count);

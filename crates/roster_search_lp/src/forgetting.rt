@@ -1,6 +1,5 @@
 //! Columns left out of a linear program, so that it doesn't grow too large.
 
-use crate::columns::{Columns, NOWHERE};
 use crate::simplex::{Simplex, candidate};
 use std::alloc::{AllocError, Global};
 
@@ -11,7 +10,7 @@ impl Simplex {
         let mut kept = vec![in alloc; true; self.columns.len()]?;
         self.candidates.clear();
         for c in self.basis.len().saturating_add(2)..self.columns.len() {
-            if !self.is_basic(c) {
+            if !self.columns.is_basic(c) {
                 let value = self.columns.reduced(c, &self.duals);
                 self.candidates.push((value, c))?;
             }
@@ -32,13 +31,5 @@ impl Simplex {
             }
         }
         Ok(())
-    }
-
-    // Whether column `c` is basic.
-    fn is_basic(&self, c: usize) -> bool {
-        match self.columns.column(c) {
-            Some(column) => column.row != NOWHERE,
-            None => false,
-        }
     }
 }

@@ -22,21 +22,20 @@ pub(crate) struct Inverse {
     cells: Vec<Cell>,
     // Sums on the way to dual prices.
     sums: Vec<i128>,
+    // The rows to go back to.
+    kept: Vec<Vec<i64>>,
 }
 
 impl Inverse {
     /// That of unit columns, one for each of these right-hand sides.
     pub(crate) fn new(alloc: Global, right: &[i64]) -> Result<Inverse, AllocError> {
         let size = right.len();
-        let mut rows = Vec::with_capacity(alloc, size)?;
-        for _ in 0..size {
-            rows.push(vec![in alloc; 0; size.saturating_add(1)]?)?;
-        }
         let mut inverse = Inverse {
-            rows,
+            rows: empty_rows(alloc, size)?,
             image: vec![in alloc; 0; size]?,
             cells: Vec::new(alloc),
             sums: vec![in alloc; 0; size]?,
+            kept: empty_rows(alloc, size)?,
         };
         inverse.begin(right);
         Ok(inverse)
@@ -44,15 +43,12 @@ impl Inverse {
 
     /// The same inverse.
     pub(crate) fn copy(&self, alloc: Global) -> Result<Inverse, AllocError> {
-        let mut rows = Vec::with_capacity(alloc, self.rows.len())?;
-        for row in &self.rows {
-            rows.push(row.clone()?)?;
-        }
         Ok(Inverse {
-            rows,
+            rows: copies_of(alloc, &self.rows)?,
             image: self.image.clone()?,
             cells: Vec::new(alloc),
             sums: self.sums.clone()?,
+            kept: copies_of(alloc, &self.kept)?,
         })
     }
 
@@ -60,6 +56,36 @@ impl Inverse {
     pub(crate) fn begin(&mut self, right: &[i64]) {
         for (i, row) in self.rows.iter_mut().enumerate() {
             begin_row(row, i, right);
+        }
+    }
+
+    /// Takes note of the rows.
+    pub(crate) fn keep(&mut self) {
+        copy_rows(&mut self.kept, &self.rows);
+    }
+
+    /// Goes back to the rows that it took note of.
+    pub(crate) fn go_back(&mut self) {
+        copy_rows(&mut self.rows, &self.kept);
+    }
+
+    /// A row, or nothing past the last.
+    pub(crate) fn row(&self, row: usize) -> &[i64] {
+        match self.rows.get(row) {
+            Some(cells) => cells,
+            None => &[],
+        }
+    }
+
+    /// What the column that was looked at has in a row.
+    pub(crate) fn image_at(&self, row: usize) -> i64 {
+        number_at(&self.image, row)
+    }
+
+    /// Adds a row so many times to the duals.
+    pub(crate) fn add_row(&self, row: usize, factor: i64, duals: &mut [i64]) {
+        for (dual, cell) in duals.iter_mut().zip(self.row(row)) {
+            *dual = dual.wrapping_add(times(factor, *cell));
         }
     }
 
@@ -176,6 +202,33 @@ impl Inverse {
     }
 }
 
+/// So many rows of zeros, with one number more than there are rows.
+fn empty_rows(alloc: Global, size: usize) -> Result<Vec<Vec<i64>>, AllocError> {
+    let mut rows = Vec::with_capacity(alloc, size)?;
+    for _ in 0..size {
+        rows.push(vec![in alloc; 0; size.saturating_add(1)]?)?;
+    }
+    Ok(rows)
+}
+
+/// The same rows.
+fn copies_of(alloc: Global, rows: &[Vec<i64>]) -> Result<Vec<Vec<i64>>, AllocError> {
+    let mut copies = Vec::with_capacity(alloc, rows.len())?;
+    for row in rows {
+        copies.push(row.clone()?)?;
+    }
+    Ok(copies)
+}
+
+/// Copies the numbers of rows into others.
+fn copy_rows(copies: &mut [Vec<i64>], rows: &[Vec<i64>]) {
+    for (copy, row) in copies.iter_mut().zip(rows) {
+        for (to, from) in copy.iter_mut().zip(row) {
+            *to = *from;
+        }
+    }
+}
+
 /// Begins row `i` with a unit column and its right-hand side.
 fn begin_row(row: &mut [i64], i: usize, right: &[i64]) {
     row.fill(0);
@@ -208,7 +261,7 @@ fn add_to_last(row: &mut [i64], more: i64) {
 }
 
 /// What a column with ones in these rows has in a row, as the basis sees it.
-fn entry(row: &[i64], ones: &[usize]) -> i64 {
+pub(crate) fn entry(row: &[i64], ones: &[usize]) -> i64 {
     let mut sum: i64 = 0;
     for i in ones {
         sum = sum.wrapping_add(number_at(row, *i));
@@ -228,7 +281,7 @@ fn cleared(number: i64) -> i64 {
 
 /// Whether the first number of `now` is a lesser part of the second than with `least`; of equal parts that
 /// of the greater second number is the lesser one.
-fn is_less(now: (i64, i64), least: (i64, i64)) -> bool {
+pub(crate) fn is_less(now: (i64, i64), least: (i64, i64)) -> bool {
     let (left, right) = (product(now.0, least.1), product(least.0, now.1));
     left < right || (left == right && now.1 > least.1)
 }

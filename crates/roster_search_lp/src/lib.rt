@@ -4,8 +4,9 @@
 //! bound that holds; so the contracts say which lines it has, that each dual price is within its limit, and
 //! nothing of an optimum.
 //!
-//! It is solved by a primal simplex method with a dense inverse, in whole numbers: it comes to the same on
-//! every machine. Each call of `solve` ends after a number of steps that depends on the rows and columns.
+//! It is solved by a simplex method with a dense inverse, in whole numbers: it comes to the same on every machine.
+//! Columns that become forbidden leave the basis by dual steps, and others enter it by primal ones. Each call of
+//! `solve` ends after a number of steps that depends on the rows and columns.
 //! One program serves for a whole search: columns are only added, marks say which of them may be used at a
 //! node, and `solve` goes on from the basis before. In reading order:
 //!
@@ -17,6 +18,7 @@
 //! - `person_sets`: which lines of a person there are
 //! - `columns`: columns
 //! - `simplex`: from one basis to the next
+//! - `dual_steps`: how columns leave the basis that may not be used
 //! - `renewing`: the inverse of a basis made anew
 //! - `counting`: how many pairings are open
 //! - `forgetting`: columns that are left out
@@ -26,6 +28,7 @@
 
 mod columns;
 mod counting;
+mod dual_steps;
 mod fixed;
 mod forgetting;
 mod inverse;

@@ -152,6 +152,14 @@ impl Master {
         Ok(())
     }
 
+    /// Begins with another part of all rosters, of which none is sought that costs more than the limit, in parts of
+    /// a cost unit. At first any may be.
+    pub fn begin(&mut self, limit: i64) -> Result<(), AllocError>
+        ensures { self.new ≡ self.old }
+    {
+        self.simplex.begin(limit)
+    }
+
     /// Looks for the least cost, and then has the dual prices that show it; where it takes very many steps
     /// it ends sooner.
     pub fn solve(&mut self) -> Result<(), AllocError>

@@ -7,7 +7,7 @@ use std::alloc::AllocError;
 
 impl Simplex {
     /// Makes the inverse anew, since each pivot spoils it a little. A basis that can't be used any more gives
-    /// way to the first one.
+    /// way to the first one; less than nothing may be used if it was so before.
     pub(crate) fn renew(&mut self) -> Result<(), AllocError> {
         for (before, now) in self.before.iter_mut().zip(&self.basis) {
             *before = *now;
@@ -26,7 +26,8 @@ impl Simplex {
                 self.put_back(c)?;
             }
         }
-        if self.taken.contains(&false) || self.inverse.least_amount() < -LEAST_USED {
+        let is_short = self.inverse.least_amount() < -LEAST_USED && !self.dual.is_infeasible();
+        if is_short || self.taken.contains(&false) {
             self.go_home()?;
         }
         Ok(())

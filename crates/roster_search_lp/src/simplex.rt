@@ -1,6 +1,7 @@
 //! The simplex method, from one basis to the next.
 
 use crate::columns::{Columns, Count, NOWHERE};
+use crate::dual_steps::DualSteps;
 use crate::inverse::{Inverse, number_at};
 use crate::marking::Allowed;
 use crate::right::{right_sides, signed};
@@ -37,8 +38,9 @@ pub(crate) struct Simplex {
     scale: u32,
     // How many pairings are open at least, and at most, as the last two rows count them.
     pub(crate) counts: [usize; 2],
-    // How often it has become dearer to use what is forbidden.
+    // How often it has become dear, and dearer, to use what is forbidden; it can't be used if it isn't dear.
     raises: u32,
+    pub(crate) dual: DualSteps,
     // How many pivots there were since the inverse was made, and in all.
     pub(crate) pivots: usize,
     steps: u64,
@@ -73,6 +75,7 @@ impl Simplex {
             scale,
             counts,
             raises: 0,
+            dual: DualSteps::new(alloc, size)?,
             pivots: 0,
             steps: 0,
         };
@@ -98,6 +101,7 @@ impl Simplex {
             scale: self.scale,
             counts: self.counts,
             raises: self.raises,
+            dual: self.dual.copy(alloc)?,
             pivots: self.pivots,
             steps: self.steps,
         })
@@ -189,15 +193,15 @@ impl Simplex {
 
     /// Makes it dearer to use what is forbidden. False if it has become so often enough.
     pub(crate) fn raise(&mut self) -> bool {
-        if self.raises >= MOST_RAISES {
+        if self.raises > MOST_RAISES {
             return false;
         }
         self.raises += 1;
         true
     }
 
-    // Whether column `c` is forbidden.
-    fn is_forbidden(&self, c: usize) -> bool {
+    /// Whether column `c` is forbidden.
+    pub(crate) fn is_forbidden(&self, c: usize) -> bool {
         match self.columns.column(c) {
             Some(column) => column.is_forbidden,
             None => false,
@@ -206,8 +210,11 @@ impl Simplex {
 
     // What it costs more to use a forbidden column.
     fn forbidden_cost(&self) -> i64 {
+        let Some(raises) = self.raises.checked_sub(1) else {
+            return 0;
+        };
         let cost = self.columns.greatest().saturating_mul(FORBIDDEN_FACTOR);
-        let raised = cost.saturating_mul(1 << (2 * self.raises.min(MOST_RAISES)));
+        let raised = cost.saturating_mul(1 << (2 * raises.min(MOST_RAISES)));
         raised.min(1 << 62) as i64
     }
 
@@ -217,8 +224,8 @@ impl Simplex {
         least.max(self.forbidden_cost() >> 34).max(1)
     }
 
-    // Computes the duals anew.
-    fn pay(&mut self) {
+    /// Computes the duals anew.
+    pub(crate) fn pay(&mut self) {
         let more = self.forbidden_cost();
         for row in 0..self.basis.len() {
             let cost = cost_of(&self.columns, self.basis[row], more);
@@ -229,12 +236,24 @@ impl Simplex {
         self.inverse.duals(&self.costs, &mut self.duals);
     }
 
-    /// Goes from basis to basis, until no column costs less than is paid for it, or there were very many. The duals
-    /// move with each pivot; they are computed anew before the first and after the last one.
+    /// Solves it without what is forbidden; or, if that takes too long or it is dear by now, with what is forbidden
+    /// at that cost.
     pub(crate) fn solve(&mut self) -> Result<(), AllocError> {
-        let most = self.most_pivots();
-        let mut made: usize = 0;
+        if self.raises == 0 {
+            if self.solve_without()? {
+                return Ok(());
+            }
+            self.raises = 1;
+        }
+        self.go_back()?;
         self.pay();
+        self.improve(self.most_pivots())
+    }
+
+    /// Goes from basis to basis, until no column costs less than is paid for it, or there were so many. The duals
+    /// move with each pivot; they are computed anew after the last one.
+    pub(crate) fn improve(&mut self, most: usize) -> Result<(), AllocError> {
+        let mut made: usize = 0;
         for _ in 0..most {
             self.choose()?;
             let more = self.enter_candidates(most.saturating_sub(made))?;
@@ -252,8 +271,8 @@ impl Simplex {
         Ok(())
     }
 
-    // How many pivots are made by one call, at most.
-    fn most_pivots(&self) -> usize {
+    /// How many pivots are made by one call, at most.
+    pub(crate) fn most_pivots(&self) -> usize {
         let size = self.size().saturating_mul(4);
         let more = self.columns.len().saturating_sub(self.size()).min(size);
         size.saturating_add(200)
@@ -306,11 +325,18 @@ impl Simplex {
             return Ok(false);
         };
         self.exchange(row, c)?;
+        self.count_pivot()?;
+        Ok(true)
+    }
+
+    /// One pivot more was made. After many the inverse is made anew; whether it was.
+    pub(crate) fn count_pivot(&mut self) -> Result<bool, AllocError> {
         self.steps = self.steps.saturating_add(1);
         self.pivots = self.pivots.saturating_add(1);
-        if self.pivots >= PIVOTS_AN_INVERSE {
-            self.renew()?;
+        if self.pivots < PIVOTS_AN_INVERSE {
+            return Ok(false);
         }
+        self.renew()?;
         Ok(true)
     }
 

@@ -6,7 +6,7 @@ ghost use Rattle.roster_search_regions.specs.Regions.{IsRegion};
 use crate::program_rows::put_row;
 use crate::relaxation::Relaxation;
 use crate::seeking::{Sought, extra_of};
-use crate::tuning::{FIRST_LINES_A_PERSON, MOST_COLUMNS};
+use crate::tuning::{FIRST_LINES_A_PERSON, MOST_COLUMNS, NEAR_PART_OF_GRAIN};
 use roster_model::limits::MOST_PAIRINGS;
 use roster_problem::Problem;
 use roster_search_lp::Allowed;
@@ -98,15 +98,20 @@ impl Relaxation {
         mapped
     }
 
-    /// Begins with a part of the region.
+    /// Begins with a part of the region, of which a roster may cost so much, in parts of a cost unit and without
+    /// what empty lines cost: dearer solutions aren't sought.
     pub fn begin(
         &mut self,
         alloc: Global,
         problem: &Problem,
         region: &Region,
+        room: i64,
     ) -> Result<(), AllocError>
         requires { IsRegion problem.now region.now }
     {
+        let little = self.grain / NEAR_PART_OF_GRAIN;
+        let limit = room.saturating_sub(self.apart).saturating_add(little);
+        self.master.begin(limit)?;
         let rows = self.rows();
         if self.master.columns() > MOST_COLUMNS.saturating_add(rows.saturating_mul(8)) {
             let kept = MOST_COLUMNS.saturating_add(rows.saturating_mul(2));

@@ -109,6 +109,36 @@ fn marks_hold_until_the_next(rt: HostRuntime) -> Result<(), Fail> {
 }
 
 #[test]
+fn dear_solutions_are_left(rt: HostRuntime) -> Result<(), Fail> {
+    let mut master = pair(&rt, rt.alloc())?;
+    master.solve()?;
+    // Nobody may have pairing 1, which must be flown. Prices say so by just as much as a solution may cost.
+    let nothing = Set::empty();
+    let allowed = [
+        Allowed {
+            possible: one(0),
+            certain: nothing,
+        },
+        Allowed {
+            possible: nothing,
+            certain: nothing,
+        },
+    ];
+    master.begin(30 * UNIT)?;
+    master.mark(&allowed, &one(1), &nothing);
+    master.solve()?;
+    assert!(rt; master.uses_forbidden());
+    assert!(rt; master.value() > 29 * UNIT);
+    assert!(rt; master.value() < 31 * UNIT);
+    master.begin(i64::MAX)?;
+    master.mark(&[], &nothing, &nothing);
+    master.solve()?;
+    assert_eq!(rt; master.value(), 12 * UNIT);
+    assert!(rt; !master.uses_forbidden());
+    Ok(())
+}
+
+#[test]
 fn open_pairings_are_counted(rt: HostRuntime) -> Result<(), Fail> {
     let mut master = pair(&rt, rt.alloc())?;
     master.solve()?;

@@ -63,7 +63,7 @@ fn a_pairing_that_must_be_flown_and_that_nobody_can_have(rt: HostRuntime) -> Res
     master.mark(&[], &set_of(0, 1), &Set::empty());
     master.solve()?;
     assert!(rt; master.uses_forbidden());
-    for _ in 0..4 {
+    for _ in 0..5 {
         assert!(rt; master.raise());
         master.solve()?;
         assert!(rt; master.uses_forbidden());
