@@ -11,6 +11,7 @@ pub mod OffLemmas
 pub mod BehindLemmas
 mod TimelineLemmas
 pub mod SeekLemmas
+pub mod LoadLemmas
 pub mod ProductLemmas
 pub mod TargetLemmas
 pub mod ProspectLemmas

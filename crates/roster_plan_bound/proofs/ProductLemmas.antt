@@ -96,3 +96,8 @@ product_less (negsuc w) m d low =
     let scaled = mul-le-mul_right d few in
     let turned_here : negsuc w *ℤ pos d ≡ neg_ℤ (pos (suc w * d)) = turned_product w d in
     omega (arith, ints, scaled, turned_here)
+
+-- less costs less, if a toll isn't below 0
+pub toll_below : (toll : ℤ) (a b : ℕ) → pos 0 ≤ℤ toll → a ≤ b → (toll *ℤ pos a) ≤ℤ (toll *ℤ pos b)
+toll_below (pos n) a b some few = let more = mul-le-mul_left n few in omega (arith, ints, more)
+toll_below (negsuc n) a b some few = absurd (omega (arith, ints, some))

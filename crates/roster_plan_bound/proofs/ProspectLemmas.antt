@@ -28,12 +28,12 @@ use Rattle.roster_plan_bound.specs.declared.timeline.Timeline.{Timeline}
 use Rattle.roster_plan_bound.specs.Behinds.{row_at, row_for}
 use Rattle.roster_plan_bound.specs.Chains.{value_at}
 use Rattle.roster_plan_bound.specs.Networks.{missed_at, AreValues}
-use Rattle.roster_plan_bound.specs.Prospects.{gain_of, short_of, AreWorth, IsAhead, IsLeastPath, IsTable}
+use Rattle.roster_plan_bound.specs.Prospects.{gain_of, short_of, AreLaden, AreWorth, IsAhead, IsLeastPath, IsTable}
 use Rattle.roster_plan_bound.specs.Ranked.{IsRanked}
 use Rattle.roster_plan_bound.specs.Reduced.{reduced}
-use Rattle.roster_plan_bound.specs.Timelines.{flight_along, rank_of, spare_flight, IsPath, IsTimeline}
+use Rattle.roster_plan_bound.specs.Timelines.{flight_along, load_along, rank_of, spare_flight, IsPath, IsTimeline}
 use Rattle.roster_plan_bound.proofs.ChainLemmas.{single_among, total_values, AddsFlight}
-use Rattle.roster_plan_bound.proofs.ProductLemmas.{abs_within, times_more}
+use Rattle.roster_plan_bound.proofs.ProductLemmas.{abs_within, times_more, toll_below}
 use Rattle.roster_plan_bound.proofs.TargetLemmas.{distance_abs, term_is}
 use Rattle.roster_plan_bound.proofs.RankedLemmas.{ranked_of, ranked-above, ranked-every, ranked-rest, AreTold}
 
@@ -69,16 +69,35 @@ total_worth problem k units values worth are (p ∷ rest) inside =
     ∙ times_more worth (minutes_of_pairing problem k p) (flight_along problem k rest) in
     omega (arith, ints, here, behind, flight, total-cons (value_at values) p rest, total-cons (value_at units) p rest)
 
+-- and at what each minute of a load costs
+total_laden : (problem : Problem) (timeline : Timeline) (units laden : List ℤ) (toll : ℤ)
+    → AreLaden problem timeline units toll laden → (path : List ℕ) → All (λ p. p < length problem.pairings) path
+    → total (value_at laden) path ≡ total (value_at units) path +ℤ (toll *ℤ pos (load_along timeline path))
+total_laden problem timeline units laden toll are [] inside =
+    let none : toll *ℤ pos 0 ≡ pos 0 = *ℤ-zero toll in
+    omega (arith, ints, total-nil (value_at laden), total-nil (value_at units), none)
+total_laden problem timeline units laden toll are (p ∷ rest) inside =
+    let load : ℕ → ℕ = slice_index timeline.loads.items in
+    let here = are.each p (All-head (λ q. q < length problem.pairings) p rest inside) in
+    let behind =
+    total_laden problem timeline units laden toll are rest
+    (All-tail (λ q. q < length problem.pairings) p rest inside) in
+    let loads : toll *ℤ pos (load_along timeline (p ∷ rest)) ≡ (toll *ℤ pos (load p)) +ℤ (toll *ℤ pos (load_along timeline rest)) =
+    ap (λ n. toll *ℤ pos n) (sum_by-cons load p rest) ∙ times_more toll (load p) (load_along timeline rest) in
+    omega (arith, ints, here, behind, loads, total-cons (value_at laden) p rest, total-cons (value_at units) p rest)
+
 -- no less than a table says
 table_below : (problem : Problem) (k : ℕ) (timeline : Timeline) (units : List ℤ) (table : WorthTable)
     → (is : IsTable problem k timeline units table) → (path : List ℕ) → IsPath problem k timeline path
     → (total (value_at is.values) path +ℤ table.fixed) ≤ℤ gain_of problem k units path
 table_below problem k timeline units table is path of =
-    let brought = total_worth problem k units is.values table.worth is.worths path of.places in
+    let brought = total_worth problem k is.laden is.values table.worth is.worths path of.places in
+    let laden = total_laden problem timeline units is.laden table.toll is.loads path of.places in
     let flight : ℕ = flight_along problem k path in
     let at = is.fixed flight of.spare in
+    let tolls = toll_below table.toll (load_along timeline path) timeline.spare_load is.some of.light in
     let term = term_is problem k flight (pos (PARTS * weight_of problem)) (short_of problem k) refl refl in
-    omega (arith, ints, brought, at, term)
+    omega (arith, ints, brought, laden, at, tolls, term)
 
 pub rows_within : (problem : Problem) (k : ℕ) (timeline : Timeline) (units : List ℤ) (table : WorthTable)
     → IsTable problem k timeline units table → (need : ℕ)
@@ -105,12 +124,12 @@ no_rows = record { none = []; one = []; two = [] }
 
 -- and a row of what is ahead
 pub ahead_below : (problem : Problem) (k : ℕ) (timeline : Timeline) (units : List ℤ) (table : WorthTable)
-    (value : ℤ) (flight q class need : ℕ) (amount : ℤ) → IsTable problem k timeline units table
+    (value : ℤ) (flight load q class need : ℕ) (amount : ℤ) → IsTable problem k timeline units table
     → q < length problem.pairings
     → ((rows : OwedRows) → slice_get table.behind.rows.items q ≡ Some rows
-    → amount ≡ value +ℤ (table.worth *ℤ pos flight) +ℤ table.fixed +ℤ row_at (row_for rows need) class)
-    → IsAhead problem k timeline units value flight q class need amount
-ahead_below problem k timeline units table value flight q class need amount is place tells before rest of begun low owed brought flown =
+    → amount ≡ (value +ℤ (table.toll *ℤ pos load)) +ℤ (table.worth *ℤ pos flight) +ℤ table.fixed +ℤ row_at (row_for rows need) class)
+    → IsAhead problem k timeline units value flight load q class need amount
+ahead_below problem k timeline units table value flight load q class need amount is place tells before rest of begun low owed brought flown taken =
     let front : List ℕ = before ++ q ∷ [] in
     let whole : List ℕ = before ++ q ∷ rest in
     let joined : front ++ rest ≡ whole = append_assoc before (q ∷ []) rest in
@@ -120,13 +139,17 @@ ahead_below problem k timeline units table value flight q class need amount is p
     let told = tells rows at in
     let inside : All (λ p. p < length problem.pairings) (front ++ rest) =
     subst (All (λ p. p < length problem.pairings)) (sym joined) of.places in
-    let first = total_worth problem k units is.values table.worth is.worths front (All_front (λ p. p < length problem.pairings) front rest inside) in
+    let there = All_front (λ p. p < length problem.pairings) front rest inside in
+    let first = total_worth problem k is.laden is.values table.worth is.worths front there in
+    let laden = total_laden problem timeline units is.laden table.toll is.loads front there in
     let split : total (value_at is.values) whole ≡ total (value_at is.values) front +ℤ total (value_at is.values) rest =
     ap (total (value_at is.values)) (sym joined) ∙ total-append (value_at is.values) front rest in
     let same : table.worth *ℤ pos (flight_along problem k front) ≡ table.worth *ℤ pos flight =
     ap (λ n. table.worth *ℤ pos n) (sym flown) in
+    let same_load : table.toll *ℤ pos (load_along timeline front) ≡ table.toll *ℤ pos load =
+    ap (λ n. table.toll *ℤ pos n) (sym taken) in
     let below = table_below problem k timeline units table is whole of in
-    omega (arith, ints, told, behind, first, split, same, brought, below)
+    omega (arith, ints, told, behind, first, laden, split, same, same_load, brought, below)
 
 -- no path begins with more flight than limits leave
 pub none_beyond : (problem : Problem) (k : ℕ) (timeline : Timeline) (flight q : ℕ) (before rest : List ℕ)
@@ -138,6 +161,17 @@ none_beyond problem k timeline flight q before rest of flown more =
     ap (sum_by minutes) (append_assoc before (q ∷ []) rest) in
     let parted = sum_by-append minutes (before ++ q ∷ []) rest in
     omega (arith, more, flown, joined, parted, of.spare)
+
+-- nor with more of the sum that is watched
+pub none_heavier : (problem : Problem) (k : ℕ) (timeline : Timeline) (load q : ℕ) (before rest : List ℕ)
+    → IsPath problem k timeline (before ++ q ∷ rest) → load ≡ load_along timeline (before ++ q ∷ [])
+    → timeline.spare_load < load → ⊥
+none_heavier problem k timeline load q before rest of taken more =
+    let loads : ℕ → ℕ = slice_index timeline.loads.items in
+    let joined : sum_by loads ((before ++ q ∷ []) ++ rest) ≡ load_along timeline (before ++ q ∷ rest) =
+    ap (sum_by loads) (append_assoc before (q ∷ []) rest) in
+    let parted = sum_by-append loads (before ++ q ∷ []) rest in
+    omega (arith, more, taken, joined, parted, of.light)
 
 -- ---- what no path brings less than, whatever the tables
 
@@ -233,6 +267,10 @@ line_above problem prices k timeline units least parts adds is are below set lin
       ranked = of.ranked;
       places = ranked-every (rank_of timeline) (λ p. p < length problem.pairings) set of line.places;
       spare = within_limits problem k set (flight_along problem k path) line.legal flight;
+      light =
+          let taken = of.sums (slice_index timeline.loads.items) in
+          let within = is.loads.within set line in
+          omega (arith, taken, within);
     }) in
     let brought = total_values problem prices k units are set line.places in
     let same = of.totals (value_at units) in

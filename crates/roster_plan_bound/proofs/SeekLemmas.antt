@@ -1,8 +1,7 @@
 -- How a search over paths goes on: what a path begins with, and what may stand behind.
 use Rattle.std.proofs.Common.{◌≡◌, ℕ, suc, ◌+◌, ◌-◌, ◌*◌, ◌<◌, ◌≤◌, true, false, ◌||◌, ◌&&◌, eqb, List, [], ◌∷◌, ◌++◌, length, get_or, Option, Some, None, refl, sym, ap, ◌∙◌, subst, inl, inr, arith, ℤ, pos, ◌+ℤ◌, ◌≤ℤ◌}
-use Rattle.std.specs.Prelude.{All}
+use Rattle.std.specs.Prelude.{slice_index, All}
 use Rattle.std.specs.List.{sum_by}
-use Rattle.std.proofs.Math.Bool.{or-false}
 use Rattle.std.proofs.Math.Nat.{mul-add, mul-le-mul_left, mul-le-mul_right}
 use Rattle.std.proofs.lemmas.Bool.{and_from, and_parts, both_ways, cases_lt, eqb-true, or_cases, or_right}
 use Rattle.std.proofs.lemmas.Int.{ints}
@@ -14,13 +13,13 @@ use Rattle.roster_model.specs.Costs.{distance, flight_of, total}
 use Rattle.roster_model.specs.Problem.{Problem, target_of, weight_of}
 use Rattle.roster_model.specs.Rules.{is_among, IsLegal}
 use Rattle.roster_model.proofs.CostLemmas.{total-append, total-cons, total-nil}
-use Rattle.roster_model.proofs.SetLemmas.{All-is_among, All-from_is_among, is_among-append, is_among-here}
+use Rattle.roster_model.proofs.SetLemmas.{All-is_among, All-from_is_among, is_among-here}
 use Rattle.roster_problem.specs.Duties.{AreTimed, IsInOrder}
 use Rattle.roster_lines_table.proofs.Fronts.{among_behind, among_front}
 use Rattle.roster_lines.specs.Listing.{ArePartsLegal}
 use Rattle.roster_lines.proofs.Listed.{among_single}
 use Rattle.roster_cost.specs.Amounts.{minutes_of_pairing, IsWithin}
-use Rattle.roster_plan_bound.specs.declared.parts.TheConstants.{MOST_CHAIN_VALUE, MOST_FLIGHT, PARTS}
+use Rattle.roster_plan_bound.specs.declared.parts.TheConstants.{MOST_CHAIN_VALUE, MOST_FLIGHT, MOST_LOAD, PARTS}
 use Rattle.roster_plan_bound.specs.declared.seek.End.{End}
 use Rattle.roster_plan_bound.specs.declared.seek.Spot.{Spot}
 use Rattle.roster_plan_bound.specs.Chains.{value_at}
@@ -28,7 +27,8 @@ use Rattle.roster_plan_bound.specs.Prospects.{term_of, IsAhead, IsLeastPath, Out
 use Rattle.roster_plan_bound.specs.Ranked.{IsRanked}
 use Rattle.roster_plan_bound.specs.Seeks.{gain, EndsAt, IsClassWith, IsEndWith, IsLeastBelow, IsLeastFrom, IsLeastWith, IsNeedWith, IsNextSpot, IsOnward, IsSpot, IsStart, LeadsTo}
 use Rattle.roster_plan_bound.specs.Spans.{IsBegun}
-use Rattle.roster_plan_bound.specs.Timelines.{begin_of, class_of, flight_along, later_than, low_of, rank_of, IsOwed, IsPath, IsTimeline}
+use Rattle.roster_plan_bound.specs.Timelines.{begin_of, class_of, flight_along, later_than, load_along, low_of, rank_of, IsOwed, IsPath, IsTimeline}
+use Rattle.roster_plan_bound.proofs.LoadLemmas.{among-middle, among-with}
 use Rattle.roster_plan_bound.proofs.RankedLemmas.{ranked-above, ranked-rest}
 
 -- ---- lists
@@ -38,13 +38,6 @@ ranked-behind : (rank : ℕ → ℕ) (before : List ℕ) (q : ℕ) (rest : List 
 ranked-behind rank [] q rest ranked = ranked-above rank q rest ranked
 ranked-behind rank (b ∷ before) q rest ranked =
     ranked-behind rank before q rest (ranked-rest rank b (before ++ q ∷ rest) ranked)
-
-among-middle : (before : List ℕ) (q : ℕ) (rest : List ℕ) → is_among (before ++ q ∷ rest) q ≡ true
-among-middle before q rest = among_behind before (q ∷ rest) q (is_among-here q rest)
-
-among-with : (before : List ℕ) (q p : ℕ) → is_among (before ++ q ∷ []) p ≡ (is_among before p || eqb q p)
-among-with before q p =
-    is_among-append before (q ∷ []) p ∙ ap (λ b. is_among before p || b) (or-false (eqb q p))
 
 same_first : (p q : ℕ) (xs ys : List ℕ) → p ∷ xs ≡ q ∷ ys → p ≡ q
 same_first p q xs ys same = ap (λ zs. get_or zs 0 p) same
@@ -181,6 +174,25 @@ module _ (outlook : Outlook) where
       let all = sum_by-append (minutes_of_pairing outlook.problem outlook.person) before (q ∷ []) in
       omega (arith, flight, was, none, one, all)
 
+  load-with : (spot : Spot) (q : ℕ) (end : End) (before : List ℕ) → IsEndWith outlook spot q end
+      → spot.end.load ≡ load_along outlook.timeline before
+      → end.load ≡ load_along outlook.timeline (before ++ q ∷ [])
+  load-with spot q end before is was =
+      let load = is.load in
+      let taken : ℕ → ℕ = slice_index outlook.timeline.loads.items in
+      let one = sum_by-cons taken q [] in
+      let all = sum_by-append taken before (q ∷ []) in
+      omega (arith, load, was, one, all)
+
+  pub load-within : (spot : Spot) (q : ℕ) (end : End) → IsSpot outlook spot → 0 < spot.room
+      → IsEndWith outlook spot q end → end.load ≤ (MOST_PAIRINGS - (spot.room - 1)) * MOST_LOAD
+  load-within spot q end is room ended =
+      let whole = is.room in
+      let was = is.load in
+      let load = ended.load in
+      let light = ended.light in
+      omega (arith, room, whole, was, load, light)
+
   pub value-within : (spot : Spot) (q : ℕ) (end : End) → IsSpot outlook spot → 0 < spot.room
       → IsEndWith outlook spot q end → IsWithin ((MOST_PAIRINGS - (spot.room - 1)) * MOST_CHAIN_VALUE) end.value
   value-within spot q end is room ended =
@@ -287,6 +299,7 @@ module _ (outlook : Outlook) where
               });
           value = value-with spot q end before is.ended start.value;
           flight = flight-with spot q end before is.ended start.flight;
+          load = load-with spot q end before is.ended start.load;
           may = λ p h.
               let there : is_among path p ≡ true = among_behind before (q ∷ rest) p (or_right (eqb q p) (is_among rest p) h) in
               is.behind p
@@ -315,6 +328,7 @@ module _ (outlook : Outlook) where
             room = omega (arith, whole);
             value = value-within spot q end is room ended;
             flight = flight-within spot q end is room ended;
+            load = load-within spot q end is room ended;
           };
           last = refl;
           room = omega (arith, room);
@@ -332,7 +346,7 @@ module _ (outlook : Outlook) where
 
       -- each path begins with nothing
       pub least-of-all : (set may : List ℕ) (room : ℕ) (least : ℤ) → set ≡ [] → may ≡ outlook.timeline.alone
-          → IsLeastFrom outlook (record { set = set; last = None; end = record { class = 0; value = pos 0; flight = 0; need = 0 }; may = may; room = room }) least
+          → IsLeastFrom outlook (record { set = set; last = None; end = record { class = 0; value = pos 0; flight = 0; load = 0; need = 0 }; may = may; room = room }) least
           → IsLeastPath outlook.problem outlook.person outlook.timeline outlook.units least
       least-of-all set may room least empty alone all path is =
           all [] path (record {
@@ -341,6 +355,7 @@ module _ (outlook : Outlook) where
             ends = λ last none. absurd (none-some last none);
             value = sym (total-nil (value_at outlook.units));
             flight = refl;
+            load = refl;
             may = λ p h. ap (λ xs. is_among xs p) alone
                 ∙ alone-there path p is.legal (All-is_among (λ r. r < length outlook.problem.pairings) path p is.places h) h;
           })
@@ -370,12 +385,12 @@ module _ (outlook : Outlook) where
 
     -- what brings no less
     pub ahead-of : (spot : Spot) (q : ℕ) (end : End) (least ahead : ℤ) → IsEndWith outlook spot q end
-        → IsAhead outlook.problem outlook.person outlook.timeline outlook.units end.value end.flight q end.class end.need ahead
+        → IsAhead outlook.problem outlook.person outlook.timeline outlook.units end.value end.flight end.load q end.class end.need ahead
         → least ≤ℤ ahead → IsLeastWith outlook spot q least
     ahead-of spot q end least ahead is tells more before rest start =
         let ending = begun-with spot end.class q before rest start is.class in
         let owed = owed-with spot end.need q before rest start is.need in
         let told =
         tells before rest start.path ending.0 ending.1 owed (value-with spot q end before is start.value)
-        (flight-with spot q end before is start.flight) in
+        (flight-with spot q end before is start.flight) (load-with spot q end before is start.load) in
         omega (arith, ints, told, more)

@@ -10,9 +10,11 @@ use Rattle.roster_problem.specs.Duties.{AreTimed, IsInOrder}
 use Rattle.roster_lines.specs.declared.pairs.Pairs.{Pairs}
 use Rattle.roster_lines.specs.Listing.{AreFlights, ArePairs, ArePartsLegal}
 use Rattle.roster_plan_bound.specs.declared.days_off.DaysOff.{DaysOff}
+use Rattle.roster_plan_bound.specs.declared.loads.Room.{Room}
 use Rattle.roster_plan_bound.specs.declared.span.Span.{Span}
 use Rattle.roster_plan_bound.specs.declared.timeline.Timeline.{Timeline}
 use Rattle.roster_plan_bound.specs.DaysOffs.{pairs_by, HasPairsFrom, IsOffFrom, IsSoonest}
+use Rattle.roster_plan_bound.specs.Loads.{AreLoads}
 use Rattle.roster_plan_bound.specs.Spans.{IsBegun}
 use Rattle.roster_plan_bound.specs.Drafts.{AreListed, AreOffs, AreSpans, IsDraft, IsNext, IsWhole}
 use Rattle.roster_plan_bound.specs.Timelines.{begin_of, class_of, later_than, low_of, need_behind, need_first, off_of, rank_of, unrested_after, IsOwed, IsTimeline, MayEnd}
@@ -25,7 +27,8 @@ module _ (problem : Problem) (k : ℕ) (pairs : Pairs) (spans : List Span) (time
     (are : ArePairs problem k pairs) (spanned : AreSpans problem spans)
     (offs : List DaysOff) (start : DaysOff) (are_offs : AreOffs problem k spans offs)
     (is_start : IsOffFrom problem k [] 0 start)
-    (draft : IsDraft pairs spans offs start (month_start (home_of problem k).days) timeline)
+    (room : Room) (laden : AreLoads problem k room.loads.items room.spare)
+    (draft : IsDraft pairs spans offs start (month_start (home_of problem k).days) room timeline)
     (whole : IsWhole timeline spans) where
   abbrev SpanAt : ℕ → Type 0
   SpanAt p = (span : Span) × (slice_get spans p ≡ Some span)
@@ -189,4 +192,6 @@ module _ (problem : Problem) (k : ℕ) (pairs : Pairs) (spans : List Span) (time
     may_end = last;
     flights = subst (AreFlights problem k) (sym draft.flights) are.flights;
     few = whole.few;
+    loads = subst (λ n. AreLoads problem k timeline.loads.items n) (sym draft.spare_load)
+        (subst (λ xs. AreLoads problem k xs room.spare) (sym draft.loads) laden);
   }

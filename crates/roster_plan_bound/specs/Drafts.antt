@@ -7,6 +7,7 @@ use Rattle.roster_model.specs.Rules.{is_among}
 use Rattle.roster_lines.specs.declared.pairs.Pairs.{Pairs}
 use Rattle.roster_plan_bound.specs.declared.parts.TheConstants.{MOST_FLIGHT}
 use Rattle.roster_plan_bound.specs.declared.days_off.DaysOff.{DaysOff}
+use Rattle.roster_plan_bound.specs.declared.loads.Room.{Room}
 use Rattle.roster_plan_bound.specs.declared.span.Span.{Span}
 use Rattle.roster_plan_bound.specs.declared.timeline.Timeline.{Timeline}
 use Rattle.roster_plan_bound.specs.DaysOffs.{IsOffFrom}
@@ -58,9 +59,9 @@ IsLow begins month_start span low =
     → (month_start < span.release → span.release ≤ slice_index begins class + BETWEEN_RECURRENT_RESTS)
     → low ≤ class
 
--- The tables of a timeline, made from pairs, spans and days off.
+-- The tables of a timeline, made from pairs, spans, days off and loads.
 pub record IsDraft (pairs : Pairs) (spans : List Span) (offs : List DaysOff) (start : DaysOff)
-    (month_start : ℕ) (timeline : Timeline) : Type 0 where
+    (month_start : ℕ) (room : Room) (timeline : Timeline) : Type 0 where
   pub alone : timeline.alone ≡ pairs.alone
   pub places : All (λ p. p < length spans) timeline.order.items
   pub ranks : length timeline.ranks.items ≡ length spans
@@ -78,6 +79,8 @@ pub record IsDraft (pairs : Pairs) (spans : List Span) (offs : List DaysOff) (st
   pub are_offs : timeline.offs.items ≡ offs
   pub is_start : timeline.start ≡ start
   pub flights : timeline.flights.items ≡ pairs.flights.items
+  pub loads : timeline.loads.items ≡ room.loads.items
+  pub spare_load : timeline.spare_load ≡ room.spare
 
 -- pairing p stands at its rank, and its class is the begin of its span
 pub record Fits (timeline : Timeline) (spans : List Span) (p : ℕ) : Type 0 where

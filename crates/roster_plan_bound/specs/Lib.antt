@@ -3,6 +3,7 @@ pub mod Chains
 pub mod Networks
 pub mod Looks
 pub mod Gaps
+pub mod Loads
 pub mod Unrested
 pub mod Ranked
 pub mod Spans

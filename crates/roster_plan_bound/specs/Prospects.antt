@@ -1,9 +1,9 @@
 -- What paths of a person bring at some prices, and tables that say what all of them bring at least.
-use Rattle.std.specs.Prelude.{◌≡◌, ℕ, ◌+◌, ◌*◌, ◌<◌, ◌≤◌, List, ◌∷◌, ◌++◌, [], length, ℤ, pos, ◌+ℤ◌, ◌-ℤ◌, ◌*ℤ◌, ◌≤ℤ◌, unsigned_abs, All}
+use Rattle.std.specs.Prelude.{◌≡◌, ℕ, ◌+◌, ◌*◌, ◌<◌, ◌≤◌, List, ◌∷◌, ◌++◌, [], length, slice_index, ℤ, pos, ◌+ℤ◌, ◌-ℤ◌, ◌*ℤ◌, ◌≤ℤ◌, unsigned_abs, All}
 use Rattle.roster_model.specs.Costs.{flight_of, total}
 use Rattle.roster_model.specs.Problem.{Problem, target_of, weight_of}
 use Rattle.roster_cost.specs.Amounts.{minutes_of_pairing, IsWithin}
-use Rattle.roster_plan_bound.specs.declared.parts.TheConstants.{MOST_LEAST, MOST_SHORT, MOST_WORTH, PARTS}
+use Rattle.roster_plan_bound.specs.declared.parts.TheConstants.{MOST_BESIDE, MOST_SHORT, MOST_TOLL, MOST_WORTH, PARTS}
 use Rattle.roster_plan_bound.specs.declared.worths.WorthTable.{WorthTable}
 use Rattle.roster_plan_bound.specs.declared.timeline.Timeline.{Timeline}
 use Rattle.roster_plan_bound.specs.Behinds.{AreBehind}
@@ -11,7 +11,7 @@ use Rattle.roster_plan_bound.specs.Chains.{value_at}
 use Rattle.roster_plan_bound.specs.Networks.{missed_at, AreValues}
 use Rattle.roster_plan_bound.specs.Reduced.{ArePrices}
 use Rattle.roster_plan_bound.specs.Spans.{IsBegun}
-use Rattle.roster_plan_bound.specs.Timelines.{begin_of, class_of, flight_along, spare_flight, AreValued, IsOwed, IsPath, IsTimeline}
+use Rattle.roster_plan_bound.specs.Timelines.{begin_of, class_of, flight_along, load_along, spare_flight, AreValued, IsOwed, IsPath, IsTimeline}
 
 -- what so much flight beyond the fixed one costs, targets as they are, in parts of a cost unit
 abbrev pub term_of : Problem → ℕ → ℕ → ℤ
@@ -37,23 +37,35 @@ pub record AreWorth (problem : Problem) (k : ℕ) (units : List ℤ) (worth : �
   pub each : (p : ℕ) → p < length problem.pairings
       → value_at values p ≡ value_at units p +ℤ (worth *ℤ pos (minutes_of_pairing problem k p))
 
+-- what each pairing brings if each minute of its load costs so much
+pub record AreLaden (problem : Problem) (timeline : Timeline) (units : List ℤ) (toll : ℤ)
+    (laden : List ℤ) : Type 0 where
+  pub covers : length laden ≡ length problem.pairings
+  pub each : (p : ℕ) → p < length problem.pairings
+      → value_at laden p ≡ value_at units p +ℤ (toll *ℤ pos (slice_index timeline.loads.items p))
+
 -- By the worth so much flight beyond a target costs no less, if there is no more than may be spared.
 abbrev pub IsFixed : ℤ → ℤ → ℤ → ℕ → ℤ → Type 0
 IsFixed worth weight short spare fixed =
     (flight : ℕ) → flight ≤ spare → ((worth *ℤ pos flight) +ℤ fixed)
     ≤ℤ ((weight *ℤ pos (unsigned_abs (short +ℤ pos flight))) -ℤ (weight *ℤ pos (unsigned_abs short)))
 
--- A table at what a minute of flight costs. To miss the target costs no less, by the flight that limits leave.
+-- A table at what a minute of flight costs, and one of a load. To miss the target costs no less, by the flight that
+-- limits leave, and the loads that there may be cost no more.
 pub record IsTable (problem : Problem) (k : ℕ) (timeline : Timeline) (units : List ℤ)
     (table : WorthTable) : Type 0 where
+  pub laden : List ℤ
   pub values : List ℤ
-  pub worths : AreWorth problem k units table.worth values
+  pub loads : AreLaden problem timeline units table.toll laden
+  pub worths : AreWorth problem k laden table.worth values
   pub valued : AreValued problem k timeline values
   pub behind : AreBehind problem k timeline values table.behind
   pub small : IsWithin MOST_WORTH table.worth
+  pub some : pos 0 ≤ℤ table.toll
+  pub light : table.toll ≤ℤ pos MOST_TOLL
   pub fixed : IsFixed table.worth (pos (PARTS * weight_of problem)) (short_of problem k) (spare_flight problem k)
-      table.fixed
-  pub near : IsWithin MOST_LEAST table.fixed
+      (table.fixed +ℤ (table.toll *ℤ pos timeline.spare_load))
+  pub near : IsWithin MOST_BESIDE table.fixed
 
 -- a person's timeline, what each pairing brings at the prices, and tables
 pub record IsProspect (problem : Problem) (k : ℕ) (timeline : Timeline) (prices units : List ℤ)
@@ -68,17 +80,18 @@ pub record IsProspect (problem : Problem) (k : ℕ) (timeline : Timeline) (price
   pub small : IsWithin MOST_SHORT short
   pub is_spare : spare ≡ spare_flight problem k
 
--- What begins with some path that ends with pairing q brings no less, if the path has that value and flight,
+-- What begins with some path that ends with pairing q brings no less, if the path has that value, flight and load,
 -- since the instant of the class no recurrent rest lies before its end, and so many pairs of days off still
 -- have to come from the begin of q on.
-abbrev pub IsAhead : Problem → ℕ → Timeline → List ℤ → ℤ → ℕ → ℕ → ℕ → ℕ → ℤ → Type 0
-IsAhead problem k timeline units value flight q class need least =
+abbrev pub IsAhead : Problem → ℕ → Timeline → List ℤ → ℤ → ℕ → ℕ → ℕ → ℕ → ℕ → ℤ → Type 0
+IsAhead problem k timeline units value flight load q class need least =
     (before rest : List ℕ) → IsPath problem k timeline (before ++ q ∷ rest)
     → IsBegun problem k (before ++ q ∷ rest) q (begin_of timeline class)
     → class ≤ class_of timeline q
     → IsOwed problem k timeline (before ++ q ∷ rest) q need
     → value ≡ total (value_at units) (before ++ q ∷ [])
     → flight ≡ flight_along problem k (before ++ q ∷ [])
+    → load ≡ load_along timeline (before ++ q ∷ [])
     → least ≤ℤ gain_of problem k units (before ++ q ∷ rest)
 
 -- a problem, one of its persons with their timeline, prices, and what each pairing brings at them

@@ -1,17 +1,17 @@
 -- A search over paths: what a path begins with, and what comes of it.
-use Rattle.std.specs.Prelude.{◌≡◌, ℕ, ◌+◌, ◌-◌, ◌*◌, ◌<◌, ◌≤◌, ◌⊎◌, true, List, [], ◌∷◌, ◌++◌, length, Option, Some, MatchOption, ℤ, ◌+ℤ◌, ◌≤ℤ◌, All}
+use Rattle.std.specs.Prelude.{◌≡◌, ℕ, ◌+◌, ◌-◌, ◌*◌, ◌<◌, ◌≤◌, ◌⊎◌, true, List, [], ◌∷◌, ◌++◌, length, Option, Some, MatchOption, slice_index, ℤ, ◌+ℤ◌, ◌≤ℤ◌, All}
 use Rattle.roster_model.specs.declared.limits.TheConstants.{MOST_PAIRINGS}
 use Rattle.roster_model.specs.Costs.{total}
 use Rattle.roster_model.specs.Rules.{is_among}
 use Rattle.roster_cost.specs.Amounts.{minutes_of_pairing, IsWithin}
-use Rattle.roster_plan_bound.specs.declared.parts.TheConstants.{MOST_CHAIN_VALUE, MOST_FLIGHT}
+use Rattle.roster_plan_bound.specs.declared.parts.TheConstants.{MOST_CHAIN_VALUE, MOST_FLIGHT, MOST_LOAD}
 use Rattle.roster_plan_bound.specs.declared.seek.End.{End}
 use Rattle.roster_plan_bound.specs.declared.seek.Spot.{Spot}
 use Rattle.roster_plan_bound.specs.declared.timeline.Timeline.{Timeline}
 use Rattle.roster_plan_bound.specs.Chains.{value_at}
 use Rattle.roster_plan_bound.specs.Prospects.{gain_of, Outlook}
 use Rattle.roster_plan_bound.specs.Spans.{IsBegun}
-use Rattle.roster_plan_bound.specs.Timelines.{begin_of, class_of, flight_along, need_behind, need_first, unrested_after, IsOwed, IsPath}
+use Rattle.roster_plan_bound.specs.Timelines.{begin_of, class_of, flight_along, load_along, need_behind, need_first, unrested_after, IsOwed, IsPath}
 
 -- what a path brings
 abbrev pub gain : Outlook → List ℕ → ℤ
@@ -33,6 +33,7 @@ pub record IsStart (outlook : Outlook) (spot : Spot) (before rest : List ℕ) : 
   pub ends : (last : ℕ) → spot.last ≡ Some last → EndsAt outlook spot.end.class spot.end.need before rest last
   pub value : spot.end.value ≡ total (value_at outlook.units) before
   pub flight : spot.end.flight ≡ flight_along outlook.problem outlook.person before
+  pub load : spot.end.load ≡ load_along outlook.timeline before
   pub may : (p : ℕ) → is_among rest p ≡ true → is_among spot.may p ≡ true
 
 -- no path that begins with the spot brings less
@@ -62,6 +63,7 @@ pub record IsSpot (outlook : Outlook) (spot : Spot) : Type 0 where
   pub room : spot.room ≤ MOST_PAIRINGS
   pub value : IsWithin ((MOST_PAIRINGS - spot.room) * MOST_CHAIN_VALUE) spot.end.value
   pub flight : spot.end.flight ≤ (MOST_PAIRINGS - spot.room) * MOST_FLIGHT
+  pub load : spot.end.load ≤ (MOST_PAIRINGS - spot.room) * MOST_LOAD
 
 -- the class of pairing q behind the last one: the same, if no recurrent rest lies between, or its own
 abbrev pub IsClassWith : Timeline → Spot → ℕ → ℕ → Type 0
@@ -83,6 +85,8 @@ pub record IsEndWith (outlook : Outlook) (spot : Spot) (q : ℕ) (end : End) : T
   pub small : IsWithin MOST_CHAIN_VALUE (value_at outlook.units q)
   pub flight : end.flight ≡ spot.end.flight + minutes_of_pairing outlook.problem outlook.person q
   pub few : minutes_of_pairing outlook.problem outlook.person q ≤ MOST_FLIGHT
+  pub load : end.load ≡ spot.end.load + slice_index outlook.timeline.loads.items q
+  pub light : slice_index outlook.timeline.loads.items q ≤ MOST_LOAD
   pub need : IsNeedWith outlook.timeline spot q end.need
 
 -- each path that begins with the spot, and goes on with pairing q, begins with the next spot

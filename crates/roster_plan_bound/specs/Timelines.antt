@@ -12,6 +12,7 @@ use Rattle.roster_model.specs.declared.limits.TheConstants.{LAST_INSTANT, MOST_P
 use Rattle.roster_cost.specs.Amounts.{minutes_of_pairing, IsWithin}
 use Rattle.roster_plan_bound.specs.declared.parts.TheConstants.{MOST_FLIGHT, MOST_STEP}
 use Rattle.roster_plan_bound.specs.DaysOffs.{pairs_by, HasPairsFrom}
+use Rattle.roster_plan_bound.specs.Loads.{AreLoads}
 use Rattle.roster_plan_bound.specs.Spans.{IsBegun}
 use Rattle.roster_plan_bound.specs.Ranked.{IsRanked}
 
@@ -68,12 +69,18 @@ spare_flight problem k =
     min (MOST_FLIGHT_IN_A_YEAR - year_of problem k) (MOST_FLIGHT_IN_12_MONTHS - eleven_of problem k)
     - flight_of problem k []
 
--- Pairings that are legal together, by their ranks. They have no more flight than limits leave.
+-- what a path's pairings take of the sum that is watched
+abbrev pub load_along : Timeline → List ℕ → ℕ
+load_along timeline path = sum_by (slice_index timeline.loads.items) path
+
+-- Pairings that are legal together, by their ranks. They have no more flight than limits leave, and take no more of
+-- the sum that is watched.
 pub record IsPath (problem : Problem) (k : ℕ) (timeline : Timeline) (path : List ℕ) : Type 0 where
   pub legal : IsLegal problem k path
   pub ranked : IsRanked (rank_of timeline) path
   pub places : All (λ p. p < length problem.pairings) path
   pub spare : flight_along problem k path ≤ spare_flight problem k
+  pub light : load_along timeline path ≤ timeline.spare_load
 
 -- a list for each pairing, and a class for each that is legal alone
 pub record CoversPairings (problem : Problem) (timeline : Timeline) : Type 0 where
@@ -119,6 +126,7 @@ pub record IsTimeline (problem : Problem) (k : ℕ) (timeline : Timeline) : Type
       → is_among set p ≡ true → IsOwed problem k timeline set p need → MayEnd timeline p need
   pub flights : AreFlights problem k timeline.flights.items
   pub few : All (λ flight. flight ≤ MOST_FLIGHT) timeline.flights.items
+  pub loads : AreLoads problem k timeline.loads.items timeline.spare_load
 
 -- a timeline of person k, and what each pairing brings
 pub record AreValued (problem : Problem) (k : ℕ) (timeline : Timeline) (values : List ℤ) : Type 0 where

@@ -19,6 +19,12 @@ pub(crate) struct Hints {
     pub(crate) worth: i64,
     /// How far the other tables are from it; nothing before the first ones.
     pub(crate) step: i64,
+    /// Whether tables with tolls are made: a search didn't come to its end.
+    pub(crate) is_tolled: bool,
+    /// The toll of the table that last said most, in parts of a cost unit.
+    pub(crate) toll: i64,
+    /// How far other tolls are from it; nothing before the first ones.
+    pub(crate) toll_step: i64,
     /// How many sets are to be listed, at most.
     pub(crate) wanted: usize,
 }
@@ -32,6 +38,9 @@ impl Hints {
             is_strict: false,
             worth: 0,
             step: 0,
+            is_tolled: false,
+            toll: 0,
+            toll_step: 0,
             wanted: MOST_COLUMNS,
         }
     }

@@ -140,12 +140,12 @@ fn promised(
     }
     let end = end_with(prospect, spot, q);
     match prospect.timeline().lows.get(q) {
-        Some(low) if end.class >= *low && prospect.spares(end.flight) => {
+        Some(low) if end.class >= *low && prospect.spares(end.flight, end.load) => {
             let least = match worth {
                 Some(worth) => end
                     .value
                     .wrapping_add(worth.wrapping_mul(end.flight as i64)),
-                None => prospect.ahead(end.value, end.flight, q, end.class, end.need),
+                None => prospect.ahead(end.value, end.flight, end.load, q, end.class, end.need),
             };
             Some((end, least))
         }
@@ -239,6 +239,7 @@ fn is_covered(labels: &[Spot], first: usize, end: &End) -> bool {
 fn is_as_good(known: &End, end: &End) -> bool {
     known.flight == end.flight
         && known.value <= end.value
+        && known.load <= end.load
         && known.class >= end.class
         && known.need <= end.need
 }

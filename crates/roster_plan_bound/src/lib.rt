@@ -12,6 +12,7 @@
 //! - `span`: when a pairing begins and ends, as the recovery rule sees it
 //! - `timeline`: the pairings of a person in order of time
 //! - `days_off`: by when there may have been days off
+//! - `loads`: what pairings take of a sum that limits judge
 //! - `draft`: the tables of a timeline
 //! - `rows_behind`: amounts for each class
 //! - `leading`: what stands behind one pairing
@@ -19,6 +20,7 @@
 //! - `values`: what each pairing brings to a person at some prices
 //! - `spare`: the flight that limits leave a person
 //! - `target`: what the target of a person costs
+//! - `tolls`: what loads cost by the minute
 //! - `worths`: tables at what a minute of flight is worth
 //! - `prospect`: what the paths of a person bring at some prices
 //! - `terms`: what flight costs at the end of a chain
@@ -60,6 +62,7 @@ mod gap;
 mod labels;
 mod leading;
 mod lists;
+mod loads;
 mod master;
 mod network;
 mod own_cost;
@@ -83,6 +86,7 @@ mod target;
 mod team;
 mod terms;
 mod timeline;
+mod tolls;
 mod tuning;
 mod values;
 mod way;

@@ -39,5 +39,17 @@ pub(crate) const MOST_BEHIND: u64 = 1 << 60;
 /// What a minute of flight is worth to a table, at most, and below 0.
 pub(crate) const MOST_WORTH: u64 = 1 << 34;
 
+/// What a minute of the sum that is watched costs in a table, at most.
+pub(crate) const MOST_TOLL: u64 = 1 << 33;
+
+/// What a pairing takes of that sum, at most, in minutes.
+pub(crate) const MOST_LOAD: u64 = 65_535;
+
+/// What pairings bring with their tolls, at most, and below 0.
+pub(crate) const MOST_LADEN: u64 = 1 << 50;
+
+/// What a table has beside its pairings, at most, and below 0.
+pub(crate) const MOST_BESIDE: u64 = 1 << 55;
+
 /// By how many minutes fixed flight is beyond a target that tables are made for, at most, and below it.
 pub(crate) const MOST_SHORT: u64 = 1 << 17;

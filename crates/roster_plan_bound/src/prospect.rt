@@ -9,10 +9,11 @@ ghost use Rattle.roster_plan_bound.specs.Timelines.{IsTimeline};
 
 use crate::behind::{Valued, behind_of};
 use crate::lists::{amount_at, flight_at};
-use crate::parts::{MOST_CHAIN_VALUE, MOST_FLIGHT, MOST_LEAST, MOST_WORTH};
+use crate::parts::{MOST_CHAIN_VALUE, MOST_FLIGHT, MOST_LEAST, MOST_LOAD, MOST_WORTH};
 use crate::spare::{is_scarce, spare_flight};
 use crate::target::{beyond_target, fixed_at, minute_weight, missed_more};
 use crate::timeline::Timeline;
+use crate::tolls::{laden, laden_values, less_toll, near_toll};
 use crate::values::values_of;
 use crate::worths::{WorthTable, near_worth, worth_values};
 use roster_cumulative::flight_of_set;
@@ -125,12 +126,12 @@ impl<'a> Prospect<'a> {
     }
 
     /// Makes the table at what a minute of flight costs, or at the nearest worth that may be: no more than the
-    /// weight, on either side, but any above it if limits leave little flight. If memory runs out, nothing has
-    /// changed.
-    pub(crate) fn add(&mut self, alloc: Global, worth: i64) -> Result<(), AllocError>
+    /// weight, on either side, but any above it if limits leave little flight. A minute of the sum that is watched
+    /// costs the toll. If memory runs out, nothing has changed.
+    pub(crate) fn add(&mut self, alloc: Global, worth: i64, toll: i64) -> Result<(), AllocError>
         ensures { self.new ≡ self.old }
     {
-        let table = self.table_at(alloc, worth)?;
+        let table = self.table_at(alloc, worth, toll)?;
         self.tables.push(table)?;
         Ok(())
     }
@@ -140,10 +141,35 @@ impl<'a> Prospect<'a> {
         ensures { self.new ≡ self.old }
     {
         for _ in 0..times {
-            let best = self.best_worth();
+            let (best, toll) = self.best();
             let (below, above) = self.neighbours(best);
-            self.add(alloc, best.wrapping_add(below) / 2)?;
-            self.add(alloc, best.wrapping_add(above) / 2)?;
+            self.add(alloc, best.wrapping_add(below) / 2, toll)?;
+            self.add(alloc, best.wrapping_add(above) / 2, toll)?;
+        }
+        Ok(())
+    }
+
+    /// Makes tables at tolls nearer and nearer to the one that says most, so often one on either side, the first ones
+    /// so far from it.
+    pub(crate) fn refine_toll(
+        &mut self,
+        alloc: Global,
+        times: u32,
+        step: i64,
+    ) -> Result<(), AllocError>
+        ensures { self.new ≡ self.old }
+    {
+        let mut step = step;
+        for _ in 0..times {
+            let (worth, toll) = self.best();
+            let less = if toll > 0 {
+                toll.wrapping_sub(step)
+            } else {
+                step / 2
+            };
+            self.add(alloc, worth, less)?;
+            self.add(alloc, worth, toll.wrapping_add(step))?;
+            step = (step / 2).max(1);
         }
         Ok(())
     }
@@ -162,25 +188,29 @@ impl<'a> Prospect<'a> {
         (below, above)
     }
 
-    /// The table at what a minute of flight costs, or at the nearest worth that may be.
-    fn table_at(&self, alloc: Global, worth: i64) -> Result<WorthTable, AllocError>
+    /// The table at what a minute of flight costs, or at the nearest worth that may be, and at the toll.
+    fn table_at(&self, alloc: Global, worth: i64, toll: i64) -> Result<WorthTable, AllocError>
         ensures { IfOk result
             (IsTable self.now.problem self.now.person self.now.timeline self.now.units) }
     {
         self.problem.is_sound();
         let worth = near_worth(worth, self.weight, self.is_scarce);
-        let values = worth_values(alloc, &self.units, &self.timeline.flights, worth)?;
+        let toll = near_toll(toll);
+        let timeline = self.timeline;
+        let laden = laden_values(alloc, &self.units, &timeline.loads, toll)?;
+        let values = worth_values(alloc, &laden, &timeline.flights, worth)?;
         let valued = Valued {
             problem: self.problem,
             person: self.person,
-            timeline: self.timeline,
+            timeline,
             values: &values,
         };
         let behind = behind_of(alloc, &valued)?;
         let fixed = fixed_at(worth, self.weight, self.short, self.spare);
         Ok(WorthTable {
             worth,
-            fixed,
+            toll,
+            fixed: less_toll(fixed, toll, timeline.spare_load),
             behind,
         })
     }
@@ -201,20 +231,34 @@ impl<'a> Prospect<'a> {
     /// What a path brings at least that begins with pairings of that value and flight, of which `q` is the
     /// last one. Since the instant of the class no recurrent rest lies before its end, and so many pairs of
     /// days off still have to come. No path has more flight than limits leave.
-    pub(crate) fn ahead(&self, value: i64, flight: u64, q: usize, class: usize, need: usize) -> i64
+    pub(crate) fn ahead(
+        &self,
+        value: i64,
+        flight: u64,
+        load: u64,
+        q: usize,
+        class: usize,
+        need: usize,
+    ) -> i64
         requires pairing { q < length self.now.problem.pairings }
         requires value { IsWithin (MOST_PAIRINGS * MOST_CHAIN_VALUE) value }
         requires flight { flight ≤ MOST_PAIRINGS * MOST_FLIGHT }
-        ensures { IsAhead self.now.problem self.now.person self.now.timeline self.now.units value flight q
+        requires load { load ≤ MOST_PAIRINGS * MOST_LOAD }
+        ensures { IsAhead self.now.problem self.now.person self.now.timeline self.now.units value flight load q
             class need result }
     {
         self.problem.is_sound();
         if flight > self.spare {
             return i64::MAX;
         }
+        if load > self.timeline.spare_load {
+            return i64::MAX;
+        }
         let mut least = -(MOST_LEAST as i64);
         for i in 0..self.tables.len() {
-            least = greater(least, self.tables[i].ahead(value, flight, q, class, need));
+            let table = &self.tables[i];
+            let value = laden(value, load, table.toll);
+            least = greater(least, table.ahead(value, flight, q, class, need));
         }
         least
     }
@@ -239,9 +283,35 @@ impl<'a> Prospect<'a> {
         self.problem.is_sound();
     }
 
-    /// Whether limits leave so much flight.
-    pub(crate) fn spares(&self, flight: u64) -> bool {
-        flight <= self.spare
+    /// Whether limits leave so much flight, and so much of the sum that is watched.
+    pub(crate) fn spares(&self, flight: u64, load: u64) -> bool {
+        flight <= self.spare && load <= self.timeline.spare_load
+    }
+
+    /// Whether pairings that are legal alone take more of the sum that is watched than is left.
+    pub(crate) fn is_laden(&self) -> bool {
+        let mut minutes: u64 = 0;
+        for q in &self.timeline.order {
+            minutes = minutes.wrapping_add(flight_at(&self.timeline.loads, *q));
+        }
+        minutes > self.timeline.spare_load
+    }
+
+    /// How much a minute of the sum that is watched is worth, about: what the pairings that bring something at the
+    /// best worth bring by the minute.
+    pub(crate) fn usual_toll(&self) -> i64 {
+        let (worth, _) = self.best();
+        let mut saved: i64 = 0;
+        let mut minutes: u64 = 0;
+        for q in &self.timeline.order {
+            let flight = flight_at(&self.timeline.flights, *q).min(MOST_WORTH) as i64;
+            let value = amount_at(&self.units, *q).wrapping_add(worth.wrapping_mul(flight));
+            if value < 0 {
+                saved = saved.wrapping_sub(value);
+                minutes = minutes.wrapping_add(flight_at(&self.timeline.loads, *q));
+            }
+        }
+        saved / (minutes.max(1).min(MOST_WORTH) as i64)
     }
 
     /// Whether limits leave little flight, so that it may be worth more than the weight.
@@ -272,18 +342,18 @@ impl<'a> Prospect<'a> {
         self.prices
     }
 
-    /// What a minute of flight is worth to the table that says most; nothing if there is none.
-    pub(crate) fn best_worth(&self) -> i64 {
-        let mut worth = 0;
+    /// What a minute of flight is worth to the table that says most, and its toll; nothing if there is none.
+    pub(crate) fn best(&self) -> (i64, i64) {
+        let mut best = (0, 0);
         let mut most = i64::MIN;
         for table in &self.tables {
             let begun = table.begun_at_most();
             if begun > most {
-                worth = table.worth;
+                best = (table.worth, table.toll);
                 most = begun;
             }
         }
-        worth
+        best
     }
 }
 

@@ -28,6 +28,8 @@ pub(crate) struct End {
     pub(crate) value: i64,
     /// Their minutes of flight.
     pub(crate) flight: u64,
+    /// What they take of the sum that is watched, in minutes.
+    pub(crate) load: u64,
     /// How many pairs of days off still have to come from the last pairing on, if there is one.
     pub(crate) need: usize,
 }
@@ -91,6 +93,7 @@ pub(crate) fn start_of(prospect: &Prospect<'_>) -> Spot
             class: 0,
             value: 0,
             flight: 0,
+            load: 0,
             need: 0,
         },
         may: prospect.timeline().alone,
@@ -186,7 +189,7 @@ fn onward(
     if end.class < prospect.timeline().lows[q] {
         return Ok(None);
     }
-    if prospect.ahead(end.value, end.flight, q, end.class, end.need) >= least {
+    if prospect.ahead(end.value, end.flight, end.load, q, end.class, end.need) >= least {
         return Ok(None);
     }
     let next = spot_with(prospect, spot, q, end);
@@ -243,6 +246,7 @@ pub(crate) fn end_with(prospect: &Prospect<'_>, spot: &Spot, q: usize) -> End
         class: class_with(timeline, spot, q),
         value: spot.end.value + prospect.units()[q],
         flight: spot.end.flight + timeline.flights[q],
+        load: spot.end.load + timeline.loads[q],
         need: need_with(timeline, spot, q),
     }
 }

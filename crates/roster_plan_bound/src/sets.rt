@@ -14,8 +14,8 @@ use crate::prospect::Prospect;
 use crate::seek::{Listing, seek_all};
 use crate::timeline::Timeline;
 use crate::tuning::{
-    FEWEST_LISTED, FEWEST_WORTH_STEPS, FINER_WORTHS, LEAST_REACH, MANY_BARRED, MANY_LISTED,
-    MOST_CLAIMS, MOST_KEPT, MOST_KNOWN, MOST_REACH, MOST_WORTH_STEPS,
+    FEWEST_LISTED, FEWEST_WORTH_STEPS, FINER_TOLLS, FINER_WORTHS, LEAST_REACH, MANY_BARRED,
+    MANY_LISTED, MOST_CLAIMS, MOST_KEPT, MOST_KNOWN, MOST_REACH, MOST_WORTH_STEPS,
 };
 use roster_legal::Judge;
 use roster_problem::Problem;
@@ -45,7 +45,7 @@ pub(crate) fn least_set(
         return Ok(None);
     };
     add_tables(alloc, &mut prospect, columns)?;
-    prospect.refine(alloc, FINER_WORTHS)?;
+    refine_tables(alloc, &mut prospect, columns)?;
     let tabled = prospect.least();
     if visits == 0 {
         return Ok(Some(tabled));
@@ -70,16 +70,71 @@ fn add_tables(
     } else {
         usual / FEWEST_WORTH_STEPS
     };
-    let Hints { worth, step, .. } = columns.hints;
+    let Hints {
+        worth,
+        step,
+        toll,
+        ..
+    } = columns.hints;
     let step = if step > 0 { step } else { usual };
-    prospect.add(alloc, worth)?;
-    prospect.add(alloc, worth.wrapping_sub(step))?;
-    prospect.add(alloc, worth.wrapping_add(step))?;
-    columns.hints.worth = prospect.best_worth();
+    prospect.add(alloc, worth, toll)?;
+    prospect.add(alloc, worth.wrapping_sub(step), toll)?;
+    prospect.add(alloc, worth.wrapping_add(step), toll)?;
+    columns.hints.worth = prospect.best().0;
     columns.hints.step = if columns.hints.worth == worth {
         step / 2
     } else {
         step.wrapping_mul(2).min(longest)
+    }
+    .max(usual / MOST_WORTH_STEPS)
+    .max(1);
+    add_tolls(alloc, prospect, columns)
+}
+
+/// Makes tables nearer to the best one, on either side, by worth and by toll.
+fn refine_tables(
+    alloc: Global,
+    prospect: &mut Prospect<'_>,
+    columns: &mut Columns,
+) -> Result<(), AllocError>
+    ensures { prospect.new ≡ prospect.old }
+{
+    prospect.refine(alloc, FINER_WORTHS)?;
+    if !columns.hints.is_tolled {
+        return Ok(());
+    }
+    let step = columns.hints.toll_step.wrapping_mul(2);
+    prospect.refine_toll(alloc, FINER_TOLLS, step)?;
+    columns.hints.toll = prospect.best().1;
+    Ok(())
+}
+
+/// Makes tables at a step less and more than the toll of the best one before, if tolls count. The steps are half as
+/// long from then on if that is the best one again, and else twice as long, within limits.
+fn add_tolls(
+    alloc: Global,
+    prospect: &mut Prospect<'_>,
+    columns: &mut Columns,
+) -> Result<(), AllocError>
+    ensures { prospect.new ≡ prospect.old }
+{
+    let Hints {
+        is_tolled,
+        toll,
+        toll_step,
+        ..
+    } = columns.hints;
+    if !is_tolled {
+        return Ok(());
+    }
+    let usual = prospect.usual_toll().max(1);
+    let step = if toll_step > 0 { toll_step } else { usual };
+    prospect.refine_toll(alloc, 1, step)?;
+    columns.hints.toll = prospect.best().1;
+    columns.hints.toll_step = if columns.hints.toll == toll {
+        step / 2
+    } else {
+        step.wrapping_mul(2).min(usual)
     }
     .max(usual / MOST_WORTH_STEPS)
     .max(1);
@@ -157,6 +212,7 @@ fn least_shown(
     let claim = columns.least_value(prospect.prices());
     let found = shown(prospect, &mut judge, claim, &mut listing)?;
     columns.join(&listing.found)?;
+    columns.hints.is_tolled |= found.is_none() && prospect.is_laden();
     match found {
         Some(_) => Ok(better(known, found)),
         None => least_claimed(

@@ -11,6 +11,7 @@ ghost use Rattle.roster_plan_bound.specs.Timelines.{need_behind, need_first, IsT
 
 use crate::days_off::{DaysOff, off_at_start, offs_of};
 use crate::draft::draft_of;
+use crate::loads::room_of;
 use crate::parts::MOST_FLIGHT;
 use crate::span::{Span, span_of};
 use roster_legal::part_of_legal_is_legal;
@@ -49,6 +50,9 @@ pub(crate) struct Timeline {
     pub(crate) start: DaysOff,
     /// The minutes of flight of each pairing.
     pub(crate) flights: Vec<u64>,
+    /// What each pairing takes of one sum that limits judge, and what fixed duties leave of it, in minutes.
+    pub(crate) loads: Vec<u64>,
+    pub(crate) spare_load: u64,
 }
 
 impl Timeline {
@@ -96,6 +100,7 @@ pub(crate) fn timeline_of(
     };
     let offs = offs_of(alloc, problem, k, &spans)?;
     let start = off_at_start(alloc, problem, k)?;
+    let room = room_of(alloc, problem, k, &pairs.alone)?;
     let timeline = draft_of(
         alloc,
         pairs,
@@ -103,6 +108,7 @@ pub(crate) fn timeline_of(
         offs,
         start,
         month_start_of(problem, k),
+        room,
     )?;
     if !is_whole(&timeline, &spans) {
         return Ok(None);

@@ -76,6 +76,12 @@ pub(crate) const MOST_VISITS: u32 = 100_000;
 /// How many looks there are at most before what they claim is shown.
 pub(crate) const MOST_TRUST: u32 = 16;
 
+/// How much flight a person could have in a day, about, if limits left it, in minutes.
+pub(crate) const MOST_FLOWN_A_DAY: u64 = 300;
+
+/// How often tables at nearer tolls of the sum that is watched are made before a search that shows the least.
+pub(crate) const FINER_TOLLS: u32 = 4;
+
 /// How often tables at nearer worths of a minute of flight are made before such a search.
 pub(crate) const FINER_WORTHS: u32 = 2;
 

@@ -9,15 +9,17 @@ ghost use Rattle.roster_plan_bound.specs.Chains.{value_at};
 
 use crate::behind::Behind;
 use crate::parts::{
-    MOST_BEHIND, MOST_CHAIN_VALUE, MOST_FLIGHT, MOST_LEAST, MOST_STEP, MOST_SUM, MOST_WORTH, PARTS,
+    MOST_BEHIND, MOST_BESIDE, MOST_FLIGHT, MOST_LADEN, MOST_STEP, MOST_SUM, MOST_WORTH, PARTS,
 };
 use roster_model::limits::{MOST_PAIRINGS, MOST_WEIGHT};
 use std::alloc::{AllocError, Global};
 
-/// A table at what a minute of flight costs, and what the target costs beside it at least.
+/// A table at what a minute of flight costs, and one of a load, its toll. What the target costs beside it at least,
+/// without the toll of all load that may be.
 #[derive(Drop)]
 pub(crate) struct WorthTable {
     pub(crate) worth: i64,
+    pub(crate) toll: i64,
     pub(crate) fixed: i64,
     pub(crate) behind: Behind,
 }
@@ -31,20 +33,20 @@ impl WorthTable {
     /// What any path brings at least.
     pub(crate) fn begun(&self) -> i64
         requires begun { IsWithin MOST_BEHIND self.now.behind.begun }
-        requires fixed { IsWithin MOST_LEAST self.now.fixed }
+        requires fixed { IsWithin MOST_BESIDE self.now.fixed }
         ensures { result ≡ self.now.behind.begun +ℤ self.now.fixed }
     {
         self.behind.begun + self.fixed
     }
 
-    /// What a path brings at least that begins with pairings of that value and flight, of which `q` is the
-    /// last one.
+    /// What a path brings at least that begins with pairings of that value, their tolls included, and that flight,
+    /// of which `q` is the last one.
     pub(crate) fn ahead(&self, value: i64, flight: u64, q: usize, class: usize, need: usize) -> i64
         requires pairing { q < length self.now.behind.rows.items }
-        requires value { IsWithin (MOST_PAIRINGS * MOST_CHAIN_VALUE) value }
+        requires value { IsWithin MOST_LADEN value }
         requires flight { flight ≤ MOST_PAIRINGS * MOST_FLIGHT }
         requires worth { IsWithin MOST_WORTH self.now.worth }
-        requires fixed { IsWithin MOST_LEAST self.now.fixed }
+        requires fixed { IsWithin MOST_BESIDE self.now.fixed }
         requires rows { All (λ rows. All (IsWithin MOST_BEHIND) (row_for rows need))
             self.now.behind.rows.items }
         ensures value { (rows : OwedRows) → slice_get self.now.behind.rows.items q ≡ Some rows
@@ -82,7 +84,7 @@ pub(crate) fn worth_values(
     worth: i64,
 ) -> Result<Vec<i64>, AllocError>
     requires covers { length flights.now ≡ length units.now }
-    requires units { All (IsWithin MOST_CHAIN_VALUE) units.now }
+    requires units { All (IsWithin MOST_LADEN) units.now }
     requires flights { All (λ flight. flight ≤ MOST_FLIGHT) flights.now }
     requires worth { IsWithin MOST_WORTH worth }
     ensures covers { IfOk result (λ values. length values.items ≡ length units.now) }
@@ -99,7 +101,7 @@ pub(crate) fn worth_values(
 
 /// What a pairing of so much flight brings if each minute costs so much.
 fn worth_value(units: i64, flight: u64, worth: i64) -> i64
-    requires units { IsWithin MOST_CHAIN_VALUE units }
+    requires units { IsWithin MOST_LADEN units }
     requires flight { flight ≤ MOST_FLIGHT }
     requires worth { IsWithin MOST_WORTH worth }
     ensures value { result ≡ units +ℤ (worth *ℤ pos flight) }

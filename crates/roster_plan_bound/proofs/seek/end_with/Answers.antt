@@ -6,6 +6,7 @@ use Rattle.roster_cost.specs.Amounts.{IsWithin}
 use Rattle.roster_plan_bound.specs.declared.parts.TheConstants.{MOST_CHAIN_VALUE, MOST_FLIGHT}
 use Rattle.roster_plan_bound.specs.Chains.{value_at}
 use Rattle.roster_plan_bound.specs.Seeks.{IsClassWith, IsNeedWith}
+use Rattle.roster_plan_bound.proofs.SeekLemmas.{index-any}
 use Rattle.roster_plan_bound.proofs.seek.end_with.Goals as goal
 
 -- the sum that the code takes
@@ -51,6 +52,9 @@ returns c =
     let minutes : at ≡ get_or o.timeline.flights.items q at =
     c.index.ensures ∙ ap (λ t. get_or t.flights.items q at) c.timeline-timeline.ensures.value in
     let flown = timed.flights.each q at (slice_get-get_or o.timeline.flights.items q at flight_inside ∙ ap Some (sym minutes)) in
+    let load_inside : q < length o.timeline.loads.items = subst (λ n. q < n) (sym timed.loads.covers) there in
+    let taken : c.index-2.result.now ≡ get_or o.timeline.loads.items q 0 =
+    index-any o.timeline.loads.items q c.index-2.result.now 0 (c.index-2.ensures ∙ ap (λ t. get_or t.loads.items q c.index-2.result.now) c.timeline-timeline.ensures.value) load_inside in
     record {
       class =
           subst (λ t. IsClassWith t spot q c.class_with.result) c.timeline-timeline.ensures.value
@@ -61,6 +65,8 @@ returns c =
       small = small;
       flight = ap (λ n. spot.end.flight + n) flown;
       few = subst (λ n. n ≤ MOST_FLIGHT) (sym minutes ∙ flown) (timed.few q at flight_inside);
+      load = ap (λ n. spot.end.load + n) taken;
+      light = timed.loads.small q 0 load_inside;
       need =
           subst (λ t. IsNeedWith t spot q c.need_with.result) c.timeline-timeline.ensures.value
           c.need_with.ensures;

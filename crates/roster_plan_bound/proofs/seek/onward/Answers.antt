@@ -33,7 +33,7 @@ returns-then-ahead-least-clause-next c =
     let more = c.if-ahead-least.true in
     ahead-of o c.timeline.ensures.is c.args.spot.now c.args.q end c.args.least c.ahead.result
     c.end_with-end.ensures
-    (subst (λ v. IsAhead o.problem o.person o.timeline o.units v end.flight c.args.q end.class end.need c.ahead.result) told c.ahead.ensures) (omega (arith, ints, least_told, ahead_told, more))
+    (subst (λ v. IsAhead o.problem o.person o.timeline o.units v end.flight end.load c.args.q end.class end.need c.ahead.result) told c.ahead.ensures) (omega (arith, ints, least_told, ahead_told, more))
 
 pub returns-then-not-branch-clause-next : goal.returns-then-not-branch-clause-next
 returns-then-not-branch-clause-next c before rest start =

@@ -1,7 +1,7 @@
 use Rattle.std.proofs.Common.{◌≡◌, pos, ◌*◌, ◌+ℤ◌, ◌*ℤ◌, w64, to_z, of_z, arith, ap, ◌∙◌}
 use Rattle.std.proofs.lemmas.Int.{ints}
 use Rattle.roster_cost.specs.Amounts.{IsWithin}
-use Rattle.roster_plan_bound.specs.declared.parts.TheConstants.{MOST_CHAIN_VALUE, MOST_FLIGHT, MOST_STEP, MOST_WORTH}
+use Rattle.roster_plan_bound.specs.declared.parts.TheConstants.{MOST_LADEN, MOST_FLIGHT, MOST_STEP, MOST_WORTH}
 use Rattle.roster_plan_bound.proofs.ProductLemmas.{pos_within, times_within, told_in}
 use Rattle.roster_plan_bound.proofs.worths.worth_value.Goals as goal
 
@@ -20,7 +20,7 @@ returns-clause-within c =
     ap (λ z. z *ℤ to_z w64 flight) (told_in MOST_WORTH worth c.requires.worth (omega arith)) ∙ ap (λ z. worth *ℤ z) cast in
     let product_told : to_z w64 (of_z w64 (to_z w64 (of_z w64 worth) *ℤ to_z w64 flight)) ≡ worth *ℤ pos flight =
     ap (λ z. to_z w64 (of_z w64 z)) product ∙ told_in (MOST_WORTH * MOST_FLIGHT) (worth *ℤ pos flight) near (omega arith) in
-    let units_told = told_in MOST_CHAIN_VALUE units c.requires.units (omega arith) in
+    let units_told = told_in MOST_LADEN units c.requires.units (omega arith) in
     let whole : to_z w64 (of_z w64 units) +ℤ to_z w64 (of_z w64 (to_z w64 (of_z w64 worth) *ℤ to_z w64 flight)) ≡ units +ℤ (worth *ℤ pos flight) =
     omega (arith, ints, units_told, product_told) in
     let within : IsWithin MOST_STEP (units +ℤ (worth *ℤ pos flight)) = (omega (arith, ints, low, low_units), omega (arith, ints, high, high_units)) in

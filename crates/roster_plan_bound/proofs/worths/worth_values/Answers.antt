@@ -3,7 +3,7 @@ use Rattle.std.specs.Prelude.{All}
 use Rattle.std.proofs.lemmas.List.{length_push}
 use Rattle.std.proofs.lemmas.List.Elements.{All-push}
 use Rattle.roster_cost.specs.Amounts.{IsWithin}
-use Rattle.roster_plan_bound.specs.declared.parts.TheConstants.{MOST_CHAIN_VALUE, MOST_STEP}
+use Rattle.roster_plan_bound.specs.declared.parts.TheConstants.{MOST_LADEN, MOST_STEP}
 use Rattle.roster_plan_bound.specs.Chains.{value_at}
 use Rattle.roster_plan_bound.proofs.ProductLemmas.{told_in}
 use Rattle.roster_plan_bound.proofs.RowLemmas.{each_more}
@@ -15,10 +15,10 @@ told c = told_in MOST_STEP c.worth_value.result c.worth_value.ensures.within (om
 
 value_here : (c : goal.In_ok-push) → c.worth_value.result ≡ value_at c.args.units.now c.loop-p.p +ℤ (to_z w64 (of_z w64 c.args.worth) *ℤ pos (get_or c.args.flights.now c.loop-p.p 0))
 value_here c =
-    let within : IsWithin MOST_CHAIN_VALUE (value_at c.args.units.now c.loop-p.p) =
+    let within : IsWithin MOST_LADEN (value_at c.args.units.now c.loop-p.p) =
     c.requires.units c.loop-p.p (pos 0) c.loop-p-test.true in
     c.worth_value.ensures.value
-    ∙ ap (λ z. z +ℤ (to_z w64 (of_z w64 c.args.worth) *ℤ pos (get_or c.args.flights.now c.loop-p.p 0))) (told_in MOST_CHAIN_VALUE (value_at c.args.units.now c.loop-p.p) within (omega arith))
+    ∙ ap (λ z. z +ℤ (to_z w64 (of_z w64 c.args.worth) *ℤ pos (get_or c.args.flights.now c.loop-p.p 0))) (told_in MOST_LADEN (value_at c.args.units.now c.loop-p.p) within (omega arith))
 
 pub loop-p-preserved : goal.loop-p-preserved
 loop-p-preserved c =

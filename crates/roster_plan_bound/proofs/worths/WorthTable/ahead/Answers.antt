@@ -6,7 +6,7 @@ use Rattle.std.proofs.lemmas.List.{get_or_past}
 use Rattle.std.proofs.lemmas.Option.{get_or_from_slice_get, slice_get-get_or}
 use Rattle.roster_model.specs.declared.limits.TheConstants.{MOST_PAIRINGS}
 use Rattle.roster_cost.specs.Amounts.{IsWithin}
-use Rattle.roster_plan_bound.specs.declared.parts.TheConstants.{MOST_BEHIND, MOST_CHAIN_VALUE, MOST_FLIGHT, MOST_LEAST, MOST_SUM, MOST_WORTH}
+use Rattle.roster_plan_bound.specs.declared.parts.TheConstants.{MOST_BEHIND, MOST_BESIDE, MOST_FLIGHT, MOST_LADEN, MOST_SUM, MOST_WORTH}
 use Rattle.roster_plan_bound.specs.declared.rows_behind.OwedRows.{OwedRows}
 use Rattle.roster_plan_bound.specs.Behinds.{lowest, row_at, row_for}
 use Rattle.roster_plan_bound.proofs.ProductLemmas.{fits_in, pos_within, times_within, told_in}
@@ -14,7 +14,7 @@ use Rattle.roster_plan_bound.proofs.RowLemmas.{within-more}
 use Rattle.roster_plan_bound.proofs.worths.WorthTable.ahead.Goals as goal
 
 -- what the pairings bring that are there
-module _ (value worth : ℤ) (flight : ℕ) (value_within : IsWithin (MOST_PAIRINGS * MOST_CHAIN_VALUE) value)
+module _ (value worth : ℤ) (flight : ℕ) (value_within : IsWithin MOST_LADEN value)
     (worth_within : IsWithin MOST_WORTH worth) (few : flight ≤ MOST_PAIRINGS * MOST_FLIGHT) where
   flown : IsWithin (MOST_WORTH * (MOST_PAIRINGS * MOST_FLIGHT)) (worth *ℤ pos flight)
   flown = times_within worth (pos flight) MOST_WORTH (MOST_PAIRINGS * MOST_FLIGHT) worth_within (pos_within (MOST_PAIRINGS * MOST_FLIGHT) flight few)
@@ -34,7 +34,7 @@ module _ (value worth : ℤ) (flight : ℕ) (value_within : IsWithin (MOST_PAIRI
       ap (λ z. z *ℤ to_z w64 flight) (told_in MOST_WORTH worth worth_within (omega arith)) ∙ ap (λ z. worth *ℤ z) cast in
       let product_told : to_z w64 (of_z w64 (to_z w64 (of_z w64 worth) *ℤ to_z w64 flight)) ≡ worth *ℤ pos flight =
       ap (λ z. to_z w64 (of_z w64 z)) product ∙ told_in (MOST_WORTH * (MOST_PAIRINGS * MOST_FLIGHT)) (worth *ℤ pos flight) flown (omega arith) in
-      let value_told = told_in (MOST_PAIRINGS * MOST_CHAIN_VALUE) value value_within (omega arith) in
+      let value_told = told_in MOST_LADEN value value_within (omega arith) in
       let whole : to_z w64 (of_z w64 value) +ℤ to_z w64 (of_z w64 (to_z w64 (of_z w64 worth) *ℤ to_z w64 flight)) ≡ value +ℤ (worth *ℤ pos flight) =
       omega (arith, ints, value_told, product_told) in
       ap (λ z. to_z w64 (of_z w64 z)) whole ∙ told_in MOST_BEHIND _ brought_within (omega arith)
@@ -68,7 +68,7 @@ overflow_add-result-2 c =
     let worth = c.args.self.now.worth in
     let flight = c.args.flight in
     let r = c.requires in
-    fits_both (value +ℤ (worth *ℤ pos flight)) c.args.self.now.fixed MOST_BEHIND MOST_LEAST _ (brought_within value worth flight r.value r.worth r.flight) r.fixed (brought_told value worth flight r.value r.worth r.flight) (omega arith) (omega arith)
+    fits_both (value +ℤ (worth *ℤ pos flight)) c.args.self.now.fixed MOST_BEHIND MOST_BESIDE _ (brought_within value worth flight r.value r.worth r.flight) r.fixed (brought_told value worth flight r.value r.worth r.flight) (omega arith) (omega arith)
 
 -- the row, as it is read
 amount_is : (c : goal.After-at) (rows : OwedRows) → slice_get c.args.self.now.behind.rows.items c.args.q ≡ Some rows
@@ -96,23 +96,23 @@ row_within c =
     (amount_within (row_for (get_or all c.args.q rows) c.args.need) c.args.class (c.requires.rows c.args.q rows c.requires.pairing))
 
 -- what is brought, with what stands beside it
-there : (c : goal.After-at) → IsWithin (MOST_BEHIND + MOST_LEAST) ((c.args.value +ℤ (c.args.self.now.worth *ℤ pos c.args.flight)) +ℤ c.args.self.now.fixed)
+there : (c : goal.After-at) → IsWithin (MOST_BEHIND + MOST_BESIDE) ((c.args.value +ℤ (c.args.self.now.worth *ℤ pos c.args.flight)) +ℤ c.args.self.now.fixed)
 there c =
     let r = c.requires in
-    both_within (c.args.value +ℤ (c.args.self.now.worth *ℤ pos c.args.flight)) c.args.self.now.fixed MOST_BEHIND MOST_LEAST (brought_within c.args.value c.args.self.now.worth c.args.flight r.value r.worth r.flight) r.fixed
+    both_within (c.args.value +ℤ (c.args.self.now.worth *ℤ pos c.args.flight)) c.args.self.now.fixed MOST_BEHIND MOST_BESIDE (brought_within c.args.value c.args.self.now.worth c.args.flight r.value r.worth r.flight) r.fixed
 
 there_told : (c : goal.After-at) → to_z w64 (of_z w64 (to_z w64 (of_z w64 (to_z w64 (of_z w64 c.args.value) +ℤ to_z w64 (of_z w64 (to_z w64 (of_z w64 c.args.self.now.worth) *ℤ to_z w64 c.args.flight)))) +ℤ to_z w64 (of_z w64 c.args.self.now.fixed))) ≡ (c.args.value +ℤ (c.args.self.now.worth *ℤ pos c.args.flight)) +ℤ c.args.self.now.fixed
 there_told c =
     let r = c.requires in
-    told_both (c.args.value +ℤ (c.args.self.now.worth *ℤ pos c.args.flight)) c.args.self.now.fixed MOST_BEHIND MOST_LEAST (to_z w64 (of_z w64 (to_z w64 (of_z w64 c.args.value) +ℤ to_z w64 (of_z w64 (to_z w64 (of_z w64 c.args.self.now.worth) *ℤ to_z w64 c.args.flight))))) (brought_within c.args.value c.args.self.now.worth c.args.flight r.value r.worth r.flight) r.fixed (brought_told c.args.value c.args.self.now.worth c.args.flight r.value r.worth r.flight) (omega arith) (omega arith)
+    told_both (c.args.value +ℤ (c.args.self.now.worth *ℤ pos c.args.flight)) c.args.self.now.fixed MOST_BEHIND MOST_BESIDE (to_z w64 (of_z w64 (to_z w64 (of_z w64 c.args.value) +ℤ to_z w64 (of_z w64 (to_z w64 (of_z w64 c.args.self.now.worth) *ℤ to_z w64 c.args.flight))))) (brought_within c.args.value c.args.self.now.worth c.args.flight r.value r.worth r.flight) r.fixed (brought_told c.args.value c.args.self.now.worth c.args.flight r.value r.worth r.flight) (omega arith) (omega arith)
 
 pub overflow_add-result-3 : goal.overflow_add-result-3
 overflow_add-result-3 c =
-    fits_both ((c.args.value +ℤ (c.args.self.now.worth *ℤ pos c.args.flight)) +ℤ c.args.self.now.fixed) c.at.result (MOST_BEHIND + MOST_LEAST) MOST_BEHIND _ (there c) (row_within c) (there_told c) (omega arith) (omega arith)
+    fits_both ((c.args.value +ℤ (c.args.self.now.worth *ℤ pos c.args.flight)) +ℤ c.args.self.now.fixed) c.at.result (MOST_BEHIND + MOST_BESIDE) MOST_BEHIND _ (there c) (row_within c) (there_told c) (omega arith) (omega arith)
 
 whole_told : (c : goal.After-at) → to_z w64 (of_z w64 (to_z w64 (of_z w64 (to_z w64 (of_z w64 (to_z w64 (of_z w64 c.args.value) +ℤ to_z w64 (of_z w64 (to_z w64 (of_z w64 c.args.self.now.worth) *ℤ to_z w64 c.args.flight)))) +ℤ to_z w64 (of_z w64 c.args.self.now.fixed))) +ℤ to_z w64 (of_z w64 c.at.result))) ≡ ((c.args.value +ℤ (c.args.self.now.worth *ℤ pos c.args.flight)) +ℤ c.args.self.now.fixed) +ℤ c.at.result
 whole_told c =
-    told_both ((c.args.value +ℤ (c.args.self.now.worth *ℤ pos c.args.flight)) +ℤ c.args.self.now.fixed) c.at.result (MOST_BEHIND + MOST_LEAST) MOST_BEHIND _ (there c) (row_within c) (there_told c) (omega arith) (omega arith)
+    told_both ((c.args.value +ℤ (c.args.self.now.worth *ℤ pos c.args.flight)) +ℤ c.args.self.now.fixed) c.at.result (MOST_BEHIND + MOST_BESIDE) MOST_BEHIND _ (there c) (row_within c) (there_told c) (omega arith) (omega arith)
 
 pub returns-clause-value : goal.returns-clause-value
 returns-clause-value c rows at =
@@ -121,4 +121,4 @@ returns-clause-value c rows at =
 pub returns-clause-within : goal.returns-clause-within
 returns-clause-within c =
     subst (IsWithin MOST_SUM) (sym (whole_told c))
-    (within-more ((MOST_BEHIND + MOST_LEAST) + MOST_BEHIND) MOST_SUM _ (omega arith) (both_within ((c.args.value +ℤ (c.args.self.now.worth *ℤ pos c.args.flight)) +ℤ c.args.self.now.fixed) c.at.result (MOST_BEHIND + MOST_LEAST) MOST_BEHIND (there c) (row_within c)))
+    (within-more ((MOST_BEHIND + MOST_BESIDE) + MOST_BEHIND) MOST_SUM _ (omega arith) (both_within ((c.args.value +ℤ (c.args.self.now.worth *ℤ pos c.args.flight)) +ℤ c.args.self.now.fixed) c.at.result (MOST_BEHIND + MOST_BESIDE) MOST_BEHIND (there c) (row_within c)))
