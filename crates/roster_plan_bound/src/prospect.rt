@@ -162,12 +162,11 @@ impl<'a> Prospect<'a> {
         let mut step = step;
         for _ in 0..times {
             let (worth, toll) = self.best();
-            let less = if toll > 0 {
-                toll.wrapping_sub(step)
-            } else {
-                step / 2
-            };
-            self.add(alloc, worth, less)?;
+            let less = if toll > 0 { step } else { 0 };
+            self.add(alloc, worth.wrapping_sub(step), toll.wrapping_add(step))?;
+            self.add(alloc, worth.wrapping_add(less), toll.wrapping_sub(less))?;
+            let (worth, toll) = self.best();
+            self.add(alloc, worth, toll.wrapping_sub(step))?;
             self.add(alloc, worth, toll.wrapping_add(step))?;
             step = (step / 2).max(1);
         }
@@ -311,7 +310,7 @@ impl<'a> Prospect<'a> {
                 minutes = minutes.wrapping_add(flight_at(&self.timeline.loads, *q));
             }
         }
-        saved / (minutes.max(1).min(MOST_WORTH) as i64)
+        (saved / (minutes.max(1).min(MOST_WORTH) as i64)).max(self.weight)
     }
 
     /// Whether limits leave little flight, so that it may be worth more than the weight.
