@@ -18,3 +18,14 @@ pub(crate) fn dearness(problem: &Problem) -> i64 {
     let count = problem.pairings().len().max(1) as u64;
     (sum / count / USUAL_PENALTY).clamp(1, MOST_DEARNESS) as i64
 }
+
+/// The most units, below 0 or above, that a person has for a pairing.
+pub(crate) fn most_units(problem: &Problem) -> i64 {
+    let mut most: i64 = 0;
+    for k in 0..problem.persons().len() {
+        for p in 0..problem.pairings().len() {
+            most = most.max(problem.units(k, p).saturating_abs());
+        }
+    }
+    most
+}

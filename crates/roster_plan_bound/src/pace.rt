@@ -3,7 +3,7 @@
 use crate::parts::PARTS;
 use crate::tuning::{
     DIVE_SOFTNESS, DIVE_STEPS, DIVE_STRIDE, FEWEST_STEPS, FIRST_SOFTNESS, FIRST_STRIDE,
-    LEAST_STRIDE, MOST_LACKING, MOST_STEPS, MOST_STRIDE, SOFTEST_LATE,
+    LEAST_STRIDE, MOST_LACKING, MOST_STEPS, MOST_STRIDE, SOFTEST_LATE, STRIDES_OF_UNITS,
 };
 
 /// So much more is little, in parts of a cost unit.
@@ -46,11 +46,12 @@ impl Pace {
 
     /// The next one after a look that said so much more than the best one before, in parts of a cost unit: harder
     /// if that was little, and softer if it was more. The first looks that say much less show columns that were
-    /// lacking, so they change no softness.
-    pub(crate) fn after(self, gain: i64) -> Pace {
+    /// lacking, so they change no softness. In the month nobody has more units for a pairing, below 0 or above.
+    pub(crate) fn after(self, gain: i64, most_units: i64) -> Pace {
         let run = run_after(self.run, gain);
+        let widest = widest_stride(self.dear, most_units);
         let next = Pace {
-            stride: stride_after(self.stride, run, self.dear),
+            stride: stride_after(self.stride, run, widest),
             run,
             ..self
         };
@@ -92,20 +93,26 @@ fn run_after(run: i32, gain: i64) -> i32 {
     }
 }
 
-/// The next stride in a month so dear: wider after a look that said more, and twice so after the next ones, nearer
-/// after the second in a row that said no more.
-fn stride_after(stride: i64, run: i32, dear: i64) -> i64 {
+/// How far prices may move at most in a month so dear: further if units are many.
+fn widest_stride(dear: i64, most_units: i64) -> i64 {
+    let by_units = most_units.wrapping_mul(PARTS as i64) / STRIDES_OF_UNITS;
+    MOST_STRIDE.wrapping_mul(dear).max(by_units)
+}
+
+/// The next stride, no more than the widest: wider after a look that said more, and twice so after the next ones,
+/// nearer after the second in a row that said no more.
+fn stride_after(stride: i64, run: i32, widest: i64) -> i64 {
     match run {
-        2.. => wider(wider(stride, dear), dear),
-        1 => wider(stride, dear),
+        2.. => wider(wider(stride, widest), widest),
+        1 => wider(stride, widest),
         -1 | 0 => stride,
         _ => narrower(stride),
     }
 }
 
-/// The next stride after one that said more, in a month so dear.
-fn wider(stride: i64, dear: i64) -> i64 {
-    (stride.wrapping_mul(3) / 2).min(MOST_STRIDE.wrapping_mul(dear))
+/// The next stride after one that said more, no more than the widest.
+fn wider(stride: i64, widest: i64) -> i64 {
+    (stride.wrapping_mul(3) / 2).min(widest)
 }
 
 /// The next stride after one that said no more.

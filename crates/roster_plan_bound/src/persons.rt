@@ -40,6 +40,15 @@ pub(crate) fn unseen(alloc: Global, count: usize, dear: i64) -> Result<Vec<Seen>
     Ok(seen)
 }
 
+/// Each label is judged at the next look.
+pub(crate) fn judge_labels(seen: &mut [Seen])
+    ensures { length seen.new ≡ length seen.old }
+{
+    for i in 0..seen.len() {
+        seen[i].columns.hints.is_strict = true;
+    }
+}
+
 /// Looks at each of these persons, whom the team shares, at the prices. It comes to the same for any number of
 /// threads, since nobody's look asks what another one's said.
 pub(crate) fn look_at_all<R: Threads + Sync>(

@@ -9,19 +9,19 @@ ghost use Rattle.roster_plan_bound.specs.Looks.{IsLook};
 ghost use Rattle.roster_plan_bound.specs.Reduced.{ArePrices};
 
 use crate::covered::covered_of;
-use crate::dearness::dearness;
+use crate::dearness::{dearness, most_units};
 use crate::dive::{Dive, DivePlan, whole};
 use crate::gap::lines_of_gap;
 use crate::lists::is_marked;
 use crate::master::ascend;
 use crate::pace::Pace;
 use crate::parts::PARTS;
-use crate::persons::{Seen, check, renew_all, unseen};
+use crate::persons::{Seen, check, judge_labels, renew_all, unseen};
 use crate::prices::{limited, no_prices};
 use crate::pricing::{Priced, Pricing};
-use crate::start::{penalty_prices, start_prices};
+use crate::start::{scarce_prices, start_prices};
 use crate::team::Team;
-use crate::tuning::{MOST_IDLE, MOST_TRUST, MOST_VISITS, VISITS_A_LOOK};
+use crate::tuning::{MOST_IDLE, MOST_TRUST, MOST_VISITS, OPEN_PARTS, VISITS_A_LOOK};
 use roster_bases::persons_of;
 use roster_lines::TableFault;
 use roster_lines_table::Table;
@@ -69,8 +69,8 @@ impl<'a> Model for PricedBound<'a> {
 }
 
 impl<'a> PricedBound<'a> {
-    /// What no prices at all say of the base at this place, or the first prices, if these say more: also those of
-    /// penalties if likely many pairings stay open. The team shares its persons.
+    /// What no prices at all say of the base at this place, or the first prices, if these say more: also such at which
+    /// parts of all flight stay open, if likely many pairings do. The team shares its persons.
     pub fn new<R: Threads + Sync>(
         team: &Team<'_, R>,
         pricing: &'a Pricing<'a>,
@@ -83,7 +83,7 @@ impl<'a> PricedBound<'a> {
     {
         let mut bound = PricedBound::unpriced(team, pricing, base)?;
         if is_open {
-            bound.look_at_penalties(team)?;
+            bound.look_at_scarce(team)?;
         }
         bound.look_first(team)?;
         bound.show(team, VISITS_A_LOOK)?;
@@ -260,16 +260,31 @@ impl<'a> PricedBound<'a> {
         })
     }
 
-    /// Finds columns at the penalties, and at a half of each.
-    fn look_at_penalties<R: Threads + Sync>(&mut self, team: &Team<'_, R>) -> Result<(), AllocError>
+    /// Finds columns at prices at which parts of all flight stay open. Cheap labels likely break a limit then.
+    fn look_at_scarce<R: Threads + Sync>(&mut self, team: &Team<'_, R>) -> Result<(), AllocError>
         requires { 0 < team.now.threads }
         ensures { self.new ≡ self.old }
     {
-        let problem = self.pricing.problem();
-        self.look_at(team, &penalty_prices(team.alloc, problem, 1)?)?;
-        self.look_at(team, &penalty_prices(team.alloc, problem, 2)?)?;
+        judge_labels(&mut self.seen);
+        self.look_at_part(team, OPEN_PARTS[0])?;
+        self.look_at_part(team, OPEN_PARTS[1])?;
+        self.look_at_part(team, OPEN_PARTS[2])?;
+        self.look_at_part(team, OPEN_PARTS[3])?;
         self.pace = Pace::first(self.pace.dear);
         Ok(())
+    }
+
+    /// Finds columns at prices at which so large a part of all flight stays open.
+    fn look_at_part<R: Threads + Sync>(
+        &mut self,
+        team: &Team<'_, R>,
+        part: u64,
+    ) -> Result<(), AllocError>
+        requires { 0 < team.now.threads }
+        ensures { self.new ≡ self.old }
+    {
+        let wanted = scarce_prices(team.alloc, self.pricing, self.base, &self.persons, part)?;
+        self.look_at(team, &wanted)
     }
 
     /// Finds columns at the first prices.
@@ -319,7 +334,7 @@ impl<'a> PricedBound<'a> {
         self.claim_again(team.alloc)?;
         let claim = self.pricing.claim(self.base, &prices, &self.seen);
         let gain = claim.saturating_sub(self.claim);
-        self.pace = self.pace.after(gain);
+        self.pace = self.pace.after(gain, most_units(self.pricing.problem()));
         self.idle = if gain.unsigned_abs() >= PARTS {
             0
         } else {

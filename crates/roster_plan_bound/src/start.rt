@@ -29,19 +29,64 @@ pub(crate) fn start_prices(
     Ok(prices)
 }
 
-/// The penalty of each pairing, divided by so much, in parts of a cost unit: about what it saves that it is flown if
-/// the crew can't fly all.
-pub(crate) fn penalty_prices(
+/// What the flight of each pairing is worth if so large a part of all flight stays open: that whose penalties are the
+/// least by the minute. No price is more than the penalty.
+pub(crate) fn scarce_prices(
     alloc: Global,
-    problem: &Problem,
-    divisor: i64,
+    pricing: &Pricing<'_>,
+    base: usize,
+    persons: &[usize],
+    part: u64,
 ) -> Result<Vec<i64>, AllocError> {
+    let problem = pricing.problem();
+    let flights = flights_of(alloc, pricing, base, persons)?;
+    let worth = worth_of_open(alloc, problem, &flights, part)?;
     let mut prices = Vec::new(alloc);
-    for pairing in problem.pairings() {
+    for (pairing, flight) in problem.pairings().iter().zip(flights.iter()) {
         let penalty = i64::from(pairing.penalty).wrapping_mul(PARTS as i64);
-        prices.push(penalty / divisor.max(1))?;
+        prices.push(
+            worth
+                .saturating_mul((*flight).min(MOST_PLAN_PRICE) as i64)
+                .min(penalty),
+        )?;
     }
     Ok(prices)
+}
+
+/// What a minute of a pairing's flight costs if it stays open, and how many minutes it has.
+#[derive(Clone, Copy, PartialEq, Eq, PartialOrd, Ord)]
+struct Open {
+    by_minute: i64,
+    minutes: u64,
+}
+
+/// What a minute of flight costs at least where it doesn't stay open, if so large a part of all does.
+fn worth_of_open(
+    alloc: Global,
+    problem: &Problem,
+    flights: &[u64],
+    part: u64,
+) -> Result<i64, AllocError> {
+    let mut all = Vec::new(alloc);
+    for (pairing, flight) in problem.pairings().iter().zip(flights.iter()) {
+        if *flight > 0 {
+            let penalty = i64::from(pairing.penalty).wrapping_mul(PARTS as i64);
+            all.push(Open {
+                by_minute: penalty / ((*flight).min(MOST_PLAN_PRICE).max(1) as i64),
+                minutes: *flight,
+            })?;
+        }
+    }
+    all.sort_unstable();
+    let most = sum_of(flights) / part.max(1);
+    let mut minutes: u64 = 0;
+    for open in &all {
+        minutes = minutes.saturating_add(open.minutes);
+        if minutes > most {
+            return Ok(open.by_minute);
+        }
+    }
+    Ok(0)
 }
 
 /// What so many minutes of flight are worth, in parts of a cost unit.

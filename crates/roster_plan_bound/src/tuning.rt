@@ -61,6 +61,9 @@ pub(crate) const LEAST_STRIDE: i64 = 3 * 64;
 
 pub(crate) const MOST_STRIDE: i64 = 600 * 64;
 
+/// At most so far too: one of so many parts of the most units, below 0 or above, that anybody's pairing has.
+pub(crate) const STRIDES_OF_UNITS: i64 = 8;
+
 /// So many looks in a row that say much less leave softness as it is.
 pub(crate) const MOST_LACKING: i32 = 2;
 
@@ -72,6 +75,9 @@ pub(crate) const MOST_IDLE: u32 = 12;
 pub(crate) const VISITS_A_LOOK: u32 = 4_000;
 
 pub(crate) const MOST_VISITS: u32 = 100_000;
+
+/// If the crew likely can't fly all: at the first prices one of so many parts of all flight stays open.
+pub(crate) const OPEN_PARTS: [u64; 4] = [2, 4, 8, 16];
 
 /// How many looks there are at most before what they claim is shown.
 pub(crate) const MOST_TRUST: u32 = 16;
