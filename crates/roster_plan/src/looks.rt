@@ -14,6 +14,12 @@ const FEWEST_LOOKS: u32 = 8;
 
 const LOOKS_AN_EFFORT: u32 = 12;
 
+/// There are more if they are cheap: as many as take one of so many parts of the time that there is for pairs, but no
+/// more than so many.
+const PART_FOR_CHEAP: u64 = 8;
+
+const MOST_LOOKS: u64 = 1000;
+
 /// How many threads share the bases, and how many the persons of each: all workers the one or the other,
 /// whichever looks sooner at the persons of all bases that aren't done.
 pub(crate) fn shares(workers: usize, gaps: &[Gap<'_>]) -> (usize, usize)
@@ -42,7 +48,7 @@ pub(crate) fn shares(workers: usize, gaps: &[Gap<'_>]) -> (usize, usize)
 }
 
 /// How often an effort and those before it look at the prices of each base that isn't settled: more often the greater
-/// it is, if there is time for so many pairs.
+/// it is, if there is time for so many pairs, and more often still if a look goes through few.
 pub(crate) fn looks_of(problem: &Problem, parts: &[BasePlan], means: &Means) -> u32 {
     let effort = if means.effort < MOST_EFFORT {
         means.effort
@@ -51,7 +57,8 @@ pub(crate) fn looks_of(problem: &Problem, parts: &[BasePlan], means: &Means) -> 
     };
     let looks = FEWEST_LOOKS + LOOKS_AN_EFFORT * effort;
     let in_time = means.pairs() / pairs_of(problem, parts).max(1);
-    in_time.min(u64::from(looks)) as u32
+    let cheap = (in_time / PART_FOR_CHEAP).min(MOST_LOOKS);
+    in_time.min(cheap.max(u64::from(looks))) as u32
 }
 
 /// How many pairs a look goes through: each person of those bases, with each pairing of the same base.
