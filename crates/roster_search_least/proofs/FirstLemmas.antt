@@ -1,5 +1,5 @@
 -- The first of a given roster and those of a region that cost as little, one pairing after another.
-use Rattle.std.proofs.Common.{◌≡◌, ℕ, ◌+◌, ◌<◌, ◌≤◌, true, List, length, take, get_or, Some, ◌≤ℤ◌, refl, sym, ap, ◌∙◌, subst, ◌⊎◌, inl, inr, arith}
+use Rattle.std.proofs.Common.{◌≡◌, ℕ, ◌<◌, ◌≤◌, true, List, length, take, get_or, Some, ◌≤ℤ◌, refl, sym, ap, ◌∙◌, subst, ◌⊎◌, inl, inr, arith}
 use Rattle.std.proofs.lemmas.Bool.{cases_lt}
 use Rattle.std.proofs.lemmas.Int.{ints, by_lt_z}
 use Rattle.std.proofs.lemmas.List.{take_all}
@@ -8,7 +8,7 @@ use Rattle.roster_model.specs.Costs.{cost_of}
 use Rattle.roster_model.specs.Problem.{Problem}
 use Rattle.roster_model.specs.Places.{places_le}
 use Rattle.roster_model.specs.Rosters.{Key, key_le, key_of}
-use Rattle.roster_model.specs.Settled.{CostsMore, IsHeld, IsWithinCost, Settles}
+use Rattle.roster_model.specs.Settled.{IsHeld, IsWithinCost, Settles}
 use Rattle.roster_search_least.proofs.Keys.{by_cost, by_places}
 use Rattle.roster_model.proofs.PlacesOrder.{places_le-refl, places_le-trans}
 use Rattle.roster_search_regions.specs.Regions.{Has, IsIn, IsNarrowed, IsRegion, IsWhollyIn, Region}
@@ -29,14 +29,6 @@ pub record AreTried (problem : Problem) (p x : ℕ) (old now : Region) (key : Ke
   pub none : (others : List ℕ) (j : ℕ) → IsIn problem now others → cost_of problem others ≤ℤ key.cost → j < x
       → ¬ Has j p others
 
--- the number that the roster has there
-pub number_at : (problem : Problem) (p : ℕ) (region : Region) (key : Key) (places : List ℕ)
-    → AgreeBefore problem p region key → p < length problem.pairings → places ≡ key.places
-    → Has (get_or places p 0) p key.places
-number_at problem p region key places agree inside same =
-    let long : p < length key.places = omega (arith, agree.legal.covers) in
-    slice_get-get_or key.places p 0 long ∙ ap (λ xs. Some (get_or xs p 0)) (sym same)
-
 pub tried_none : (problem : Problem) (p : ℕ) (region : Region) (key : Key) → AgreeBefore problem p region key
     → AreTried problem p 0 region region key
 tried_none problem p region key agree = record {
@@ -45,33 +37,6 @@ tried_none problem p region key agree = record {
   kept = λ others here cheap. here;
   none = λ others j here cheap less. absurd (omega arith);
 }
-
--- one more, whom no cheap roster has there
-pub tried_one_more : (problem : Problem) (p x : ℕ) (old now new : Region) (key : Key)
-    → AreTried problem p x old now key
-    → CostsMore problem (λ places. IsIn problem now places × Has x p places) key.cost
-    → IsNarrowed problem (λ places. ¬ Has x p places) now new → AreTried problem p (x + 1) old new key
-tried_one_more problem p x old now new key tried none narrowed =
-    let not_here : (others : List ℕ) → IsIn problem now others → cost_of problem others ≤ℤ key.cost
-    → ¬ Has x p others =
-    λ others here cheap has.
-    let more = none others here.legal (here, has) in
-    absurd (omega (arith, ints)) in
-    record {
-      is_region = narrowed.region;
-      inside = λ others here. tried.inside others (narrowed.inside others here);
-      kept = λ others here cheap.
-          let still = tried.kept others here cheap in
-          narrowed.kept others still (not_here others still cheap);
-      none = λ others j here cheap below.
-          let before = narrowed.inside others here in
-          elim (cases_lt j x) [
-            | inl earlier ↦ tried.none others j before cheap earlier
-            | inr on ↦
-                let same : x ≡ j = omega arith in
-                subst (λ n. ¬ Has n p others) same (not_here others before cheap)
-          ];
-    }
 
 -- ---- the place is settled
 

@@ -6,4 +6,5 @@ pub mod LeastParts
 pub mod Limits
 pub mod RangeParts
 pub mod BoxLemmas
+pub mod EarlierLemmas
 pub mod FindLemmas

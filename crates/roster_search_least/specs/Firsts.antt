@@ -1,11 +1,12 @@
 -- How the first of a given roster and those of a region that cost as little is found, one pairing after
 -- another.
-use Rattle.std.specs.Prelude.{◌≡◌, ℕ, ◌+◌, true, List, take, ◌≤ℤ◌, ◌⊎◌}
+use Rattle.std.specs.Prelude.{◌≡◌, ℕ, ◌+◌, ◌<◌, true, List, Option, None, Some, take, ◌≤ℤ◌, ◌⊎◌}
 use Rattle.roster_model.specs.Costs.{cost_of}
 use Rattle.roster_model.specs.Problem.{Problem}
 use Rattle.roster_model.specs.Places.{places_le}
 use Rattle.roster_model.specs.Rosters.{IsLegalRoster, Key}
-use Rattle.roster_search_regions.specs.Regions.{IsIn, IsRegion, Region}
+use Rattle.roster_model.specs.Settled.{IsWithinCost}
+use Rattle.roster_search_regions.specs.Regions.{Has, IsIn, IsRegion, Region}
 
 -- the roster is legal, and each in the region has the same numbers before place p
 pub record AgreeBefore (problem : Problem) (p : ℕ) (region : Region) (key : Key) : Type 0 where
@@ -31,3 +32,19 @@ pub record IsSettledAt (problem : Problem) (p : ℕ) (old : Region) (before : Ke
     (after : Key) : Type 0 where
   pub agree : AgreeBefore problem (p + 1) new after
   pub on : GoesOn problem old before new after
+
+-- at place p the places have a number before that one
+abbrev pub HasEarlier : ℕ → ℕ → List ℕ → Type 0
+HasEarlier number p places = (j : ℕ) × (j < number) × Has j p places
+
+-- the roster has a later number at the place
+abbrev pub HasLater : ℕ → ℕ → List ℕ → Type 0
+HasLater number p places = (n : ℕ) × (number < n) × Has n p places
+
+-- The roster has that number at the place; or another one of the region, which costs no more and was found, and the
+-- roster has a later one.
+abbrev pub IsFoundAt : Problem → ℕ → ℕ → Region → Key → Option Key → Type 0
+IsFoundAt problem p number region key None = Has number p key.places
+IsFoundAt problem p number region key (Some found) =
+    IsWithinCost problem (IsIn problem region) key.cost found × Has number p found.places
+    × HasLater number p key.places

@@ -33,3 +33,6 @@ returns-clause-least g c =
 
 pub cheapest_from-requires-clause-least : goal.cheapest_from-requires-clause-least
 cheapest_from-requires-clause-least g c = λ others legal _. c.costs_fit.ensures.low others legal
+
+pub returns-in_err-known-clause-goes_on : goal.returns-in_err-known-clause-goes_on
+returns-in_err-known-clause-goes_on g c = g.met.F.Finder.stays _
