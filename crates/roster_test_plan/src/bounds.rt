@@ -1,0 +1,115 @@
+//! Bounds of plans by prices.
+
+use roster_lines::all_pairs;
+use roster_plan_bound::{PricedBound, Pricing, Team};
+use roster_test_books::problem_of;
+use std::test::Fail;
+
+/// A person whose target asks for ten hours of flight on each second of 27 days, where two pairings have that, or ten
+/// minutes less. In 28 days a hundred hours may be flown.
+const LONG_DAYS: &[u8] = b"period,2024-03
+base,BAS,UTC0
+weight,1
+crew,A,BAS,8400,0,0
+pairing,P1,BAS,0
+duty,Q1,P,P1,BAS,2024-03-01T09:00Z,2024-03-01T20:00Z
+sector,Q1,O,2024-03-01T09:30Z,2024-03-01T19:30Z
+pairing,P2,BAS,0
+duty,Q2,P,P2,BAS,2024-03-01T09:00Z,2024-03-01T20:00Z
+sector,Q2,O,2024-03-01T09:30Z,2024-03-01T19:20Z
+pairing,P3,BAS,0
+duty,Q3,P,P3,BAS,2024-03-03T09:00Z,2024-03-03T20:00Z
+sector,Q3,O,2024-03-03T09:30Z,2024-03-03T19:30Z
+pairing,P4,BAS,0
+duty,Q4,P,P4,BAS,2024-03-03T09:00Z,2024-03-03T20:00Z
+sector,Q4,O,2024-03-03T09:30Z,2024-03-03T19:20Z
+pairing,P5,BAS,0
+duty,Q5,P,P5,BAS,2024-03-05T09:00Z,2024-03-05T20:00Z
+sector,Q5,O,2024-03-05T09:30Z,2024-03-05T19:30Z
+pairing,P6,BAS,0
+duty,Q6,P,P6,BAS,2024-03-05T09:00Z,2024-03-05T20:00Z
+sector,Q6,O,2024-03-05T09:30Z,2024-03-05T19:20Z
+pairing,P7,BAS,0
+duty,Q7,P,P7,BAS,2024-03-07T09:00Z,2024-03-07T20:00Z
+sector,Q7,O,2024-03-07T09:30Z,2024-03-07T19:30Z
+pairing,P8,BAS,0
+duty,Q8,P,P8,BAS,2024-03-07T09:00Z,2024-03-07T20:00Z
+sector,Q8,O,2024-03-07T09:30Z,2024-03-07T19:20Z
+pairing,P9,BAS,0
+duty,Q9,P,P9,BAS,2024-03-09T09:00Z,2024-03-09T20:00Z
+sector,Q9,O,2024-03-09T09:30Z,2024-03-09T19:30Z
+pairing,P10,BAS,0
+duty,Q10,P,P10,BAS,2024-03-09T09:00Z,2024-03-09T20:00Z
+sector,Q10,O,2024-03-09T09:30Z,2024-03-09T19:20Z
+pairing,P11,BAS,0
+duty,Q11,P,P11,BAS,2024-03-11T09:00Z,2024-03-11T20:00Z
+sector,Q11,O,2024-03-11T09:30Z,2024-03-11T19:30Z
+pairing,P12,BAS,0
+duty,Q12,P,P12,BAS,2024-03-11T09:00Z,2024-03-11T20:00Z
+sector,Q12,O,2024-03-11T09:30Z,2024-03-11T19:20Z
+pairing,P13,BAS,0
+duty,Q13,P,P13,BAS,2024-03-13T09:00Z,2024-03-13T20:00Z
+sector,Q13,O,2024-03-13T09:30Z,2024-03-13T19:30Z
+pairing,P14,BAS,0
+duty,Q14,P,P14,BAS,2024-03-13T09:00Z,2024-03-13T20:00Z
+sector,Q14,O,2024-03-13T09:30Z,2024-03-13T19:20Z
+pairing,P15,BAS,0
+duty,Q15,P,P15,BAS,2024-03-15T09:00Z,2024-03-15T20:00Z
+sector,Q15,O,2024-03-15T09:30Z,2024-03-15T19:30Z
+pairing,P16,BAS,0
+duty,Q16,P,P16,BAS,2024-03-15T09:00Z,2024-03-15T20:00Z
+sector,Q16,O,2024-03-15T09:30Z,2024-03-15T19:20Z
+pairing,P17,BAS,0
+duty,Q17,P,P17,BAS,2024-03-17T09:00Z,2024-03-17T20:00Z
+sector,Q17,O,2024-03-17T09:30Z,2024-03-17T19:30Z
+pairing,P18,BAS,0
+duty,Q18,P,P18,BAS,2024-03-17T09:00Z,2024-03-17T20:00Z
+sector,Q18,O,2024-03-17T09:30Z,2024-03-17T19:20Z
+pairing,P19,BAS,0
+duty,Q19,P,P19,BAS,2024-03-19T09:00Z,2024-03-19T20:00Z
+sector,Q19,O,2024-03-19T09:30Z,2024-03-19T19:30Z
+pairing,P20,BAS,0
+duty,Q20,P,P20,BAS,2024-03-19T09:00Z,2024-03-19T20:00Z
+sector,Q20,O,2024-03-19T09:30Z,2024-03-19T19:20Z
+pairing,P21,BAS,0
+duty,Q21,P,P21,BAS,2024-03-21T09:00Z,2024-03-21T20:00Z
+sector,Q21,O,2024-03-21T09:30Z,2024-03-21T19:30Z
+pairing,P22,BAS,0
+duty,Q22,P,P22,BAS,2024-03-21T09:00Z,2024-03-21T20:00Z
+sector,Q22,O,2024-03-21T09:30Z,2024-03-21T19:20Z
+pairing,P23,BAS,0
+duty,Q23,P,P23,BAS,2024-03-23T09:00Z,2024-03-23T20:00Z
+sector,Q23,O,2024-03-23T09:30Z,2024-03-23T19:30Z
+pairing,P24,BAS,0
+duty,Q24,P,P24,BAS,2024-03-23T09:00Z,2024-03-23T20:00Z
+sector,Q24,O,2024-03-23T09:30Z,2024-03-23T19:20Z
+pairing,P25,BAS,0
+duty,Q25,P,P25,BAS,2024-03-25T09:00Z,2024-03-25T20:00Z
+sector,Q25,O,2024-03-25T09:30Z,2024-03-25T19:30Z
+pairing,P26,BAS,0
+duty,Q26,P,P26,BAS,2024-03-25T09:00Z,2024-03-25T20:00Z
+sector,Q26,O,2024-03-25T09:30Z,2024-03-25T19:20Z
+pairing,P27,BAS,0
+duty,Q27,P,P27,BAS,2024-03-27T09:00Z,2024-03-27T20:00Z
+sector,Q27,O,2024-03-27T09:30Z,2024-03-27T19:30Z
+pairing,P28,BAS,0
+duty,Q28,P,P28,BAS,2024-03-27T09:00Z,2024-03-27T20:00Z
+sector,Q28,O,2024-03-27T09:30Z,2024-03-27T19:20Z
+";
+
+#[test]
+fn a_bound_knows_what_may_be_flown_in_28_days(rt: HostRuntime) -> Result<(), Fail> {
+    let alloc = rt.alloc();
+    let problem = problem_of(alloc, LONG_DAYS).or(Err("a book"))?;
+    let pairs = all_pairs(&rt, alloc, &problem, 1)?;
+    let pricing = Pricing::new(alloc, &problem, &pairs)?;
+    let team = Team {
+        rt: &rt,
+        alloc,
+        threads: 1,
+    };
+    let mut bound = PricedBound::new(&team, &pricing, 0, false)?;
+    bound.raise(&team, i64::MAX, 8)?;
+    assert!(rt; bound.bound() == 8400 - 6000);
+    Ok(())
+}
