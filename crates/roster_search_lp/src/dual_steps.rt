@@ -5,8 +5,8 @@ use crate::fixed::{WHOLE, part_of, times};
 use crate::inverse::{entry, is_less, number_at};
 use crate::simplex::{Simplex, place_at};
 use crate::tuning::{
-    FORBIDDEN_FACTOR, LEAST_DUAL_PIVOT, LEAST_WRONG, MOST_FAR, MOST_PIVOTS_KEPT, MOST_TURNS,
-    MOST_WEIGHT, ONE_WEIGHT,
+    FORBIDDEN_FACTOR, LEAST_DUAL_PIVOT, LEAST_USED, LEAST_WRONG, MOST_FAR, MOST_PIVOTS_KEPT,
+    MOST_TURNS, MOST_WEIGHT, ONE_WEIGHT,
 };
 use std::alloc::{AllocError, Global};
 
@@ -152,7 +152,7 @@ impl Simplex {
             if self.value() > self.dual.limit {
                 return Ok(Driven::Dear);
             }
-            if !self.drive_out(wrong)? {
+            if !self.drive_out(wrong)? && !self.excuse(wrong) {
                 self.lean(wrong);
                 return Ok(Driven::Dear);
             }
@@ -196,6 +196,17 @@ impl Simplex {
             self.inverse.move_duals(reduced, &mut self.duals);
         }
         Ok(true)
+    }
+
+    // Has nothing used of the row's column, if that is as little as the sides of rows differ by chance. Then the same
+    // columns fill several rows, which can't all have a little more than a whole. False if it is much.
+    fn excuse(&mut self, wrong: Wrong) -> bool {
+        let amount = self.inverse.amount(wrong.row);
+        if amount.unsigned_abs() > LEAST_USED.unsigned_abs() {
+            return false;
+        }
+        self.inverse.add_amount(wrong.row, amount.wrapping_neg());
+        true
     }
 
     // The column that takes the place of the one of a row, if there is one: with it the duals move least.

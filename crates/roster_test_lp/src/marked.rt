@@ -32,7 +32,6 @@ fn compare(
     let mut chance = Chance(seed);
     let mut possible: usize = 0;
     let mut impossible: usize = 0;
-    let mut missed: usize = 0;
     for _ in 0..programs {
         let program = made(alloc, &mut chance, shape)?;
         let mut master = program.master(alloc)?;
@@ -43,9 +42,7 @@ fn compare(
             solve_dearly(&mut master)?;
             let least = program.least(alloc, &marks, FORBIDDEN)?;
             if least.numerator < i128::from(FORBIDDEN / 2) {
-                if !is_near(master.value(), least, program.rows()) {
-                    missed = missed.saturating_add(1);
-                }
+                assert!(rt; is_near(master.value(), least, program.rows()));
                 assert!(rt; !master.uses_forbidden());
                 possible = possible.saturating_add(1);
             } else {
@@ -56,8 +53,6 @@ fn compare(
             }
         }
     }
-    // A few end with other prices than the best ones. No answer depends on prices.
-    assert!(rt; missed.saturating_mul(100) <= possible);
     // Both kinds came.
     assert!(rt; possible > programs / 4);
     assert!(rt; impossible > programs / 4);
