@@ -14,6 +14,7 @@
 //! - `stop`: who is told of the nodes of a search, and may end it
 //! - `visiting`: what is still to be searched, and what comes of it
 //! - `parting`: what a region is parted by, and its two sides
+//! - `room`: what rosters of a region may cost
 //! - `refining`: a region made smaller by good prices
 //! - `rising`: a region made smaller by prices that rise
 //! - `tuning`: the numbers that decide how long a search takes
@@ -27,6 +28,7 @@ mod parting;
 mod parts;
 mod refining;
 mod rising;
+mod room;
 mod root;
 mod stop;
 mod tuning;

@@ -8,7 +8,7 @@ ghost use Rattle.roster_search_fixing.specs.Bounds.{CostsAtMost};
 ghost use Rattle.roster_search.specs.Refined.{IsFixed, IsRefined};
 
 use crate::rising::risen;
-use crate::root::room;
+use crate::room::room;
 use crate::tuning::MOST_SOLUTIONS;
 use roster_problem::Problem;
 use roster_search_fixing::tighten;

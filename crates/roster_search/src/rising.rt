@@ -6,7 +6,7 @@ ghost use Rattle.roster_search_regions.specs.Regions.{IsIn, IsRegion};
 ghost use Rattle.roster_search.specs.Refined.{IsFixed, IsRefined};
 
 use crate::refining::{Refined, cheap};
-use crate::root::room;
+use crate::room::room;
 use crate::tuning::{FIRST_ROUNDING, MANY_LINES, NODE_STEPS};
 use roster_problem::Problem;
 use roster_search_fixing::tighten;

@@ -4,6 +4,7 @@ ghost use Rattle.std.specs.Prelude.{◌≡◌, ◌<◌, IfOk, IsTrue, OnOk, leng
 ghost use Rattle.roster_search_regions.specs.Regions.{IsRegion};
 
 use crate::refining::left_in;
+use crate::room::{likely, room};
 use crate::tuning::{
     FEW_LINES_TO_FIX, FEW_ROWS, MOST_SOLUTIONS, ROOT_STEPS, STEPS_A_ROUNDING, STEPS_OF_FEW_ROWS,
     STEPS_OF_MANY_ROWS,
@@ -382,20 +383,4 @@ fn steps_before(relaxation: &Relaxation) -> usize {
     } else {
         STEPS_OF_FEW_ROWS
     }
-}
-
-/// What a roster may cost that costs at most so much, in parts of a cost unit and without what empty
-/// lines cost. Nothing rests on it.
-pub(crate) fn room(region: &Region, most: i64) -> i64 {
-    most.saturating_sub(region.idle())
-        .saturating_mul(i64::from(region.scale()))
-}
-
-/// The least cost that isn't below a bound.
-fn likely(region: &Region, bound: i64) -> i64 {
-    let scale = i64::from(region.scale()).max(1);
-    region
-        .idle()
-        .saturating_add(bound / scale)
-        .saturating_add(i64::from(bound % scale > 0))
 }
