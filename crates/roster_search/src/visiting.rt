@@ -8,11 +8,12 @@ ghost use Rattle.roster_search.specs.Open.{IsVisited};
 
 use crate::parting::{first_side, keep_other_side, next_branch};
 use crate::refining::{Refined, refine};
+use crate::room::room;
 use roster_cost::roster_cost;
 use roster_problem::Problem;
 use roster_search_fixing::cost_at_most;
-use roster_search_regions::{DualPrices, Region, Split};
-use roster_search_relaxation::Relaxation;
+use roster_search_regions::{DualPrices, Region};
+use roster_search_relaxation::{Relaxation, Side};
 use roster_values::{Places, Roster};
 use std::alloc::{AllocError, Global};
 use std::marker::Model;
@@ -23,6 +24,8 @@ use std::marker::Model;
 pub struct OpenNode {
     region: Region,
     prices: DualPrices,
+    // The side of a branch that it is, if it wasn't visited yet.
+    side: Option<Side>,
 }
 
 impl Model for OpenNode {
@@ -38,7 +41,22 @@ impl OpenNode {
     pub fn new(region: Region, prices: DualPrices) -> OpenNode
         ensures { result ≡ region }
     {
-        OpenNode { region, prices }
+        OpenNode {
+            region,
+            prices,
+            side: None,
+        }
+    }
+
+    /// A side of a branch.
+    fn of_side(region: Region, prices: DualPrices, side: Side) -> OpenNode
+        ensures { result ≡ region }
+    {
+        OpenNode {
+            region,
+            prices,
+            side: Some(side),
+        }
     }
 
     /// How many lines are left in the region.
@@ -93,8 +111,17 @@ fn visit_at(
     let OpenNode {
         mut region,
         mut prices,
+        side,
     } = node;
-    match refine(alloc, problem, &mut region, &mut prices, relaxation, most)? {
+    let refined = refine(alloc, problem, &mut region, &mut prices, relaxation, most)?;
+    if let Some(side) = side {
+        let bound = match &refined {
+            Refined::Nothing => room(&region, most),
+            _ => relaxation.bound(),
+        };
+        relaxation.learn(side, bound);
+    }
+    match refined {
         Refined::Nothing => Ok(Visited::Nothing),
         Refined::Found(roster) => {
             let node = OpenNode::new(region, prices);
@@ -124,9 +151,18 @@ fn part(
             None => Visited::Nothing,
         });
     };
-    let first = first_node(alloc, problem, &region, &prices, branch)?;
+    let side = Side {
+        branch,
+        is_first: true,
+        bound: relaxation.bound(),
+    };
+    let first = first_node(alloc, problem, &region, &prices, side)?;
     keep_other_side(alloc, problem, &mut region, branch)?;
-    Ok(Visited::Parted(first, OpenNode::new(region, prices)))
+    let other = Side {
+        is_first: false,
+        ..side
+    };
+    Ok(Visited::Parted(first, OpenNode::of_side(region, prices, other)))
 }
 
 /// The rosters of the region on the first side of a branch.
@@ -135,15 +171,15 @@ fn first_node(
     problem: &Problem,
     region: &Region,
     prices: &DualPrices,
-    branch: Split,
+    side: Side,
 ) -> Result<OpenNode, AllocError>
     requires region { IsRegion problem.now region.now }
-    requires branch { IsBranch problem.now region.now branch }
-    ensures narrowed { IfOk result (IsNarrowed problem.now (IsOnFirst problem.now branch) region.now) }
+    requires branch { IsBranch problem.now region.now side.branch }
+    ensures narrowed { IfOk result (IsNarrowed problem.now (IsOnFirst problem.now side.branch) region.now) }
     ensures fewer { IfOk result (λ node. size_of node < size_of region.now) }
 {
-    let first = first_side(alloc, problem, region, branch)?;
-    Ok(OpenNode::new(first, prices.copy(alloc)?))
+    let first = first_side(alloc, problem, region, side.branch)?;
+    Ok(OpenNode::of_side(first, prices.copy(alloc)?, side))
 }
 
 /// The only roster of a region in which all is decided, if there is one and it costs at most so much.

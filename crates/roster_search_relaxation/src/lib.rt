@@ -8,11 +8,13 @@
 //! - `beginning`: the lines that it begins with, and a part of the region that it goes on with
 //! - `ending`: when it is solved no more
 //! - `relaxing`: what several threads do for it, and what it says of shares
+//! - `gains`: what branches brought so far
 //! - `shares`: which choice of a person to settle next, by its shares
 #![tactic(auto)]
 
 mod beginning;
 mod ending;
+mod gains;
 mod program_rows;
 mod relaxation;
 mod relaxing;
@@ -20,5 +22,6 @@ mod seeking;
 mod shares;
 mod tuning;
 
+pub use gains::Side;
 pub use relaxation::Relaxation;
 pub use shares::branch_by_shares;

@@ -4,6 +4,7 @@ ghost use Rattle.roster_search_regions.specs.Prices.{ArePrices, IsPrice};
 ghost use Rattle.roster_search_regions.specs.Regions.{IsRegion};
 
 use crate::ending::{grain_in_word, grain_of};
+use crate::gains::Gains;
 use crate::program_rows::{NO_ROW, apart_from, pairings_of, penalties_of, persons_in, rows_of};
 use crate::seeking::{Seeker, Sought};
 use crate::tuning::{LINES_A_PERSON, MOST_ROWS, NEW_PART_OF_GRAIN};
@@ -44,6 +45,8 @@ pub struct Relaxation {
     pub(crate) allowed: Vec<Allowed>,
     pub(crate) limits: Vec<i64>,
     pub(crate) seekers: Vec<Seeker>,
+    // What branches on persons and pairings with rows brought.
+    pub(crate) gains: Gains,
 }
 
 impl Relaxation {
@@ -74,6 +77,7 @@ impl Relaxation {
         Ok(Relaxation {
             master: Master::new(alloc, &idle, &penalties, grain_in_word(region))?,
             rows: rows_of(alloc, problem, &pairings)?,
+            gains: Gains::new(alloc, persons.len().saturating_mul(pairings.len()))?,
             apart: apart_from(problem, region, &penalties),
             persons,
             pairings,
@@ -110,6 +114,7 @@ impl Relaxation {
             allowed: Vec::new(alloc),
             limits: Vec::new(alloc),
             seekers,
+            gains: self.gains.copy()?,
         })
     }
 

@@ -5,8 +5,8 @@ ghost use Rattle.roster_search_regions.specs.Regions.{IsRegion};
 
 use crate::relaxation::Relaxation;
 use crate::tuning::{
-    BEST_SHARE_OF_LINES, LEAST_PART_OPEN, LEAST_SHARE, MOST_PART_OPEN, MOST_SHARE_OF_LINES,
-    SHARE_PER_DOUBLING, SHARE_PER_PERSON,
+    BEST_SHARE_OF_LINES, LEAST_PART_OPEN, LEAST_SHARE, MOST_PART_OPEN, MOST_PICKS,
+    MOST_SHARE_OF_LINES, SHARE_PER_DOUBLING, SHARE_PER_PERSON,
 };
 use roster_model::limits::MOST_PAIRINGS;
 use roster_problem::Problem;
@@ -17,26 +17,8 @@ use std::alloc::{AllocError, Global};
 /// A half, in thousandths.
 const HALF: u32 = 500;
 
-/// A person and a pairing, and what weighs against settling whether that person has it. What isn't settled in
-/// the solution comes before what is.
-#[derive(Clone, Copy)]
-struct Pick {
-    is_settled: bool,
-    weight: u32,
-    k: usize,
-    p: usize,
-}
-
-impl Pick {
-    // Whether it is better than the other one.
-    fn is_before(&self, other: &Pick) -> bool {
-        if self.is_settled == other.is_settled {
-            self.weight < other.weight
-        } else {
-            other.is_settled
-        }
-    }
-}
+/// What weighs against settling what is settled in the solution: more than against anything that isn't.
+const SETTLED: u32 = 1 << 31;
 
 /// What it is best to settle next, by the last solution of the program: how many pairings are open, if it leaves a
 /// part of one open, all in all; or else a pairing of which it leaves a part open;
@@ -58,20 +40,37 @@ pub fn branch_by_shares(
     }
     let crowds = crowds(alloc, problem, region, relaxation)?;
     let mut shares = vec![in alloc; 0_u32; crowds.len()]?;
-    let mut best = Pick {
-        is_settled: true,
-        weight: u32::MAX,
-        k: 0,
-        p: 0,
-    };
+    let mut picks = Vec::new(alloc);
     for (row, k) in relaxation.persons().iter().enumerate() {
         let k = *k;
         if k < problem.persons().len() && region.width(k) > 1 {
             relaxation.put_shares(row, &mut shares);
-            best = better(region, relaxation.pairings(), &shares, &crowds, k, best);
+            add_picks(region, relaxation, &shares, &crowds, row, k, &mut picks)?;
         }
     }
-    Ok(Split::Holder(best.k, best.p))
+    picks.sort_unstable();
+    Ok(relaxation.branch_at(best_of(relaxation, &picks)))
+}
+
+/// The best of the picks, the first of which has the least weight: that one, or one of the first few that promises more.
+fn best_of(relaxation: &Relaxation, picks: &[(u32, usize)]) -> usize {
+    let Some((least, first)) = picks.first() else {
+        return 0;
+    };
+    let mut best = *first;
+    if relaxation.gains.are_worth() {
+        let mut most = 0;
+        for (weight, place) in picks.iter().take(MOST_PICKS) {
+            let promise = relaxation
+                .gains
+                .promise(*place, weight.saturating_sub(*least));
+            if promise > most {
+                most = promise;
+                best = *place;
+            }
+        }
+    }
+    best
 }
 
 /// Of how many open pairings the last solution has at least, and a part of one more, if the region leaves it to be
@@ -128,41 +127,39 @@ fn crowds(
     Ok(crowds)
 }
 
-/// The best of a pick and those of person `k`, of whose lines pairings have these shares.
-fn better(
+/// Adds those of person `k`, who has this row and of whose lines pairings have these shares: what weighs against each,
+/// and its place.
+fn add_picks(
     region: &Region,
-    pairings: &[usize],
+    relaxation: &Relaxation,
     shares: &[u32],
     crowds: &[u32],
+    row: usize,
     k: usize,
-    old: Pick,
-) -> Pick
+    picks: &mut Vec<(u32, usize)>,
+) -> Result<(), AllocError>
     requires { k < length region.now.choices }
 {
     let possible = region.possible(k);
     let certain = region.certain(k);
     let lines = doublings(region.width(k)).saturating_mul(SHARE_PER_DOUBLING);
-    let mut best = old;
-    for (row, p) in pairings.iter().enumerate() {
+    for (column, p) in relaxation.pairings().iter().enumerate() {
         let p = *p;
-        if row >= crowds.len() || row >= shares.len() || !possible.has(p) || certain.has(p) {
+        if column >= crowds.len() || column >= shares.len() || !possible.has(p) || certain.has(p) {
             continue;
         }
-        let share = shares[row];
-        let pick = Pick {
-            is_settled: share < LEAST_SHARE || share > MOST_SHARE_OF_LINES,
-            weight: share
-                .abs_diff(BEST_SHARE_OF_LINES)
-                .saturating_add(crowds[row])
-                .saturating_add(lines),
-            k,
-            p,
-        };
-        if pick.is_before(&best) {
-            best = pick;
-        }
+        let share = shares[column];
+        let weight = share
+            .abs_diff(BEST_SHARE_OF_LINES)
+            .saturating_add(crowds[column])
+            .saturating_add(lines);
+        let is_settled = share < LEAST_SHARE || share > MOST_SHARE_OF_LINES;
+        let weight = weight
+            .min(SETTLED - 1)
+            .saturating_add(if is_settled { SETTLED } else { 0 });
+        picks.push((weight, relaxation.place(row, column)))?;
     }
-    best
+    Ok(())
 }
 
 /// How often one has to be doubled to come to so many, rounded down.

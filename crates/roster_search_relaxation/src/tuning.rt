@@ -44,3 +44,15 @@ pub(crate) const LEAST_PART_OPEN: u64 = 30;
 
 /// Or so large a part at least.
 pub(crate) const MOST_PART_OPEN: u64 = 970;
+
+/// A search goes by what branches brought once it has visited so many nodes.
+pub(crate) const NODES_TO_LEARN: u32 = 200;
+
+/// Of so many persons and pairings at most, those that weigh least by shares.
+pub(crate) const MOST_PICKS: usize = 12;
+
+/// Each side counts as if it had brought so many times before what sides bring on an average.
+pub(crate) const EXPECTED_TIMES: u64 = 2;
+
+/// What a branch promises counts half for so much that weighs against it, in thousandths.
+pub(crate) const WEIGHT_A_HALF: u32 = 100;
