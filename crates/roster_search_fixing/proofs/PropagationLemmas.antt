@@ -1,5 +1,5 @@
 -- What the lines that are left say of who has a pairing.
-use Rattle.std.proofs.Common.{◌≡◌, ◌≢◌, ℕ, ◌<◌, ◌≤◌, true, List, length, get_or, Some, sym, ap, ◌∙◌, subst, ◌⊎◌, inl, inr, arith}
+use Rattle.std.proofs.Common.{◌≡◌, ◌≢◌, ℕ, ◌<◌, ◌≤◌, Bool, true, false, ◌||◌, List, length, get_or, Some, refl, sym, ap, ◌∙◌, subst, ◌⊎◌, inl, inr, arith}
 use Rattle.std.specs.List.{list_any}
 use Rattle.std.proofs.lemmas.Bool.{both_ways, cases_eq}
 use Rattle.std.proofs.lemmas.List.Folds.{list_any_at}
@@ -9,7 +9,7 @@ use Rattle.std.proofs.lemmas.Option.{slice_get-get_or}
 use Rattle.roster_model.specs.Places.{open_number}
 use Rattle.roster_model.specs.Problem.{Problem}
 use Rattle.roster_model.specs.Rules.{is_among}
-use Rattle.roster_search_regions.specs.Regions.{lines_of, AllowedLine, Has, HasNot, IsIn, IsRegion, IsWhollyIn, Region}
+use Rattle.roster_search_regions.specs.Regions.{lines_of, AllowedLine, Has, HasNone, HasNot, IsIn, IsRegion, IsWhollyIn, Region}
 use Rattle.roster_search_regions.specs.Trees.{AreCertain}
 use Rattle.roster_search_regions.proofs.RegionLemmas.{among_from_Has, chosen_line, Has-from_among}
 use Rattle.roster_search_fixing.specs.Propagation.{Lacks}
@@ -47,6 +47,15 @@ other_has owner k p places other has too =
     let both : Some k ≡ Some owner = sym too ∙ has in
     let same : k ≡ owner = cc in
     other same
+
+-- of two sets together the person has none if that is so of each
+pub none_more : (k : ℕ) (one other both places : List ℕ) → ((p : ℕ) → is_among both p ≡ (is_among one p || is_among other p))
+    → HasNone k one places → HasNone k other places → HasNone k both places
+none_more k one other both places are first second p among = go (is_among one p) refl (sym (are p) ∙ among)
+  where
+    go : (b : Bool) → is_among one p ≡ b → (is_among one p || is_among other p) ≡ true → HasNot k p places
+    go true e either = first p e
+    go false e either = second p (ap (λ b. b || is_among other p) (sym e) ∙ either)
 
 -- the number of a pairing is a person's or the one for open
 pub number_of : (problem : Problem) (region : Region) (p : ℕ) (places : List ℕ) → IsIn problem region places

@@ -1,7 +1,7 @@
 //! What follows for the other persons from the lines of each.
 
 ghost use Rattle.std.specs.Prelude.{◌<◌, ℕ, IfNone, IfOk, IfSome, MatchBool, OnOk, length};
-ghost use Rattle.roster_search_regions.specs.Regions.{Has, IsNarrowed, IsRegion, IsWhollyIn};
+ghost use Rattle.roster_search_regions.specs.Regions.{Has, HasNone, IsNarrowed, IsRegion, IsWhollyIn};
 ghost use Rattle.roster_search_fixing.specs.Propagation.{Anything, AreHolders, IsEmpty, IsUncertain};
 
 use roster_problem::{Problem, open_number};
@@ -133,6 +133,36 @@ fn settle(
     }
 }
 
+/// The pairings that person `k` can't have, since all lines of somebody else have them, or since they are open.
+fn taken_from(problem: &Problem, region: &Region, k: usize) -> Set
+    requires region { IsRegion problem.now region.now }
+    requires person { k < length problem.now.persons }
+    ensures { IsWhollyIn problem.now region.now (HasNone k result) }
+{
+    let mut taken = *region.left_open();
+    for j in 0..problem.persons().len() {
+        if j != k && region.width(j) > 0 {
+            taken = taken.or(&region.certain(j));
+        }
+    }
+    taken
+}
+
+/// Nobody has what somebody else must have, or what is open: one walk through the lines of each person, whatever
+/// they lose. No roster is lost.
+fn deny_taken(alloc: Global, problem: &Problem, region: &mut Region) -> Result<(), AllocError>
+    requires { IsRegion problem.now region.old }
+    ensures { OnOk result (IsNarrowed problem.now Anything region.old region.new) }
+{
+    for k in 0..problem.persons().len() {
+        let taken = taken_from(problem, region, k);
+        if !region.possible(k).and(&taken).is_empty() {
+            region.deny_all(alloc, problem, k, &taken)?;
+        }
+    }
+    Ok(())
+}
+
 /// Draws what follows from who may have each pairing. No roster is lost; if it answers no, there
 /// is none. It asks nothing of pairings of which nothing followed as it began.
 pub(crate) fn propagate(
@@ -144,6 +174,7 @@ pub(crate) fn propagate(
     ensures { IfOk result (λ some. MatchBool some
         (IsNarrowed problem.now Anything region.old region.new) (IsEmpty problem.now region.old)) }
 {
+    deny_taken(alloc, problem, region)?;
     let claims = claims_in(region);
     for p in 0..problem.pairings().len() {
         let due = is_due(region, &claims, p);

@@ -1,18 +1,20 @@
 -- What makes a region smaller.
-use Rattle.std.proofs.Common.{◌≡◌, ◌≢◌, ℕ, ◌<◌, ◌≤◌, Bool, true, false, ◌||◌, eqb, eq-eqb, List, [], length, set, Option, Some, None, refl, sym, ap, ◌∙◌, subst, inl, inr, arith}
+use Rattle.std.proofs.Common.{◌≡◌, ◌≢◌, ℕ, ◌<◌, ◌≤◌, Bool, true, false, not, ◌||◌, eqb, eq-eqb, List, [], length, set, Option, Some, None, refl, sym, ap, ◌∙◌, subst, inl, inr, arith}
 use Rattle.std.specs.Prelude.{All, Contains, filter, slice_get}
 use Rattle.std.specs.List.{list_all}
 use Rattle.std.specs.Option.{option_map_or}
 use Rattle.std.proofs.lemmas.Bool.{both_ways, cases_eq, cases_lt, eqb-true}
 use Rattle.std.proofs.lemmas.List.{get_or-set_same, get_or-set_other, length-set, set-get_or}
 use Rattle.std.proofs.lemmas.List.Elements.{All-filter}
-use Rattle.std.proofs.lemmas.List.Sums.{sum_by-set}
+use Rattle.std.proofs.lemmas.List.Sums.{list_all-from_AllPass, sum_by-set}
 use Rattle.std.proofs.lemmas.Option.{get_or_from_slice_get, slice_get-get_or, slice_get_past, slice_get_within}
 use Rattle.roster_model.specs.Places.{open_number, set_of}
 use Rattle.roster_model.specs.Problem.{Problem}
 use Rattle.roster_model.specs.Rules.{is_among}
 use Rattle.roster_model.proofs.PlacesLemmas.{is_among-set_of}
-use Rattle.roster_search_regions.specs.Regions.{AllowedLine, lines_of, open_in, sets_of, size_of, with_lines, Has, HasNot, HasOpenAtLeast, HasOpenAtMost, IsAllowedLine, IsIn, IsNarrowed, IsRegion, Region}
+use Rattle.roster_model.proofs.SetLemmas.{All-from_is_among}
+use Rattle.roster_search_regions.specs.Regions.{AllowedLine, lines_of, open_in, sets_of, size_of, with_lines, Has, HasNone, HasNot, HasOpenAtLeast, HasOpenAtMost, IsAllowedLine, IsIn, IsNarrowed, IsRegion, Region}
+use Rattle.roster_search_regions.specs.Trees.{lacks}
 use Rattle.roster_search_regions.proofs.Undecided.{undecided_flown, undecided_left_open}
 use Rattle.roster_search_regions.proofs.ListLemmas.{Contains-filter, Contains-from_filter, Contains-from_map, Contains-map, length-filter-le, length-filter-lt, passes-from_filter}
 
@@ -39,6 +41,17 @@ among_from_HasNot k p places hasnot = go (is_among (set_of k places) p) refl
 pub HasNot-from_among : (k p : ℕ) (places : List ℕ) → is_among (set_of k places) p ≡ false → HasNot k p places
 HasNot-from_among k p places among has =
     both_ways (is_among (set_of k places) p) among (among_from_Has k p places has)
+
+pub lacks-from_HasNone : (k : ℕ) (taken places : List ℕ) → HasNone k taken places
+    → lacks taken (set_of k places) ≡ true
+lacks-from_HasNone k taken places none =
+    list_all-from_AllPass (λ p. not (is_among taken p)) (set_of k places)
+    (All-from_is_among (λ p. not (is_among taken p) ≡ true) (set_of k places) (λ p here. go p here (is_among taken p) refl))
+  where
+    go : (p : ℕ) → is_among (set_of k places) p ≡ true → (b : Bool) → is_among taken p ≡ b
+        → not (is_among taken p) ≡ true
+    go p here true e = absurd (none p e (Has-from_among k p places here))
+    go p here false e = ap not e
 
 -- ---- the lines of one person
 

@@ -121,6 +121,10 @@ Has k p places = slice_get places p ≡ Some k
 abbrev pub HasNot : ℕ → ℕ → List ℕ → Type 0
 HasNot k p places = slice_get places p ≢ Some k
 
+-- person k has none of those pairings
+abbrev pub HasNone : ℕ → List ℕ → List ℕ → Type 0
+HasNone k taken places = (p : ℕ) → is_among taken p ≡ true → HasNot k p places
+
 -- at most so many pairings are open
 abbrev pub HasOpenAtMost : Problem → ℕ → List ℕ → Type 0
 HasOpenAtMost problem count places = open_in problem places ≤ count

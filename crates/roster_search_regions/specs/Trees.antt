@@ -64,6 +64,10 @@ abbrev pub agrees : Bool → Bool → Bool
 agrees true answer = answer
 agrees false answer = not answer
 
+-- the set has none of those pairings
+abbrev pub lacks : List ℕ → List ℕ → Bool
+lacks taken set = list_all (λ p. not (is_among taken p)) set
+
 -- the line has just the pairings of the set
 abbrev pub HasJust : List ℕ → AllowedLine → Type 0
 HasJust set line = (p : ℕ) → is_among line.set p ≡ is_among set p

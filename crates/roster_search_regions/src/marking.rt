@@ -4,12 +4,13 @@ ghost use Rattle.std.specs.Prelude.{◌≡◌, IfOk, filter, int_le};
 ghost use Rattle.roster_model.specs.Rules.{is_among};
 ghost use Rattle.roster_search_regions.specs.Marks.{IsMarking};
 ghost use Rattle.roster_search_regions.specs.Prices.{value_of, ArePrices};
-ghost use Rattle.roster_search_regions.specs.Trees.{agrees, lines_in};
+ghost use Rattle.roster_search_regions.specs.Trees.{agrees, lacks, lines_in};
 
 use crate::marker::Marker;
 use crate::path::Path;
 use crate::rows::Rows;
 use crate::sums::Sums;
+use roster_values::Set;
 use std::alloc::{AllocError, Global};
 
 /// Whether a test answers what is wanted.
@@ -35,6 +36,25 @@ pub(crate) fn marks_having(
         let choice = rows.at(i);
         path.step(&choice)?;
         marker.mark(&path, &choice, is_wanted(wanted, path.has(p)))?;
+    }
+    Ok(marker)
+}
+
+/// Marks the lines that have none of the pairings of the set.
+pub(crate) fn marks_lacking(
+    alloc: Global,
+    rows: &Rows<'_>,
+    taken: &Set,
+) -> Result<Marker, AllocError>
+    ensures { IfOk result (λ marker. IsMarking marker rows.now
+        (filter (λ line. lacks taken.now line.set) (lines_in rows.now))) }
+{
+    let mut path = Path::new(alloc);
+    let mut marker = Marker::new(alloc, rows.len())?;
+    for i in 0..rows.len() {
+        let choice = rows.at(i);
+        path.step(&choice)?;
+        marker.mark(&path, &choice, path.lacks(taken))?;
     }
     Ok(marker)
 }

@@ -3,7 +3,7 @@
 ghost use Rattle.std.specs.Prelude.{◌≡◌, ◌<◌, ◌≤◌, ◌-◌, ◌↔◌, [], ℕ, IsTrue, OnOk, length, slice_index};
 ghost use Rattle.roster_model.specs.declared.limits.TheConstants.{MOST_PAIRINGS};
 ghost use Rattle.roster_model.specs.Rules.{is_among};
-ghost use Rattle.roster_search_regions.specs.Trees.{next_path, IsLimited};
+ghost use Rattle.roster_search_regions.specs.Trees.{lacks, next_path, IsLimited};
 
 use crate::choice::Choice;
 use crate::writer::is_same;
@@ -83,6 +83,13 @@ impl Path {
         ensures { result ≡ is_among self.now p }
     {
         self.lasts.iter().any(|last| usize::from(*last) == p)
+    }
+
+    /// Whether it has none of the pairings of the set.
+    pub(crate) fn lacks(&self, taken: &Set) -> bool
+        ensures { result ≡ lacks taken.now self.now }
+    {
+        self.lasts.iter().all(|last| !taken.has(usize::from(*last)))
     }
 
     /// Whether it has just the pairings of the set. Mostly its last one tells that it hasn't.

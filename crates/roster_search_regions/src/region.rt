@@ -5,10 +5,10 @@ ghost use Rattle.roster_model.specs.Places.{open_number};
 ghost use Rattle.roster_model.specs.Rules.{is_among};
 ghost use Rattle.roster_cost.specs.Amounts.{IsWithin};
 ghost use Rattle.roster_search_regions.specs.Prices.{value_of, ArePrices};
-ghost use Rattle.roster_search_regions.specs.Regions.{lines_of, size_of, with_lines, Has, HasNot, IsNarrowed};
+ghost use Rattle.roster_search_regions.specs.Regions.{lines_of, size_of, with_lines, Has, HasNone, HasNot, IsNarrowed};
 ghost use Rattle.roster_search_regions.specs.Regions.{HasOpenAtLeast, HasOpenAtMost};
 ghost use Rattle.roster_search_regions.specs.Regions.{IsRegion, IsSplit, IsUndecidedAt, IsWhollyIn};
-ghost use Rattle.roster_search_regions.specs.Trees.{agrees, lines_in, AreCertain, ArePossible, HasJust, Offers};
+ghost use Rattle.roster_search_regions.specs.Trees.{agrees, lacks, lines_in, AreCertain, ArePossible, HasJust, Offers};
 
 use crate::choice::{MOST_SCALE, MOST_UNIT, MOST_VALUE};
 use crate::choices::Choices;
@@ -244,6 +244,16 @@ impl Region {
         self.replace(alloc, k, tree)
     }
 
+    /// Keeps those of person `k`'s lines that have none of the pairings of the set.
+    fn keep_lacking(&mut self, alloc: Global, k: usize, taken: &Set) -> Result<(), AllocError>
+        requires { k < length self.old.choices }
+        ensures { OnOk result (self.new ≡ with_lines self.old k
+            (filter (λ line. lacks taken.now line.set) (lines_of self.old k))) }
+    {
+        let tree = self.persons[k].tree().lacking(alloc, taken)?;
+        self.replace(alloc, k, tree)
+    }
+
     /// Keeps those of person `k`'s lines whose value at the prices is at most so much.
     pub fn keep_within(
         &mut self,
@@ -296,6 +306,22 @@ impl Region {
         ensures fewer { OnOk result (IsSplit self.old k p → size_of self.new < size_of self.old) }
     {
         self.keep_having(alloc, k, p, false)?;
+        Ok(())
+    }
+
+    /// Person `k` has none of the pairings of the set.
+    pub fn deny_all(
+        &mut self,
+        alloc: Global,
+        problem: &Problem,
+        k: usize,
+        taken: &Set,
+    ) -> Result<(), AllocError>
+        requires region { IsRegion problem.now self.old }
+        requires person { k < length problem.now.persons }
+        ensures { OnOk result (IsNarrowed problem.now (HasNone k taken.now) self.old self.new) }
+    {
+        self.keep_lacking(alloc, k, taken)?;
         Ok(())
     }
 

@@ -10,13 +10,13 @@ ghost use Rattle.roster_search_regions.specs.Marks.{picked, IsMarking};
 ghost use Rattle.roster_search_regions.specs.declared.choice.Choice.{Choice as PlainChoice};
 ghost use Rattle.roster_search_regions.specs.Prices.{value_of, ArePrices};
 ghost use Rattle.roster_search_regions.specs.Regions.{AllowedLine};
-ghost use Rattle.roster_search_regions.specs.Trees.{agrees, lines_in, AreCertain, ArePossible, HasJust, Offers};
+ghost use Rattle.roster_search_regions.specs.Trees.{agrees, lacks, lines_in, AreCertain, ArePossible, HasJust, Offers};
 
 use crate::all_lines::AllLines;
 use crate::choice::{Choice, MOST_VALUE};
 use crate::choices::Choices;
 use crate::marker::Marker;
-use crate::marking::{is_wanted, marks_having, marks_within};
+use crate::marking::{is_wanted, marks_having, marks_lacking, marks_within};
 use crate::path::Path;
 use crate::sums::Sums;
 use crate::writer::Writer;
@@ -236,6 +236,35 @@ impl Tree {
             path.step(&choice)?;
             writer.pass(&choice);
             writer.keep(&path, &choice, is_wanted(wanted, path.has(p)))?;
+        }
+        Ok(Tree::of(writer))
+    }
+
+    /// The lines that have none of the pairings of the set.
+    pub(crate) fn lacking(&self, alloc: Global, taken: &Set) -> Result<Tree, AllocError>
+        ensures { IfOk result (λ tree. tree ≡ filter (λ line. lacks taken.now line.set) self.now) }
+    {
+        match &self.held {
+            Held::Table(lines) => {
+                let marker = marks_lacking(alloc, &lines.rows(), taken)?;
+                Tree::marked(alloc, lines, marker)
+            }
+            Held::Own(_) => self.copied_lacking(alloc, taken),
+        }
+    }
+
+    /// `lacking`, for lines that are copied.
+    fn copied_lacking(&self, alloc: Global, taken: &Set) -> Result<Tree, AllocError>
+        ensures { IfOk result (λ tree. tree ≡ filter (λ line. lacks taken.now line.set) self.now) }
+    {
+        let choices = self.choices();
+        let mut path = Path::new(alloc);
+        let mut writer = Writer::new(alloc);
+        for i in 0..choices.len() {
+            let choice = choices.at(i);
+            path.step(&choice)?;
+            writer.pass(&choice);
+            writer.keep(&path, &choice, path.lacks(taken))?;
         }
         Ok(Tree::of(writer))
     }
