@@ -123,57 +123,73 @@ pub fn lines_of_pairs<W: Wanted>(
     let judged = JudgedSet::empty(alloc, &loads)?;
     let mut lines = Lines::empty(alloc, root.cost(problem, k))?;
     let mut spare = Spare::new(alloc);
-    extend(
-        &mut spare, &judged, problem, k, wanted, most, pairs, &root, &mut lines,
-    )?;
+    let listing = Listing {
+        problem,
+        k,
+        wanted,
+        most,
+        pairs,
+    };
+    extend(&listing, &mut spare, &judged, &root, &mut lines)?;
     Ok(lines)
+}
+
+/// Which lines are listed: those of person `k` that are wanted, and no more than `most`. The pairs are those
+/// of the person.
+#[derive(Drop)]
+struct Listing<'a, W> {
+    problem: &'a Problem,
+    k: usize,
+    wanted: &'a W,
+    most: usize,
+    pairs: &'a Pairs,
 }
 
 /// Appends the lines that go on from the stem, in their order: all but what isn't wanted, nor any behind.
 fn extend<W: Wanted>(
+    listing: &Listing<'_, W>,
     spare: &mut Spare,
     judged: &JudgedSet<'_>,
-    problem: &Problem,
-    k: usize,
-    wanted: &W,
-    most: usize,
-    pairs: &Pairs,
     stem: &Stem,
     lines: &mut Lines,
 ) -> Result<(), LinesFault>
-    requires judged { judged.now ≡ judged_as problem.now k stem.now.among stem.now.set }
-    requires person { k < length problem.now.persons }
-    requires limit { most ≤ MOST_LINES }
-    requires parts { ArePartsLegal problem.now k }
-    requires flown { IsFlightWithin problem.now k }
-    requires pairs { ArePairs problem.now k pairs.now }
-    requires stem { IsStem problem.now k stem.now }
-    requires only { HoldOnly problem.now k (W.wants wanted.now problem.now k) stem.now.among }
+    requires judged { judged.now
+        ≡ judged_as listing.now.problem.now listing.now.k stem.now.among stem.now.set }
+    requires person { listing.now.k < length listing.now.problem.now.persons }
+    requires limit { listing.now.most ≤ MOST_LINES }
+    requires parts { ArePartsLegal listing.now.problem.now listing.now.k }
+    requires flown { IsFlightWithin listing.now.problem.now listing.now.k }
+    requires pairs { ArePairs listing.now.problem.now listing.now.k listing.now.pairs.now }
+    requires stem { IsStem listing.now.problem.now listing.now.k stem.now }
+    requires only { HoldOnly listing.now.problem.now listing.now.k
+        (W.wants listing.now.wanted.now listing.now.problem.now listing.now.k) stem.now.among }
     requires number { slice_get (sets_of lines.old) stem.now.number ≡ Some stem.now.set }
-    requires before { IsUpTo problem.now k (W.wants wanted.now problem.now k)
+    requires before { IsUpTo listing.now.problem.now listing.now.k
+        (W.wants listing.now.wanted.now listing.now.problem.now listing.now.k)
         (stem.now.set ++ 0 ∷ []) (sets_of lines.old) }
-    requires costs { AreCosted problem.now k lines.old }
-    requires few { length lines.old ≤ most }
-    ensures lines { OnOk result (IsUpTo problem.now k (W.wants wanted.now problem.now k)
-        (stem.now.set ++ length problem.now.pairings ∷ []) (sets_of lines.new)) }
-    ensures costs { OnOk result (AreCosted problem.now k lines.new) }
-    ensures few { OnOk result (length lines.new ≤ most) }
+    requires costs { AreCosted listing.now.problem.now listing.now.k lines.old }
+    requires few { length lines.old ≤ listing.now.most }
+    ensures lines { OnOk result (IsUpTo listing.now.problem.now listing.now.k
+        (W.wants listing.now.wanted.now listing.now.problem.now listing.now.k)
+        (stem.now.set ++ length listing.now.problem.now.pairings ∷ []) (sets_of lines.new)) }
+    ensures costs { OnOk result (AreCosted listing.now.problem.now listing.now.k lines.new) }
+    ensures few { OnOk result (length lines.new ≤ listing.now.most) }
     ensures kept { OnOk result ((i : ℕ) (set : List ℕ)
         → slice_get (sets_of lines.old) i ≡ Some set
         → slice_get (sets_of lines.new) i ≡ Some set) }
-    ensures fault { IfErr result (IsFaultWithin problem.now k most) }
+    ensures fault { IfErr result
+        (IsFaultWithin listing.now.problem.now listing.now.k listing.now.most) }
 {
+    let (problem, k) = (listing.problem, listing.k);
     let mut from = 0;
     while let Some(p) = stem.candidates.first_from(from) {
-        if let Some(longer) = line_with(spare, judged, problem, k, wanted, stem, p)? {
-            if lines.width() == most {
+        if let Some(longer) = line_with(listing, spare, judged, stem, p)? {
+            if lines.width() == listing.most {
                 return Err(LinesFault::TooMany);
             }
-            let below = stem.below(problem, k, pairs, p, lines.width());
+            let below = stem.below(problem, k, listing.pairs, p, lines.width());
             lines.push(stem.number, p, below.cost(problem, k))?;
-            extend(
-                spare, &longer, problem, k, wanted, most, pairs, &below, lines,
-            )?;
+            extend(listing, spare, &longer, &below, lines)?;
             longer.done(spare);
         }
         from = p + 1;
@@ -184,23 +200,23 @@ fn extend<W: Wanted>(
 /// The set of the stem with the candidate behind, if that is a line, and it or one that begins with it may
 /// be wanted.
 fn line_with<'a, W: Wanted>(
+    listing: &Listing<'_, W>,
     spare: &mut Spare,
     judged: &JudgedSet<'a>,
-    problem: &Problem,
-    k: usize,
-    wanted: &W,
     stem: &Stem,
     p: usize,
 ) -> Result<Option<JudgedSet<'a>>, AllocError>
-    requires judged { judged.now ≡ judged_as problem.now k stem.now.among stem.now.set }
-    requires person { k < length problem.now.persons }
-    requires parts { ArePartsLegal problem.now k }
-    requires stem { IsStem problem.now k stem.now }
+    requires judged { judged.now
+        ≡ judged_as listing.now.problem.now listing.now.k stem.now.among stem.now.set }
+    requires person { listing.now.k < length listing.now.problem.now.persons }
+    requires parts { ArePartsLegal listing.now.problem.now listing.now.k }
+    requires stem { IsStem listing.now.problem.now listing.now.k stem.now }
     requires candidate { is_among stem.now.candidates p ≡ true }
-    ensures { IfOk result
-        (LineWith problem.now k (W.wants wanted.now problem.now k) stem.now p) }
+    ensures { IfOk result (LineWith listing.now.problem.now listing.now.k
+        (W.wants listing.now.wanted.now listing.now.problem.now listing.now.k) stem.now p) }
 {
-    if !wanted.goes_on(problem, k, &stem.set, p, stem.units, stem.flight) {
+    let (wanted, problem) = (listing.wanted, listing.problem);
+    if !wanted.goes_on(problem, listing.k, &stem.set, p, stem.units, stem.flight) {
         return Ok(None);
     }
     let found = judged.with(p, spare)?;

@@ -14,17 +14,17 @@ use Rattle.roster_lines.specs.Listing.{HoldOnly, IsUpTo, judged_as}
 use Rattle.roster_lines.proofs.Marks.{get_push_new, get_push_old, HasMoreLines-push, IsUpTo-push, IsUpTo-return}
 use Rattle.roster_lines.proofs.Stems.{costs_pushed, line_there, no_line_there, longer_set, past_candidate, sets_pushed, up_to_candidate}
 use Rattle.roster_lines.proofs.extend.+extend.Given as given
-use Rattle.roster_lines.proofs.extend.+extend.Goals.{In-Some, In-Some-2, in-Some-2+else-width-most+in_ok-push+in_ok-extend, in_default-2}
+use Rattle.roster_lines.proofs.extend.+extend.Goals.{In-Some, In-Some-2, in-Some-2+else-width-listing+in_ok-push+in_ok-extend, in_default-2}
 use Rattle.roster_lines.proofs.extend.+extend.Goals as goal
 
 -- what is wanted
 abbrev wants : (g : given.Over) (t : ℕ) → In-Some g t → List ℕ → Type 0
-wants g t c = g.W.Wanted.wants c.args.wanted.now c.args.problem.now c.args.k
+wants g t c = g.W.Wanted.wants c.args.listing.now.wanted.now c.args.listing.now.problem.now c.args.listing.now.k
 
 -- the lines up to the candidate,
-up : (g : given.Over) (t : ℕ) (c : In-Some g t) → IsUpTo c.args.problem.now c.args.k (wants g t c) (c.args.stem.now.set ++ c.in-Some.p ∷ []) (sets_of c.loop-p.lines)
+up : (g : given.Over) (t : ℕ) (c : In-Some g t) → IsUpTo c.args.listing.now.problem.now c.args.listing.now.k (wants g t c) (c.args.stem.now.set ++ c.in-Some.p ∷ []) (sets_of c.loop-p.lines)
 up g t c =
-    up_to_candidate c.args.problem.now c.args.k (wants g t c) c.args.stem.now (sets_of c.loop-p.lines) c.loop-p.from c.in-Some.p c.requires.stem c.requires.only c.loop-p.invariant.lines c.in-Some.ensures.place.0 c.in-Some.ensures.least
+    up_to_candidate c.args.listing.now.problem.now c.args.listing.now.k (wants g t c) c.args.stem.now (sets_of c.loop-p.lines) c.loop-p.from c.in-Some.p c.requires.stem c.requires.only c.loop-p.invariant.lines c.in-Some.ensures.place.0 c.in-Some.ensures.least
 
 -- of which the stem's is still the one with its number,
 number : (g : given.Over) (t : ℕ) (c : In-Some g t)
@@ -32,16 +32,16 @@ number : (g : given.Over) (t : ℕ) (c : In-Some g t)
 number g t c = c.loop-p.invariant.kept c.args.stem.now.number c.args.stem.now.set c.requires.number
 
 -- and what was found behind it: the stem's set with the candidate, a line
-found : (g : given.Over) (t : ℕ) (c : In-Some-2 g t) → (c.in-Some-2.longer ≡ judged_as c.args.problem.now c.args.k c.args.stem.now.among (c.args.stem.now.set ++ c.in-Some.p ∷ [])) × IsLine c.args.problem.now c.args.k (c.args.stem.now.set ++ c.in-Some.p ∷ [])
-found g t c = line_there c.args.problem.now c.args.k (g.W.Wanted.wants c.args.wanted.now c.args.problem.now c.args.k) c.args.stem.now c.in-Some.p c.in_ok-longer.field-0 c.in-Some-2.longer c.in-Some-2.is c.in_ok-longer.ensures
+found : (g : given.Over) (t : ℕ) (c : In-Some-2 g t) → (c.in-Some-2.longer ≡ judged_as c.args.listing.now.problem.now c.args.listing.now.k c.args.stem.now.among (c.args.stem.now.set ++ c.in-Some.p ∷ [])) × IsLine c.args.listing.now.problem.now c.args.listing.now.k (c.args.stem.now.set ++ c.in-Some.p ∷ [])
+found g t c = line_there c.args.listing.now.problem.now c.args.listing.now.k (g.W.Wanted.wants c.args.listing.now.wanted.now c.args.listing.now.problem.now c.args.listing.now.k) c.args.stem.now c.in-Some.p c.in_ok-longer.field-0 c.in-Some-2.longer c.in-Some-2.is c.in_ok-longer.ensures
 
-pub returns-then-width-most-clause-fault : goal.returns-then-width-most-clause-fault
-returns-then-width-most-clause-fault g t c =
-    let at = goal.at.returns-then-width-most-clause-fault g t c in
+pub returns-then-width-listing-clause-fault : goal.returns-then-width-listing-clause-fault
+returns-then-width-listing-clause-fault g t c =
+    let at = goal.at.returns-then-width-listing-clause-fault g t c in
     let line = found g t at.In-Some-2 in
-    HasMoreLines-push c.args.problem.now c.args.k (wants g t at.In-Some)
-    (sets_of c.loop-p.lines) _ c.args.most (up g t at.In-Some) line.1
-    (omega (arith, c.width.ensures.value, c.if-width-most.true, length-sets_of c.loop-p.lines))
+    HasMoreLines-push c.args.listing.now.problem.now c.args.listing.now.k (wants g t at.In-Some)
+    (sets_of c.loop-p.lines) _ c.args.listing.now.most (up g t at.In-Some) line.1
+    (omega (arith, c.width.ensures.value, c.if-width-listing.true, length-sets_of c.loop-p.lines))
 
 pub push-requires-clause-parent : goal.push-requires-clause-parent
 push-requires-clause-parent g t c =
@@ -70,9 +70,9 @@ below-below-requires-clause-line g t c =
 
 pub extend-requires : goal.extend-requires
 extend-requires g t c κs within =
-    let problem = c.args.problem.now in
-    let k : ℕ = c.args.k in
-    let wants : List ℕ → Type 0 = g.W.Wanted.wants c.args.wanted.now problem k in
+    let problem = c.args.listing.now.problem.now in
+    let k : ℕ = c.args.listing.now.k in
+    let wants : List ℕ → Type 0 = g.W.Wanted.wants c.args.listing.now.wanted.now problem k in
     let stem = c.args.stem.now in
     let p : ℕ = c.in-Some.p in
     let lines = c.loop-p.lines in
@@ -103,22 +103,22 @@ extend-requires g t c κs within =
     ∙ ap (λ among. judged_as problem k among below.set) (sym same) in
     let only = subst (HoldOnly problem k wants) (sym same) c.requires.only in
     let long = ap length c.in_ok-push.ensures ∙ length_push lines _ in
-    let room : length c.push.new.self ≤ c.args.most =
-    omega (arith, long, c.width.ensures.value, c.if-width-most.false, c.loop-p.invariant.few) in
+    let room : length c.push.new.self ≤ c.args.listing.now.most =
+    omega (arith, long, c.width.ensures.value, c.if-width-listing.false, c.loop-p.invariant.few) in
     (omega (arith, place.1), (within, (known, (c.requires.person, (c.requires.limit, (c.requires.parts, (c.requires.flown, (c.requires.pairs, (c.below-below.ensures.stem, (only, (here, (before, (costs, room)))))))))))))
 
 pub loop-p-preserved : goal.loop-p-preserved
 loop-p-preserved g t c =
-    let problem = c.args.problem.now in
-    let k : ℕ = c.args.k in
-    let wants : List ℕ → Type 0 = g.W.Wanted.wants c.args.wanted.now problem k in
+    let problem = c.args.listing.now.problem.now in
+    let k : ℕ = c.args.listing.now.k in
+    let wants : List ℕ → Type 0 = g.W.Wanted.wants c.args.listing.now.wanted.now problem k in
     let stem = c.args.stem.now in
     let p : ℕ = c.in-Some.p in
     let lines = c.loop-p.lines in
     let at = (goal.at.loop-p-preserved g t c).In-Some in
     let next = c.requires.stem.places p c.in-Some.ensures.place.2 in
     elim c.match-branch-2.branch [
-      | in-Some-2+else-width-most+in_ok-push+in_ok-extend w ↦
+      | in-Some-2+else-width-listing+in_ok-push+in_ok-extend w ↦
           let made = w.below-below.ensures.set in
           let pushed = sets_pushed lines w.push.new.self stem.number p _ stem.set w.below-below.result.set w.in_ok-push.ensures (number g t at) made in
           let same = ap sets_of (sym w.lines-is) in
@@ -127,7 +127,7 @@ loop-p-preserved g t c =
             lines = subst (IsUpTo problem k wants (stem.set ++ (p + 1) ∷ [])) same (IsUpTo-return problem k wants (sets_of w.extend.new.lines) stem.set p (subst (λ s. IsUpTo problem k wants (s ++ length problem.pairings ∷ []) (sets_of w.extend.new.lines)) made w.in_ok-extend.ensures.lines));
             costs = subst (AreCosted problem k) (sym w.lines-is) w.in_ok-extend.ensures.costs;
             few =
-                subst (λ (lines : List Entry). length lines ≤ c.args.most)
+                subst (λ (lines : List Entry). length lines ≤ c.args.listing.now.most)
                 (sym w.lines-is) w.in_ok-extend.ensures.few;
             kept = λ i s old.
                 ap (λ sets. slice_get sets i) (sym same)
@@ -140,7 +140,7 @@ loop-p-preserved g t c =
             lines = subst (IsUpTo problem k wants (stem.set ++ (p + 1) ∷ [])) same (past_candidate problem k wants stem (sets_of lines) p (up g t at) (no_line_there problem k wants stem p c.in_ok-longer.field-0 w.in_default-2.is c.in_ok-longer.ensures));
             costs = subst (AreCosted problem k) (sym w.lines-is) c.loop-p.invariant.costs;
             few =
-                subst (λ (lines : List Entry). length lines ≤ c.args.most)
+                subst (λ (lines : List Entry). length lines ≤ c.args.listing.now.most)
                 (sym w.lines-is) c.loop-p.invariant.few;
             kept = λ i s old. ap (λ sets. slice_get sets i) (sym same) ∙ c.loop-p.invariant.kept i s old;
           }
@@ -148,6 +148,6 @@ loop-p-preserved g t c =
 
 pub returns-clause-lines : goal.returns-clause-lines
 returns-clause-lines g t c =
-    let problem = c.args.problem.now in
+    let problem = c.args.listing.now.problem.now in
     let stem = c.args.stem.now in
-    up_to_candidate problem c.args.k (g.W.Wanted.wants c.args.wanted.now problem c.args.k) stem (sets_of c.loop-p.lines) c.loop-p.from (length problem.pairings) c.requires.stem c.requires.only c.loop-p.invariant.lines c.loop-p.invariant.within (λ q l before. c.in_default.ensures.least q l)
+    up_to_candidate problem c.args.listing.now.k (g.W.Wanted.wants c.args.listing.now.wanted.now problem c.args.listing.now.k) stem (sets_of c.loop-p.lines) c.loop-p.from (length problem.pairings) c.requires.stem c.requires.only c.loop-p.invariant.lines c.loop-p.invariant.within (λ q l before. c.in_default.ensures.least q l)

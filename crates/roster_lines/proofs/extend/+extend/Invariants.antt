@@ -12,11 +12,11 @@ decreases-extend g l = MOST_PAIRINGS - length l.stem.now.set
 -- the lines before those that go on from the stem with a later candidate
 abbrev pub invariant-loop-p : goal.invariant-loop-p
 invariant-loop-p g l = record {
-  within : l.from ≤ length l.problem.pairings;
-  lines : IsUpTo l.problem l.k (g.W.Wanted.wants l.wanted l.problem l.k) (l.stem.set ++ l.from ∷ [])
+  within : l.from ≤ length l.listing.problem.now.pairings;
+  lines : IsUpTo l.listing.problem.now l.listing.k (g.W.Wanted.wants l.listing.wanted.now l.listing.problem.now l.listing.k) (l.stem.set ++ l.from ∷ [])
       (sets_of l.lines);
-  costs : AreCosted l.problem l.k l.lines;
-  few : length l.lines ≤ l.most;
+  costs : AreCosted l.listing.problem.now l.listing.k l.lines;
+  few : length l.lines ≤ l.listing.most;
   kept : (i : ℕ) (set : List ℕ) → slice_get (sets_of l.initial.lines) i ≡ Some set
       → slice_get (sets_of l.lines) i ≡ Some set;
 }
