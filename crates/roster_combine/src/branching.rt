@@ -8,7 +8,7 @@ ghost use Rattle.roster_combine_workers.specs.Parts.{Agree, AreSettled, IsBestKe
 
 use roster_bounds::{Tables, choose_tables};
 use roster_branchtree::search;
-use roster_combine_workers::{Gate, Solved, SpanSearch};
+use roster_combine_workers::{Gate, Solved, SpanSearch, Team};
 use roster_incumbent::{Incumbent, Sight};
 use roster_lines_table::Table;
 use roster_problem::Problem;
@@ -111,9 +111,8 @@ pub fn work<R: Wait, L: Ledger, G: Gate>(
     ensures counted { IfOk result (λ list. share.new ≡ share.old + vec_len list) }
 {
     let searcher = Branching::new(alloc, problem, table, tables);
-    roster_combine_workers::work(
-        rt, alloc, problem, table, &searcher, pool, incumbent, worker, share, gate,
-    )
+    let team = Team::new(rt, alloc, problem, table, &searcher, gate);
+    roster_combine_workers::work(&team, pool, incumbent, worker, share)
 }
 
 /// `roster_combine_workers::combine`, which searches by branch and bound if what workers handed in doesn't agree with

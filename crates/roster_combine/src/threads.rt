@@ -9,7 +9,7 @@ ghost use Rattle.roster_combine_workers.specs.Parts.{IsBestKey};
 
 use crate::branching::Branching;
 use roster_bounds::Tables;
-use roster_combine_workers::{Gate, Solved, first_known, solved_by_nobody, work_together};
+use roster_combine_workers::{Gate, Solved, Team, first_known, solved_by_nobody, work_together};
 use roster_lines_table::Table;
 use roster_problem::Problem;
 use roster_search_threads::search_bases;
@@ -40,17 +40,9 @@ pub(crate) fn solve_over<R: Threads + Wait + Sync, G: Gate + Sync>(
         return solved_by_nobody(alloc, problem);
     }
     let (best, tables) = begun(rt, alloc, problem, table, workers, gate)?;
-    work_together::<Brand, R, Branching, G>(
-        rt,
-        alloc,
-        problem,
-        table,
-        &Branching::new(alloc, problem, table, &tables),
-        best,
-        workers,
-        gate,
-        Blank::new(workers as u64),
-    )
+    let searcher = Branching::new(alloc, problem, table, &tables);
+    let team = Team::new(rt, alloc, problem, table, &searcher, gate);
+    work_together::<Brand, R, Branching, G>(&team, best, workers, Blank::new(workers as u64))
 }
 
 /// The best roster, for which so many threads search the bases, and the tables for the searches of spans,

@@ -1,20 +1,18 @@
 //! Workers in threads of their own.
 
-ghost use Rattle.std.specs.Prelude.{◌≡◌, ◌+◌, ◌<◌, ◌≤◌, All, IfOk, List, length, map};
+ghost use Rattle.std.specs.Prelude.{◌≡◌, ◌<◌, ◌≤◌, All, IfOk, List, length, map};
 ghost use Rattle.std.specs.Prelude.{vec_len};
 ghost use Rattle.std.specs.Arc.{arc_value};
 ghost use Rattle.roster_model.specs.Problem.{Problem as PlainProblem};
 ghost use Rattle.roster_lines_table.specs.Entries.{Entry};
-ghost use Rattle.roster_lines_table.specs.Person.{IsTableOf};
 ghost use Rattle.roster_combine_workers.specs.Parts.{AreSettled, IsBestKey};
 
 use crate::combining::{Solved, combine, solved_again};
 use crate::root::widths_of;
 use crate::span_search::SpanSearch;
+use crate::team::Team;
 use crate::working::work;
 use roster_incumbent::{Gate, Incumbent};
-use roster_lines_table::Table;
-use roster_problem::Problem;
 use roster_subtreepool::{Pool, PoolState, Settled, Share};
 use roster_values::Roster;
 use std::alloc::{AllocError, Global};
@@ -22,37 +20,31 @@ use std::sync::ledger::{Blank, Ledger};
 use std::sync::{Arc, Wait};
 use std::thread::{Threads, map_vec};
 
-/// The best roster, found by so many workers, who share a new pool of all rosters; `blank` has a part for
-/// each. The incumbent begins with the given roster, which may be any. The calling thread is worker 0. If a
-/// thread can't be started, its worker comes last, when nothing is left to do. Each worker passes the gate.
-/// If what they hand in doesn't agree with the pool, all is searched once more, and `fallbacks` is 1. The
-/// only refusal is want of memory. It may wait for threads and locks.
+/// The best roster, found by so many workers of a team, who share a new pool of all rosters; `blank` has a
+/// part for each. The incumbent begins with the given roster, which may be any. The calling thread is worker
+/// 0. If a thread can't be started, its worker comes last, when nothing is left to do. Each worker passes
+/// the gate. If what they hand in doesn't agree with the pool, all is searched once more, and `fallbacks` is
+/// 1. The only refusal is want of memory. It may wait for threads and locks.
 pub fn work_together<
     L: Ledger + Send + Sync,
     R: Threads + Wait + Sync,
     F: SpanSearch + Sync,
     G: Gate + Sync,
 >(
-    rt: &R,
-    alloc: Global,
-    problem: &Problem,
-    table: &Table,
-    searcher: &F,
+    team: &Team<'_, R, F, G>,
     best: Arc<Roster>,
     workers: usize,
-    gate: &G,
     blank: Blank,
 ) -> Result<Solved, AllocError>
-    requires table { IsTableOf problem.now table.now }
-    requires searcher { F.task searcher.now ≡ record { problem = problem.now; table = table.now } }
-    requires persons { 0 < length problem.now.persons }
+    requires persons { 0 < length team.now.problem.persons }
     requires workers { 0 < workers }
     requires name { blank.name ≡ L.name }
     requires parts { blank.parts ≡ L.parts }
     requires one_each { blank.parts ≡ workers }
-    ensures best { IfOk result (λ solved. IsBestKey problem.now (arc_value solved.roster)) }
+    ensures best { IfOk result (λ solved. IsBestKey team.now.problem (arc_value solved.roster)) }
     ensures once { IfOk result (λ solved. solved.fallbacks ≤ 1) }
 {
+    let (alloc, problem, table) = (team.alloc, team.problem, team.table);
     let widths = widths_of(alloc, problem, table)?;
     let (state, shares) = match PoolState::<L>::start(alloc, &widths, workers, blank) {
         Ok(started) => started,
@@ -61,13 +53,11 @@ pub fn work_together<
     let pool = Pool::new(state);
     let incumbent = Incumbent::new(best);
     let jobs = jobs_of(alloc, shares)?;
-    let parts = work_all(
-        rt, alloc, problem, table, searcher, &pool, &incumbent, jobs, gate,
-    )?;
+    let parts = work_all(team, &pool, &incumbent, jobs)?;
     let (shares, lists) = handed_in(alloc, parts)?;
     match pool.into_state().close(shares) {
-        Ok(closed) => combine(alloc, problem, table, searcher, lists, closed),
-        Err(_) => solved_again(alloc, problem, table, searcher),
+        Ok(closed) => combine(alloc, problem, table, team.searcher, lists, closed),
+        Err(_) => solved_again(alloc, problem, table, team.searcher),
     }
 }
 
@@ -78,34 +68,25 @@ fn work_all<
     F: SpanSearch + Sync,
     G: Gate + Sync,
 >(
-    rt: &R,
-    alloc: Global,
-    problem: &Problem,
-    table: &Table,
-    searcher: &F,
+    team: &Team<'_, R, F, G>,
     pool: &Pool<L>,
     incumbent: &Incumbent,
     jobs: Vec<(usize, Share<L>)>,
-    gate: &G,
 ) -> Result<Vec<Result<(Share<L>, Vec<Settled>), AllocError>>, AllocError>
-    requires table { IsTableOf problem.now table.now }
-    requires searcher { F.task searcher.now ≡ record { problem = problem.now; table = table.now } }
     ensures shares { IfOk result (λ parts. vec_len parts ≡ vec_len jobs) }
     ensures settled { IfOk result (λ parts.
-        All (λ part. IfOk part (λ handed. AreSettled problem.now table.now handed.1.items)) parts.items) }
+        All (λ part. IfOk part (λ handed.
+        AreSettled team.now.problem team.now.table handed.1.items)) parts.items) }
 {
     let part = |job: (usize, Share<L>)| -> Result<(Share<L>, Vec<Settled>), AllocError>
-        requires { IsTableOf problem.now table.now
-            × (F.task searcher.now ≡ record { problem = problem.now; table = table.now }) }
-        ensures { IfOk result (λ handed. AreSettled problem.entry.now table.entry.now handed.1.items) }
+        ensures { IfOk result (λ handed.
+            AreSettled team.entry.now.problem team.entry.now.table handed.1.items) }
     {
         let (worker, mut share) = job;
-        let list = work(
-            rt, alloc, problem, table, searcher, pool, incumbent, worker, &mut share, gate,
-        )?;
+        let list = work(team, pool, incumbent, worker, &mut share)?;
         Ok((share, list))
     };
-    let parts = map_vec(rt, jobs, &part)?;
+    let parts = map_vec(team.rt, jobs, &part)?;
     Ok(parts)
 }
 

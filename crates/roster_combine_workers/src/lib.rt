@@ -5,6 +5,7 @@
 //!
 //! - `span_search`: what searches spans
 //! - `root`: one search of all rosters
+//! - `team`: what workers of one run share
 //! - `watcher`: looks of a worker's search, at a gate
 //! - `working`: what a worker does
 //! - `combining`: the least of all that workers found
@@ -19,6 +20,7 @@ mod laws;
 mod root;
 mod span_search;
 mod stage;
+mod team;
 mod watcher;
 mod working;
 
@@ -29,4 +31,5 @@ pub use root::first_known;
 pub use roster_incumbent::{Gate, Open, Point};
 pub use span_search::SpanSearch;
 pub use stage::replay_steps;
+pub use team::Team;
 pub use working::work;

@@ -3,20 +3,18 @@
 ghost use Rattle.std.specs.Prelude.{◌≡◌, ◌≢◌, ◌+◌, IfOk, IfSome, MatchOption, OnErr, OnOk};
 ghost use Rattle.std.specs.Prelude.{vec_len};
 ghost use Rattle.std.specs.Arc.{arc_value};
-ghost use Rattle.roster_lines_table.specs.Person.{IsTableOf};
 ghost use Rattle.roster_model.specs.Settled.{IsHeld};
 ghost use Rattle.roster_combine_workers.specs.Parts.{AreSettled, IsSettled};
 
 use crate::root::{first_known, found};
 use crate::span_search::SpanSearch;
+use crate::team::Team;
 use crate::watcher::Watcher;
 use roster_incumbent::{Gate, Incumbent, Point};
-use roster_lines_table::Table;
-use roster_problem::Problem;
 use roster_subtreepool::{Pool, PoolFault, Settled, Share};
 use roster_subtreepool_spans::{Done, Piece};
 use roster_values::Roster;
-use std::alloc::{AllocError, Global};
+use std::alloc::AllocError;
 use std::marker::Model;
 use std::sync::ledger::Ledger;
 use std::sync::{Arc, Wait};
@@ -30,36 +28,24 @@ use std::sync::{Arc, Wait};
 /// is the answer. If memory runs out, the pool is stopped too, and its hand stays full. It may wait for a
 /// span and for the locks.
 pub fn work<R: Wait, L: Ledger, F: SpanSearch, G: Gate>(
-    rt: &R,
-    alloc: Global,
-    problem: &Problem,
-    table: &Table,
-    searcher: &F,
+    team: &Team<'_, R, F, G>,
     pool: &Pool<L>,
     incumbent: &Incumbent,
     worker: usize,
     share: &mut Share<L>,
-    gate: &G,
 ) -> Result<Vec<Settled>, AllocError>
-    requires table { IsTableOf problem.now table.now }
-    requires searcher { F.task searcher.now ≡ record { problem = problem.now; table = table.now } }
-    ensures settled { IfOk result (λ list. AreSettled problem.now table.now list.items) }
+    ensures settled { IfOk result (λ list. AreSettled team.now.problem team.now.table list.items) }
     ensures counted { IfOk result (λ list. share.new ≡ share.old + vec_len list) }
 {
     let worker = Worker {
-        rt,
-        alloc,
-        problem,
-        table,
-        searcher,
+        team,
         pool,
         incumbent,
         number: worker,
-        gate,
     };
     let done = worker.turns(share);
     if done.is_err() {
-        pool.stop(rt);
+        pool.stop(team.rt);
     }
     done
 }
@@ -67,28 +53,18 @@ pub fn work<R: Wait, L: Ledger, F: SpanSearch, G: Gate>(
 /// A worker of a pool. Contracts see it as the problem and its table of lines.
 #[derive(Drop)]
 struct Worker<'a, R, L: Ledger, F: SpanSearch, G> {
-    rt: &'a R,
-    alloc: Global,
-    problem: &'a Problem,
-    table: &'a Table,
-    searcher: &'a F,
+    team: &'a Team<'a, R, F, G>,
     pool: &'a Pool<L>,
     incumbent: &'a Incumbent,
     number: usize,
-    gate: &'a G,
 }
 
 impl<'a, R, L: Ledger, F: SpanSearch, G> Model for Worker<'a, R, L, F, G> {
-    ghost use Rattle.std.specs.Prelude.{◌≡◌};
-    ghost use Rattle.roster_lines_table.specs.Person.{IsTableOf};
     ghost use Rattle.roster_combine_workers.specs.Parts.{Task};
 
     ghost Value = { Task };
 
-    ghost view = { λ w. record { problem = w.problem.now; table = w.table.now } };
-
-    ghost invariant = { λ w. IsTableOf w.problem.now w.table.now
-        × (F.task w.searcher.now ≡ record { problem = w.problem.now; table = w.table.now }) };
+    ghost view = { λ w. w.team.now };
 }
 
 impl<'a, R: Wait, L: Ledger, F: SpanSearch, G: Gate> Worker<'a, R, L, F, G> {
@@ -97,9 +73,10 @@ impl<'a, R: Wait, L: Ledger, F: SpanSearch, G: Gate> Worker<'a, R, L, F, G> {
         ensures settled { IfOk result (λ list. AreSettled self.now.problem self.now.table list.items) }
         ensures counted { IfOk result (λ list. share.new ≡ share.old + vec_len list) }
     {
-        let mut known = first_known(self.alloc, self.problem)?;
-        let mut list: Vec<Settled> = Vec::new(self.alloc);
-        for _ in self.rt.forever() {
+        let team = self.team;
+        let mut known = first_known(team.alloc, team.problem)?;
+        let mut list: Vec<Settled> = Vec::new(team.alloc);
+        for _ in team.rt.forever() {
             match self.turn(&known, share)? {
                 Some(settled) => {
                     known = Arc::try_clone(&settled.best)?;
@@ -121,14 +98,16 @@ impl<'a, R: Wait, L: Ledger, F: SpanSearch, G: Gate> Worker<'a, R, L, F, G> {
         let Some(piece) = self.next(known)? else {
             return Ok(None);
         };
-        self.gate.pass(self.number, Point::Ready);
+        let team = self.team;
+        team.gate.pass(self.number, Point::Ready);
         let done = self.searched(piece, known)?;
         self.finished(done, share)
     }
 
     /// What the worker keeps of a span from the pool.
     fn next(&self, known: &Roster) -> Result<Option<Piece>, AllocError> {
-        match self.pool.wait_take(self.rt, self.number) {
+        let team = self.team;
+        match self.pool.wait_take(team.rt, self.number) {
             Ok(Some(piece)) => self.shared(piece, known),
             Ok(None) => Ok(None),
             Err(fault) => {
@@ -141,12 +120,13 @@ impl<'a, R: Wait, L: Ledger, F: SpanSearch, G: Gate> Worker<'a, R, L, F, G> {
     /// What the worker keeps of the piece, once something is pending for others or it can't be split. It
     /// keeps all of it if nothing comes before its roster: then the search ends as soon as it begins.
     fn shared(&self, piece: Piece, known: &Roster) -> Result<Option<Piece>, AllocError> {
-        if self.searcher.none_before(known) {
+        let team = self.team;
+        if team.searcher.none_before(known) {
             return Ok(Some(piece));
         }
         let mut piece = piece;
-        for _ in self.rt.forever() {
-            if !self.pool.short(self.rt) {
+        for _ in team.rt.forever() {
+            if !self.pool.short(team.rt) {
                 break;
             }
             match self.split(piece) {
@@ -164,8 +144,9 @@ impl<'a, R: Wait, L: Ledger, F: SpanSearch, G: Gate> Worker<'a, R, L, F, G> {
 
     /// The lower half of the piece, or of one line the lines of the next person.
     fn split(&self, piece: Piece) -> Result<Piece, (PoolFault, Piece)> {
-        match self.pool.halve(self.rt, self.number, piece) {
-            Err((PoolFault::CannotSplit, line)) => self.pool.descend(self.rt, self.number, line),
+        let team = self.team;
+        match self.pool.halve(team.rt, self.number, piece) {
+            Err((PoolFault::CannotSplit, line)) => self.pool.descend(team.rt, self.number, line),
             halved => halved,
         }
     }
@@ -176,13 +157,14 @@ impl<'a, R: Wait, L: Ledger, F: SpanSearch, G: Gate> Worker<'a, R, L, F, G> {
         ensures { IfOk result (λ done. IsSettled self.now.problem self.now.table
             (record { span = done.piece; best = arc_value done.best })) }
     {
+        let team = self.team;
         let mut sight = Watcher {
-            rt: self.rt,
+            rt: team.rt,
             incumbent: self.incumbent,
-            gate: self.gate,
+            gate: team.gate,
             worker: self.number,
         };
-        found(self.searcher.search(piece, &mut sight, 1, known))
+        found(team.searcher.search(piece, &mut sight, 1, known))
     }
 
     /// Raises the incumbent to what was found, and finishes the span. None if the pool refuses that.
@@ -193,16 +175,17 @@ impl<'a, R: Wait, L: Ledger, F: SpanSearch, G: Gate> Worker<'a, R, L, F, G> {
         ensures counted { IfOk result (λ got. MatchOption got (share.new ≡ share.old)
             (λ _. share.new ≡ share.old + 1)) }
     {
+        let team = self.team;
         match Arc::try_clone(&done.best) {
-            Ok(best) => self.incumbent.raise(self.rt, best),
+            Ok(best) => self.incumbent.raise(team.rt, best),
             Err(refused) => {
                 forgo(done);
                 return Err(refused);
             }
         }
-        match self.pool.finish(self.rt, self.number, done, share) {
+        match self.pool.finish(team.rt, self.number, done, share) {
             Ok(settled) => {
-                self.gate.pass(self.number, Point::Finished);
+                team.gate.pass(self.number, Point::Finished);
                 Ok(Some(settled))
             }
             Err((fault, done)) => {
@@ -218,10 +201,11 @@ impl<'a, R: Wait, L: Ledger, F: SpanSearch, G: Gate> Worker<'a, R, L, F, G> {
         ensures passed { OnOk result (fault ≢ PoolFault.Memory) }
         ensures memory { OnErr result (fault ≡ PoolFault.Memory) }
     {
+        let team = self.team;
         match fault {
             PoolFault::Memory => Err(AllocError),
             PoolFault::NotYours | PoolFault::CannotSplit | PoolFault::Nothing => {
-                self.pool.stop(self.rt);
+                self.pool.stop(team.rt);
                 Ok(())
             }
         }
