@@ -6,7 +6,8 @@ ghost use Rattle.std.specs.Arc.{arc_value};
 ghost use Rattle.roster_lines_table.specs.Person.{IsTableOf};
 ghost use Rattle.roster_incumbent.specs.Kept.{IsEarlierOf};
 ghost use Rattle.roster_subtreepool_spans.specs.Spans.{Span as PlainSpan};
-ghost use Rattle.roster_combine_workers.specs.Parts.{Agree, AreSettled, IsBestKey, IsLeastOf, IsLeastOfAll, span_of};
+ghost use Rattle.roster_combine_workers.specs.Parts.{Agree, AreSettled, IsBestKey, IsLeastOf};
+ghost use Rattle.roster_combine_workers.specs.Parts.{IsLeastOfAll, span_of};
 ghost use Rattle.roster_combine_workers.specs.Parts.{spans_by};
 
 use crate::root::{first_known, search_root, widths_of};
@@ -116,8 +117,8 @@ fn least_agreed(
 
 /// The least roster among those handed in and the known one.
 fn least_of(lists: &[Vec<Settled>], known: Arc<Roster>) -> Result<Arc<Roster>, AllocError>
-    ensures { IfOk result (λ best.
-        IsLeastOfAll (map (λ list. list.items) lists.now) (length lists.now) (arc_value known) (arc_value best)) }
+    ensures { IfOk result (λ best. IsLeastOfAll (map (λ list. list.items) lists.now) (length lists.now)
+        (arc_value known) (arc_value best)) }
 {
     keys_are_in_order();
     let mut best = known;
@@ -179,7 +180,8 @@ fn are_workers(count: usize, finished: &[(usize, Span)]) -> bool
 /// Whether each list has just the spans that its worker finished.
 fn are_lists_of(lists: &[Vec<Settled>], finished: &[(usize, Span)]) -> bool
     ensures { IsTrue result ↔ ((worker : ℕ) → worker < length lists.now
-        → map span_of (slice_index_or (map (λ list. list.items) lists.now) worker []) ≡ spans_by worker finished.now) }
+        → map span_of (slice_index_or (map (λ list. list.items) lists.now) worker [])
+        ≡ spans_by worker finished.now) }
 {
     for worker in 0..lists.len() {
         if !is_list_of(&lists[worker], worker, finished) {

@@ -15,7 +15,8 @@ use roster_subtreepool::Closed;
 /// end by any events of any workers, and each finished span may be settled by any roster: nothing is asked
 /// of how it was found, or of what was seen meanwhile.
 pub fn least_handed_in_is_best(closed: &Closed)
-    ensures { (problem : Problem) (table : List (List Entry)) (lists : List (List SettledSpan)) (known best : Key)
+    ensures { (problem : Problem) (table : List (List Entry)) (lists : List (List SettledSpan))
+        (known best : Key)
         → IsTableOf problem table → Agree (map length table) lists closed.now
         → All (AreSettled problem table) lists → IsHeld problem known
         → IsLeastOfAll lists (length lists) known best → IsBestKey problem best }
