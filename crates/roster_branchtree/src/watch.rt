@@ -20,8 +20,8 @@ use std::alloc::{AllocError, Global};
 use std::marker::Model;
 use std::sync::Arc;
 
-/// Counts the nodes of a search, and looks at a sight at each node whose number `every` divides; never
-/// if that is 0. It ends no search. It has the earliest legal roster of those that it began with and has seen.
+/// Counts the nodes of a search, and looks at a sight at each node whose number `every` divides; never if
+/// that is 0. It ends no search. It has the earliest legal roster of those that it began with and has seen.
 #[derive(Drop)]
 pub(crate) struct Watch<'a, S> {
     problem: &'a Problem,

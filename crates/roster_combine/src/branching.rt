@@ -115,8 +115,8 @@ pub fn work<R: Wait, L: Ledger, G: Gate>(
     roster_combine_workers::work(&team, pool, incumbent, worker, share)
 }
 
-/// `roster_combine_workers::combine`, which searches by branch and bound if what workers handed in doesn't agree with
-/// the pool. The tables for that are made first, so want of memory may be told though all agrees.
+/// `roster_combine_workers::combine`, which searches by branch and bound if what workers handed in doesn't
+/// agree with the pool. The tables for that are made first, so want of memory may be told though all agrees.
 pub fn combine(
     alloc: Global,
     problem: &Problem,

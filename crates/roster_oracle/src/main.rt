@@ -1,5 +1,5 @@
-//! `roster-oracle`: the plain answer to a small book, to be read beside the definitions, and compared with what
-//! `roster` says.
+//! `roster-oracle`: the plain answer to a small book, to be read beside the definitions, and compared with
+//! what `roster` says.
 //!
 //! - `answering`: `answer`, which tries all rosters of a small book
 //!
@@ -14,8 +14,8 @@ use std::io::{Read, Write};
 use std::process::ExitCode;
 use std::{env, io};
 
-/// Writes the answer. The status is 1 if there is none: the command line is refused, memory ran out, or a device
-/// failed.
+/// Writes the answer. The status is 1 if there is none: the command line is refused, memory ran out, or a
+/// device failed.
 fn main(rt: HostRuntime) -> ExitCode {
     match answered(&rt) {
         Some(()) => ExitCode::SUCCESS,

@@ -62,8 +62,8 @@ impl<'a> Bounds<'a> {
     }
 }
 
-/// The month with greater bounds of its bases, if prices give them, with rosters of columns, and with the best
-/// rosters of bases, if those are found. The looks of an effort go on from those that there were before.
+/// The month with greater bounds of its bases, if prices give them, with rosters of columns, and with the
+/// best rosters of bases, if those are found. The looks of an effort go on from those that there were before.
 pub(crate) fn bounded<'a, R: Threads + Sync, W: Watcher>(
     rt: &R,
     lent: &Lent<'a>,
@@ -108,8 +108,8 @@ pub(crate) fn bounded<'a, R: Threads + Sync, W: Watcher>(
     Ok(month)
 }
 
-/// Passes over bases whose best roster is known, and tells the others what their rosters cost now. They have their
-/// first look if there is to be one and there was none.
+/// Passes over bases whose best roster is known, and tells the others what their rosters cost now. They have
+/// their first look if there is to be one and there was none.
 fn renew<'a, R: Threads + Sync>(
     rt: &R,
     lent: &Lent<'a>,
@@ -130,7 +130,8 @@ fn renew<'a, R: Threads + Sync>(
     Ok(())
 }
 
-/// Looks at first prices of the bases whose best roster isn't known, if there are to be looks and there were none.
+/// Looks at first prices of the bases whose best roster isn't known, if there are to be looks and there were
+/// none.
 fn begin<'a, R: Threads + Sync>(
     rt: &R,
     lent: &Lent<'a>,
@@ -278,7 +279,8 @@ fn look_all<R: Threads + Sync>(
     for_each_mut(rt, gaps, threads, &look);
 }
 
-/// Looks at other prices of a base, whose persons so many threads share, or, in the end, shows what looks claim.
+/// Looks at other prices of a base, whose persons so many threads share, or, in the end, shows what looks
+/// claim.
 fn look_on<R: Threads + Sync>(
     rt: &R,
     alloc: Global,

@@ -33,11 +33,12 @@ const HUNDREDTHS: [usize; 2] = [15, 5];
 /// A dive of a base may look at so much less than looks at prices may.
 const DIVES_A_LOOK: u64 = 2;
 
-/// So many dives of a few persons begin with the same roster. What a plan comes to hangs on this number, and not on
-/// how many threads share them.
+/// So many dives of a few persons begin with the same roster. What a plan comes to hangs on this number, and
+/// not on how many threads share them.
 const DIVES_AT_ONCE: usize = 4;
 
-/// How often there are so many with each effort more, at most, and how many in a row that find nothing are enough.
+/// How often there are so many with each effort more, at most, and how many in a row that find nothing are
+/// enough.
 const ROUNDS_AN_EFFORT: u32 = 8;
 
 const IDLE_ROUNDS: u32 = 20;

@@ -5,8 +5,8 @@ use roster_plan_bound::Pricing;
 use roster_problem::Problem;
 use std::alloc::Global;
 
-/// What all steps of a plan are lent: memory, the problem, the pairs of each person, and what looks at prices need of
-/// them.
+/// What all steps of a plan are lent: memory, the problem, the pairs of each person, and what looks at prices
+/// need of them.
 #[derive(Drop)]
 pub(crate) struct Lent<'a> {
     pub(crate) alloc: Global,

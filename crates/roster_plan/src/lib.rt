@@ -3,11 +3,11 @@
 //! `plan` answers every problem, also one with far more legal sets than can be listed. Nobody flies a pairing
 //! of another base, so each base is planned apart. If it has few legal sets, they are searched whole. Else
 //! `plan` begins with what is legal of a given roster, improves it by a fixed number of random changes, then
-//! by searches of neighbourhoods. Prices bound what the base costs, rosters are made of what they know, and what
-//! costs little more is searched. All this is done for each effort from 0 on, and goes on from what less effort found.
-//! `plan` promises neither the best roster nor a near one: each step keeps the roster legal, and the result
-//! is the earliest of what is kept of the given one, of no pairings at all, and of what was found. In reading
-//! order:
+//! by searches of neighbourhoods. Prices bound what the base costs, rosters are made of what they know, and
+//! what costs little more is searched. All this is done for each effort from 0 on, and goes on from what less
+//! effort found. `plan` promises neither the best roster nor a near one: each step keeps the roster legal,
+//! and the result is the earliest of what is kept of the given one, of no pairings at all, and of what was
+//! found. In reading order:
 //!
 //! - `kept`: what is legal of a given roster
 //! - `means`: what a plan may take

@@ -14,8 +14,8 @@ const FEWEST_LOOKS: u32 = 8;
 
 const LOOKS_AN_EFFORT: u32 = 12;
 
-/// There are more if they are cheap: as many as take one of so many parts of the time that there is for pairs, but no
-/// more than so many.
+/// There are more if they are cheap: as many as take one of so many parts of the time that there is for
+/// pairs, but no more than so many.
 const PART_FOR_CHEAP: u64 = 8;
 
 const MOST_LOOKS: u64 = 1000;
@@ -47,8 +47,8 @@ pub(crate) fn shares(workers: usize, gaps: &[Gap<'_>]) -> (usize, usize)
     }
 }
 
-/// How often an effort and those before it look at the prices of each base that isn't settled: more often the greater
-/// it is, if there is time for so many pairs, and more often still if a look goes through few.
+/// How often an effort and those before it look at the prices of each base that isn't settled: more often the
+/// greater it is, if there is time for so many pairs, and more often still if a look goes through few.
 pub(crate) fn looks_of(problem: &Problem, parts: &[BasePlan], means: &Means) -> u32 {
     let effort = if means.effort < MOST_EFFORT {
         means.effort

@@ -22,15 +22,15 @@ const LINES_IN_A_GAP: usize = 6_000_000;
 /// How many lines nodes may have to look at in one search at effort 0. Each effort more doubles them.
 const FEWEST_WORK: u64 = 1 << 19;
 
-/// How many pairs of a person and a pairing looks at prices go through at effort 0, about; each takes some hundreds
-/// of microseconds. Each effort more doubles them.
+/// How many pairs of a person and a pairing looks at prices go through at effort 0, about; each takes some
+/// hundreds of microseconds. Each effort more doubles them.
 const FEWEST_PAIRS: u64 = 1 << 15;
 
 /// What a plan may take. It is the same plan for any number of workers.
 #[derive(Clone, Copy)]
 pub struct Means {
-    /// How much is tried, from 0 to 9: each one more doubles what a search of a base or of gaps may look at, and adds
-    /// changes of a run, neighbourhoods and looks at prices. What is more counts as 9.
+    /// How much is tried, from 0 to 9: each one more doubles what a search of a base or of gaps may look at,
+    /// and adds changes of a run, neighbourhoods and looks at prices. What is more counts as 9.
     pub effort: u32,
     /// So many threads at most, and one at least, share what is done for
     /// each person, runs of changes, and searches.
@@ -61,8 +61,8 @@ impl Means {
         self.effort.min(MOST_EFFORT).saturating_add(1)
     }
 
-    /// The same with another effort: with as many legal sets as that allows if these are as many as this one allows,
-    /// else with as many as these.
+    /// The same with another effort: with as many legal sets as that allows if these are as many as this one
+    /// allows, else with as many as these.
     pub(crate) fn at(&self, effort: u32) -> Means
         ensures workers { result.workers ≡ self.now.workers }
     {

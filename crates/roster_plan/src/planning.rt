@@ -98,8 +98,8 @@ fn planned_from<R: Threads + Sync, W: Watcher>(
     Ok(month.planned)
 }
 
-/// The month after each effort from 0 on, up to that of the means, unless its best roster is known before. Each does
-/// the same as the last one of less effort, and goes on from what the one before it found.
+/// The month after each effort from 0 on, up to that of the means, unless its best roster is known before.
+/// Each does the same as the last one of less effort, and goes on from what the one before it found.
 fn after_efforts<R: Threads + Sync, W: Watcher>(
     rt: &R,
     lent: &Lent<'_>,
@@ -135,8 +135,8 @@ fn after_efforts<R: Threads + Sync, W: Watcher>(
     Ok(month)
 }
 
-/// The month with the best roster of each base with few legal sets. For the others it has a roster that comes of
-/// changes, and of searches of neighbourhoods, unless it is known that none costs less.
+/// The month with the best roster of each base with few legal sets. For the others it has a roster that comes
+/// of changes, and of searches of neighbourhoods, unless it is known that none costs less.
 fn tried<R: Threads + Sync, W: Watcher>(
     rt: &R,
     lent: &Lent<'_>,

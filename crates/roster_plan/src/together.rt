@@ -43,8 +43,8 @@ struct Attempt {
     found: Option<Result<Nearby, AllocError>>,
 }
 
-/// The month with what is new of the rosters that searches of some neighbourhoods come to, in bases whose best
-/// roster isn't known. The workers share the searches.
+/// The month with what is new of the rosters that searches of some neighbourhoods come to, in bases whose
+/// best roster isn't known. The workers share the searches.
 pub(crate) fn improved_nearby<R: Threads + Sync, W: Watcher>(
     rt: &R,
     lent: &Lent<'_>,
@@ -85,7 +85,8 @@ pub(crate) fn improved_nearby<R: Threads + Sync, W: Watcher>(
     )
 }
 
-/// The neighbourhoods in bases whose best roster isn't known, near the month's roster if it is more than nothing.
+/// The neighbourhoods in bases whose best roster isn't known, near the month's roster if it is more than
+/// nothing.
 pub(crate) fn neighbourhoods_of(
     alloc: Global,
     problem: &Problem,

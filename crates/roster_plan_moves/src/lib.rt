@@ -1,7 +1,7 @@
 //! Which change of a roster is tried next, and which neighbourhood of it is searched next.
 //!
-//! A run makes random changes, each only if the roster stays legal. Nothing rests on what is chosen, so nothing
-//! but legality is promised. In reading order:
+//! A run makes random changes, each only if the roster stays legal. Nothing rests on what is chosen, so
+//! nothing but legality is promised. In reading order:
 //!
 //! - `draft`: a roster that is legal at every moment
 //! - `random`: numbers that look random, the same in each run

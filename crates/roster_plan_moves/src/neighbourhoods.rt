@@ -29,7 +29,8 @@ const PARTS: u32 = 4;
 /// days.
 const FIRST_SIZES: [u32; 3] = [3 * PARTS, 12 * PARTS, 8 * PARTS];
 
-/// The kind of those round a wish, and how large they are at first: of eight days. The others have come before.
+/// The kind of those round a wish, and how large they are at first: of eight days. The others have come
+/// before.
 const WISHES: usize = FIRST_SIZES.len();
 
 const FIRST_SIZE_OF_WISHES: u32 = 8 * PARTS;
@@ -52,8 +53,8 @@ const GROWS_BY: u32 = 1;
 /// How much smaller the next one of a kind is if the search of one is given up.
 const SHRINKS_BY: u32 = PARTS;
 
-/// Neighbourhoods of some persons, of some days, and, if there is a roster to stay near, round what somebody would
-/// fly for fewer units. They grow as long as searches of them end, and shrink if one is given up.
+/// Neighbourhoods of some persons, of some days, and, if there is a roster to stay near, round what somebody
+/// would fly for fewer units. They grow as long as searches of them end, and shrink if one is given up.
 #[derive(Drop)]
 pub struct Neighbourhoods {
     random: Random,
@@ -83,8 +84,9 @@ struct Wish {
 }
 
 impl Neighbourhoods {
-    /// Those of a problem, in bases that are sought. `sought` says of each base, by its number, whether it is;
-    /// one past the list is. If these places give somebody a pairing there, they are of a roster to stay near.
+    /// Those of a problem, in bases that are sought. `sought` says of each base, by its number, whether it
+    /// is; one past the list is. If these places give somebody a pairing there, they are of a roster to stay
+    /// near.
     pub fn new(
         alloc: Global,
         problem: &Problem,
@@ -137,8 +139,9 @@ impl Neighbourhoods {
         })
     }
 
-    /// So many persons of one base, fewer if it has fewer: by chance, but every other time, if a pairing is open there,
-    /// some of them are those who would give up the fewest pairings for it. The pairs are those of each person.
+    /// So many persons of one base, fewer if it has fewer: by chance, but every other time, if a pairing is
+    /// open there, some of them are those who would give up the fewest pairings for it. The pairs are those
+    /// of each person.
     pub fn few(
         &mut self,
         alloc: Global,
@@ -216,7 +219,8 @@ impl Neighbourhoods {
         None
     }
 
-    // The first of those sought, from one of them on, who would fly the pairing for fewer units than who has it.
+    // The first of those sought, from one of them on, who would fly the pairing for fewer units than who has
+    // it.
     fn taker(
         &self,
         problem: &Problem,
@@ -333,7 +337,8 @@ fn has_some(places: &[u16], persons: &[usize]) -> bool {
         .any(|number| persons.contains(&usize::from(*number)))
 }
 
-// How large the kinds of neighbourhoods are at first, those round a wish too if there is a roster to stay near.
+// How large the kinds of neighbourhoods are at first, those round a wish too if there is a roster to stay
+// near.
 fn first_sizes(alloc: Global, is_near: bool) -> Result<Vec<u32>, AllocError> {
     let mut sizes = Vec::new(alloc);
     for size in FIRST_SIZES {

@@ -35,8 +35,8 @@ fn may_have(pairs: &[Pairs], persons: &[usize], p: usize) -> bool {
     false
 }
 
-/// Which of these persons would give up the fewest pairings for pairing `p`, so far as pairs tell it: the first of
-/// them from one on, round the end.
+/// Which of these persons would give up the fewest pairings for pairing `p`, so far as pairs tell it: the
+/// first of them from one on, round the end.
 pub(crate) fn nearest(
     pairs: &[Pairs],
     places: &[u16],
@@ -59,7 +59,8 @@ pub(crate) fn nearest(
     found
 }
 
-/// How many pairings of person `k` aren't legal with pairing `p`; the most there may be, if `p` isn't legal alone.
+/// How many pairings of person `k` aren't legal with pairing `p`; the most there may be, if `p` isn't legal
+/// alone.
 fn hindering(pairs: &[Pairs], places: &[u16], k: usize, p: usize) -> usize {
     let Some(own) = pairs.get(k) else {
         return usize::MAX;

@@ -1,4 +1,5 @@
-//! A run of changes: those are made that save something, and some that don't, the fewer the longer it goes on.
+//! A run of changes: those are made that save something, and some that don't, the fewer the longer it goes
+//! on.
 
 ghost use Rattle.std.specs.Prelude.{◌≡◌, IfOk};
 ghost use Rattle.roster_model.specs.Rosters.{IsLegalRoster};
@@ -26,8 +27,8 @@ pub struct Chances {
 }
 
 /// The places of a legal roster, found from the given ones by so many tries of changes, with the chances of a
-/// seed, in bases that are sought. `sought` says of each base, by its number, whether it is; one past the list
-/// is.
+/// seed, in bases that are sought. `sought` says of each base, by its number, whether it is; one past the
+/// list is.
 pub fn improved_by_changes(
     alloc: Global,
     problem: &Problem,

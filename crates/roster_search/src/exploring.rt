@@ -39,8 +39,8 @@ pub fn first_nodes(
     Ok(nodes)
 }
 
-/// What a roster may cost that costs less than the best one so far, and at most so much; or none, if the search
-/// is over: the best one costs no more than is enough, or nothing is left.
+/// What a roster may cost that costs less than the best one so far, and at most so much; or none, if the
+/// search is over: the best one costs no more than is enough, or nothing is left.
 pub fn limit(budget: Budget, best: &Option<Roster>, left: &[OpenNode]) -> Option<i64>
     ensures limit { IfSome result (λ limit. limit ≡ limit_of budget.most best.now) }
     ensures left { IfSome result (λ _. 0 < length left.now) }
@@ -58,8 +58,8 @@ pub fn limit(budget: Budget, best: &Option<Roster>, left: &[OpenNode]) -> Option
 
 /// Explores the open nodes, the last one first, for a roster that costs at most so much: until one is found
 /// that costs no more than is enough, nothing is left, or the stop ends it. Each roster that is found lowers
-/// what others may cost, and so does one of the whole region that the stop shows. Any relaxation will do for it;
-/// one of a region that has them all makes it short.
+/// what others may cost, and so does one of the whole region that the stop shows. Any relaxation will do for
+/// it; one of a region that has them all makes it short.
 pub fn explore<S: Stop>(
     alloc: Global,
     problem: &Problem,

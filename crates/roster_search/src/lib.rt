@@ -1,9 +1,9 @@
 //! The least roster of a box of lines.
 //!
 //! `least_of_box` answers the least legal roster of a box if it is before a known one; `least_within` is
-//! given up after so much work. `explore` is what drives all searches from node to node, by one thread; a `Stop`
-//! may end it. Each base is searched apart; `roster_search_threads` has several threads do so, by the parts that
-//! are public here. In reading order:
+//! given up after so much work. `explore` is what drives all searches from node to node, by one thread; a
+//! `Stop` may end it. Each base is searched apart; `roster_search_threads` has several threads do so, by the
+//! parts that are public here. In reading order:
 //!
 //! - `boxes`: the least roster of a box, united from those of its bases
 //! - `limited`: a search that is given up once it has done so much work

@@ -70,8 +70,8 @@ fn is_branch(problem: &Problem, region: &Region, branch: Split) -> bool
     }
 }
 
-/// The rosters of the region on the first side of a branch: in them the person has the pairing, the pairing is
-/// flown, or at most so many are open.
+/// The rosters of the region on the first side of a branch: in them the person has the pairing, the pairing
+/// is flown, or at most so many are open.
 pub(crate) fn first_side(
     alloc: Global,
     problem: &Problem,
@@ -100,8 +100,9 @@ pub(crate) fn first_side(
     }
 }
 
-/// Leaves in the region the rosters on the other side of a branch. Of those, too, some are left out if rosters on the
-/// first side cost the same: nobody has the pairing whose lines are those of the person who hasn't.
+/// Leaves in the region the rosters on the other side of a branch. Of those, too, some are left out if
+/// rosters on the first side cost the same: nobody has the pairing whose lines are those of the person who
+/// hasn't.
 pub(crate) fn keep_other_side(
     alloc: Global,
     problem: &Problem,
@@ -127,8 +128,8 @@ pub(crate) fn keep_other_side(
     }
 }
 
-/// Person `k` hasn't the pairing at place `p`, and nobody has whose lines are those of `k`: they and `k` could change
-/// lines, at the same cost.
+/// Person `k` hasn't the pairing at place `p`, and nobody has whose lines are those of `k`: they and `k`
+/// could change lines, at the same cost.
 fn deny_alike(
     alloc: Global,
     problem: &Problem,

@@ -31,8 +31,8 @@ pub(crate) enum Refined {
 }
 
 /// Leaves out of the region what costs more than it may by good prices, and rounds a roster: by those of the
-/// relaxation if it has rows, and else by prices that rise. The prices, from which it begins, are then good ones
-/// for what is left.
+/// relaxation if it has rows, and else by prices that rise. The prices, from which it begins, are then good
+/// ones for what is left.
 pub(crate) fn refine(
     alloc: Global,
     problem: &Problem,
@@ -104,8 +104,8 @@ fn fix_by_solutions(
     Ok(true)
 }
 
-/// Leaves out of the region what costs more than it may by the prices of the last solution, if none before gave
-/// a greater bound. If it answers no, each roster costs more.
+/// Leaves out of the region what costs more than it may by the prices of the last solution, if none before
+/// gave a greater bound. If it answers no, each roster costs more.
 fn fix_by_solution(
     alloc: Global,
     problem: &Problem,

@@ -259,8 +259,8 @@ impl Rise {
         }
     }
 
-    /// Whether a linear program may tell more: it has rows, and something cheaper may be left. Then it has its
-    /// first lines, by the best prices, and the roster that was rounded.
+    /// Whether a linear program may tell more: it has rows, and something cheaper may be left. Then it has
+    /// its first lines, by the best prices, and the roster that was rounded.
     fn begins(
         &mut self,
         alloc: Global,
@@ -329,8 +329,8 @@ impl Rise {
         Ok(())
     }
 
-    /// Leaves out of the part what costs more than may be paid by the prices of the linear program, and rounds a
-    /// roster by them at the end. False if that is no longer worth it.
+    /// Leaves out of the part what costs more than may be paid by the prices of the linear program, and
+    /// rounds a roster by them at the end. False if that is no longer worth it.
     fn narrows(&mut self, alloc: Global, problem: &Problem) -> Result<bool, AllocError>
         requires { IsRegion problem.now self.old.part }
         ensures { IfOk result (λ on. IsTrue on → IsRegion problem.now self.new.part) }

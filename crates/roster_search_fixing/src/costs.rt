@@ -21,8 +21,8 @@ fn rest(region: &Region, cost: i64) -> Option<i64>
     Some(above.rem_euclid(region.unit() as i64))
 }
 
-/// A number up to this one, and no roster of the region costs what lies between: the greatest such number that
-/// is so many units from what it costs that nobody has a pairing, if that can be told.
+/// A number up to this one, and no roster of the region costs what lies between: the greatest such number
+/// that is so many units from what it costs that nobody has a pairing, if that can be told.
 pub fn cost_at_most(problem: &Problem, region: &Region, most: i64) -> i64
     requires { IsRegion problem.now region.now }
     ensures most { result ≤ℤ most }
@@ -38,8 +38,8 @@ pub fn cost_at_most(problem: &Problem, region: &Region, most: i64) -> i64
     }
 }
 
-/// A number above this one, and no roster of the region costs what lies between: the least such number that is
-/// so many units from what it costs that nobody has a pairing, if that can be told.
+/// A number above this one, and no roster of the region costs what lies between: the least such number that
+/// is so many units from what it costs that nobody has a pairing, if that can be told.
 pub fn cost_above(problem: &Problem, region: &Region, most: i64) -> i64
     requires region { IsRegion problem.now region.now }
     requires room { most <ℤ pos (2 ^ 63 - 1) }

@@ -133,7 +133,8 @@ fn settle(
     }
 }
 
-/// The pairings that person `k` can't have, since all lines of somebody else have them, or since they are open.
+/// The pairings that person `k` can't have, since all lines of somebody else have them, or since they are
+/// open.
 fn taken_from(problem: &Problem, region: &Region, k: usize) -> Set
     requires region { IsRegion problem.now region.now }
     requires person { k < length problem.now.persons }
@@ -148,8 +149,8 @@ fn taken_from(problem: &Problem, region: &Region, k: usize) -> Set
     taken
 }
 
-/// Nobody has what somebody else must have, or what is open: one walk through the lines of each person, whatever
-/// they lose. No roster is lost.
+/// Nobody has what somebody else must have, or what is open: one walk through the lines of each person,
+/// whatever they lose. No roster is lost.
 fn deny_taken(alloc: Global, problem: &Problem, region: &mut Region) -> Result<(), AllocError>
     requires { IsRegion problem.now region.old }
     ensures { OnOk result (IsNarrowed problem.now Anything region.old region.new) }

@@ -20,8 +20,8 @@ use std::alloc::{AllocError, Global};
 /// How often a region is tightened at once, at most.
 const MOST_TIGHTENINGS: usize = 32;
 
-/// It is tightened again if what follows takes away more than one in so many of what is left to decide: nothing
-/// else makes the bound rise, and each round looks at all lines.
+/// It is tightened again if what follows takes away more than one in so many of what is left to decide:
+/// nothing else makes the bound rise, and each round looks at all lines.
 const LEAST_PART: usize = 50;
 
 /// How far a cost lies from what it costs that nobody has a pairing, at most, in parts of a cost unit.
@@ -217,8 +217,8 @@ fn tighten_once(
     }
 }
 
-/// Takes away what no roster that costs at most so much has: lines, and open or flown pairings. If it
-/// answers no, the region has no such roster. Any prices will do, and any amount that each open pairing is paid.
+/// Takes away what no roster that costs at most so much has: lines, and open or flown pairings. If it answers
+/// no, the region has no such roster. Any prices will do, and any amount that each open pairing is paid.
 pub fn tighten(
     alloc: Global,
     problem: &Problem,

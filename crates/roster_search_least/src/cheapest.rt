@@ -71,8 +71,8 @@ fn raised(low: i64, high: i64, wanted: i64) -> i64
     if wanted < low { low } else { wanted }
 }
 
-/// The least step between two numbers: a part of what lies between them, or none if they are so far apart that
-/// nothing is known of what is between.
+/// The least step between two numbers: a part of what lies between them, or none if they are so far apart
+/// that nothing is known of what is between.
 fn part_of_gap(low: i64, high: i64) -> i64 {
     let gap = high.saturating_sub(low);
     if gap > MOST_GAP {

@@ -28,8 +28,8 @@ pub trait Finder {
     ghost goes_on: { Self → Self → Type 0 };
 
     /// A roster of the region that costs at most so much, with its cost: a cheapest one, or one that costs no
-    /// more than is enough; or none, and then each of them costs more. Any prices and any relaxation will do for
-    /// it; good ones make it short.
+    /// more than is enough; or none, and then each of them costs more. Any prices and any relaxation will do
+    /// for it; good ones make it short.
     fn find(
         &mut self,
         alloc: Global,

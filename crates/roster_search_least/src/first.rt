@@ -85,9 +85,9 @@ fn settle<F: Finder>(
 /// The roster with the first number at place `p`, if that is before the number of the given one. It is
 /// settled there in the region.
 ///
-/// After one question about the first person who may have the pairing, it asks for all earlier numbers at once, and
-/// then for those before the one that was found: to see that there is none takes about as long for all persons as
-/// for one.
+/// After one question about the first person who may have the pairing, it asks for all earlier numbers at
+/// once, and then for those before the one that was found: to see that there is none takes about as long for
+/// all persons as for one.
 fn earlier_at<F: Finder>(
     alloc: Global,
     problem: &Problem,
@@ -124,8 +124,9 @@ fn earlier_at<F: Finder>(
     Ok(first)
 }
 
-/// The number at place `p` of the given roster; or that of the first person who may have the pairing there, with a
-/// roster of the region that costs no more, if there is one. If only one person may have it, nothing is asked yet.
+/// The number at place `p` of the given roster; or that of the first person who may have the pairing there,
+/// with a roster of the region that costs no more, if there is one. If only one person may have it, nothing
+/// is asked yet.
 fn first_found<F: Finder>(
     alloc: Global,
     problem: &Problem,

@@ -18,8 +18,8 @@ use roster_search_relaxation::Relaxation;
 use roster_values::{Places, Roster};
 use std::alloc::{AllocError, Global};
 
-/// Good prices for a region, the linear program that makes good ones for its parts, what the least roster likely
-/// costs, and the places of the cheapest one that was rounded. Nothing rests on any of them.
+/// Good prices for a region, the linear program that makes good ones for its parts, what the least roster
+/// likely costs, and the places of the cheapest one that was rounded. Nothing rests on any of them.
 #[derive(Drop)]
 pub struct RootPrices {
     /// The prices.

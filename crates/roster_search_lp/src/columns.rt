@@ -50,8 +50,8 @@ pub(crate) struct Column {
     end: usize,
 }
 
-/// A column that may be used, and where its ones or minus ones stand in the list of all columns' rows: to look at many
-/// takes little memory.
+/// A column that may be used, and where its ones or minus ones stand in the list of all columns' rows: to
+/// look at many takes little memory.
 #[derive(Clone, Copy)]
 pub(crate) struct Usable {
     pub(crate) c: usize,

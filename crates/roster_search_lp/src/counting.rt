@@ -25,8 +25,8 @@ impl Simplex {
         }
     }
 
-    /// If less than nothing is used of the column of a count that is basic in a row, the other one of the count
-    /// takes its place.
+    /// If less than nothing is used of the column of a count that is basic in a row, the other one of the
+    /// count takes its place.
     pub(crate) fn mend_count(&mut self, count: Count, row: usize) -> Result<(), AllocError> {
         if self.inverse.amount(row) >= 0 {
             return Ok(());

@@ -198,8 +198,9 @@ impl Simplex {
         Ok(true)
     }
 
-    // Has nothing used of the row's column, if that is as little as the sides of rows differ by chance. Then the same
-    // columns fill several rows, which can't all have a little more than a whole. False if it is much.
+    // Has nothing used of the row's column, if that is as little as the sides of rows differ by chance. Then
+    // the same columns fill several rows, which can't all have a little more than a whole. False if it is
+    // much.
     fn excuse(&mut self, wrong: Wrong) -> bool {
         let amount = self.inverse.amount(wrong.row);
         if amount.unsigned_abs() > LEAST_USED.unsigned_abs() {
@@ -248,8 +249,8 @@ impl Simplex {
         }
     }
 
-    // Moves the duals so far along a row that what they pay is as much as a solution may cost: nothing that may be
-    // used takes the place of the row's column, so they pay for nothing too much.
+    // Moves the duals so far along a row that what they pay is as much as a solution may cost: nothing that
+    // may be used takes the place of the row's column, so they pay for nothing too much.
     fn lean(&mut self, wrong: Wrong) {
         let far = self.columns.greatest().saturating_mul(FORBIDDEN_FACTOR);
         let lack = self.dual.limit.saturating_sub(self.value());

@@ -286,8 +286,8 @@ pub(crate) fn is_less(now: (i64, i64), least: (i64, i64)) -> bool {
     left < right || (left == right && now.1 > least.1)
 }
 
-/// Divides the row by a number, and lists what isn't 0. One division of words of 128 bits takes as long as some
-/// products, so there is one for the whole row.
+/// Divides the row by a number, and lists what isn't 0. One division of words of 128 bits takes as long as
+/// some products, so there is one for the whole row.
 fn divide(row: &mut [i64], by: i64, cells: &mut Vec<Cell>) -> Result<(), AllocError> {
     let factor = part_of(WHOLE, by);
     for (at, number) in row.iter_mut().enumerate() {

@@ -4,11 +4,11 @@
 //! bound that holds; so the contracts say which lines it has, that each dual price is within its limit, and
 //! nothing of an optimum.
 //!
-//! It is solved by a simplex method with a dense inverse, in whole numbers: it comes to the same on every machine.
-//! Columns that become forbidden leave the basis by dual steps, and others enter it by primal ones. Each call of
-//! `solve` ends after a number of steps that depends on the rows and columns.
-//! One program serves for a whole search: columns are only added, marks say which of them may be used at a
-//! node, and `solve` goes on from the basis before. In reading order:
+//! It is solved by a simplex method with a dense inverse, in whole numbers: it comes to the same on every
+//! machine. Columns that become forbidden leave the basis by dual steps, and others enter it by primal ones.
+//! Each call of `solve` ends after a number of steps that depends on the rows and columns. One program serves
+//! for a whole search: columns are only added, marks say which of them may be used at a node, and `solve`
+//! goes on from the basis before. In reading order:
 //!
 //! - `tuning`: the numbers that decide how exact it is and how long it takes
 //! - `limits`: how far dual prices go, and shares

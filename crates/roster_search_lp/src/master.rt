@@ -152,8 +152,8 @@ impl Master {
         Ok(())
     }
 
-    /// Begins with another part of all rosters, of which none is sought that costs more than the limit, in parts of
-    /// a cost unit. At first any may be.
+    /// Begins with another part of all rosters, of which none is sought that costs more than the limit, in
+    /// parts of a cost unit. At first any may be.
     pub fn begin(&mut self, limit: i64) -> Result<(), AllocError>
         ensures { self.new ≡ self.old }
     {
@@ -222,16 +222,16 @@ impl Master {
         times(amount, i64::from(MOST_SHARE)).max(0).unsigned_abs()
     }
 
-    /// Has at least so many pairings open, and at most so many, from the next solution on. At first any number
-    /// may be open.
+    /// Has at least so many pairings open, and at most so many, from the next solution on. At first any
+    /// number may be open.
     pub fn count_open(&mut self, least: usize, most: usize) -> Result<(), AllocError>
         ensures { self.new ≡ self.old }
     {
         self.simplex.put_counts(least, most)
     }
 
-    /// What one open pairing more is paid by the last solution, since so many must be open, or costs, since no
-    /// more may be: in parts of a cost unit.
+    /// What one open pairing more is paid by the last solution, since so many must be open, or costs, since
+    /// no more may be: in parts of a cost unit.
     pub fn count_dual(&self) -> i64
         ensures { IsDual result }
     {
@@ -253,8 +253,8 @@ impl Master {
         }
     }
 
-    /// Leaves out the dearest columns that the solution doesn't use, until so many columns are left or none is
-    /// unused; the empty lines and the open pairings stay.
+    /// Leaves out the dearest columns that the solution doesn't use, until so many columns are left or none
+    /// is unused; the empty lines and the open pairings stay.
     pub fn forget(&mut self, alloc: Global, most: usize) -> Result<(), AllocError>
         ensures persons { length self.new.lines ≡ length self.old.lines }
         ensures prices { self.new.prices ≡ self.old.prices }

@@ -236,8 +236,8 @@ impl Simplex {
         self.inverse.duals(&self.costs, &mut self.duals);
     }
 
-    /// Solves it without what is forbidden; or, if that takes too long or it is dear by now, with what is forbidden
-    /// at that cost.
+    /// Solves it without what is forbidden; or, if that takes too long or it is dear by now, with what is
+    /// forbidden at that cost.
     pub(crate) fn solve(&mut self) -> Result<(), AllocError> {
         if self.raises == 0 {
             if self.solve_without()? {
@@ -250,8 +250,8 @@ impl Simplex {
         self.improve(self.most_pivots())
     }
 
-    /// Goes from basis to basis, until no column costs less than is paid for it, or there were so many. The duals
-    /// move with each pivot; they are computed anew after the last one.
+    /// Goes from basis to basis, until no column costs less than is paid for it, or there were so many. The
+    /// duals move with each pivot; they are computed anew after the last one.
     pub(crate) fn improve(&mut self, most: usize) -> Result<(), AllocError> {
         let mut made: usize = 0;
         for _ in 0..most {

@@ -17,8 +17,8 @@ use std::alloc::{AllocError, Global};
 /// One whole, of which covers are parts.
 pub(crate) const WHOLE: u64 = 65_536;
 
-/// What a look is taken at: the prices, the persons and pairings that are left, and how far above the least of
-/// its person a line is listed, if any is.
+/// What a look is taken at: the prices, the persons and pairings that are left, and how far above the least
+/// of its person a line is listed, if any is.
 #[derive(Clone, Copy)]
 pub(crate) struct Aim<'a> {
     pub(crate) prices: &'a DualPrices,

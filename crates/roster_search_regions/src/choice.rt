@@ -12,8 +12,8 @@ pub(crate) const MOST_EXTRA: u64 = 1 << 52;
 /// A dual price, at most, and below 0, in parts of a cost unit.
 pub(crate) const MOST_DUAL_PRICE: u64 = 1 << 42;
 
-/// What lines cost more than the empty one, or less, and penalties, if a cost unit has several parts: dual prices
-/// are about as large, and one that is cut off at `MOST_DUAL_PRICE` says nothing.
+/// What lines cost more than the empty one, or less, and penalties, if a cost unit has several parts: dual
+/// prices are about as large, and one that is cut off at `MOST_DUAL_PRICE` says nothing.
 pub(crate) const FAIR_DUAL_PRICE: u64 = MOST_DUAL_PRICE / 4;
 
 /// What a line costs more than the empty one less the prices of its pairings, at most, and below 0, in parts

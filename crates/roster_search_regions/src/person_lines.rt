@@ -118,8 +118,8 @@ impl<'a> PersonLines<'a> {
     }
 }
 
-/// The value of the choice to which a walk goes on: what its line costs more than the empty one, less the prices of its
-/// pairings. The sums are those of the prices on the way, by depth.
+/// The value of the choice to which a walk goes on: what its line costs more than the empty one, less the
+/// prices of its pairings. The sums are those of the prices on the way, by depth.
 #[inline]
 pub fn value_of(choice: &Choice, prices: &[i64], sums: &mut [i64]) -> i64 {
     let depth = usize::from(choice.depth);

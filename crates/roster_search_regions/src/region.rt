@@ -21,9 +21,10 @@ use std::alloc::{AllocError, Global};
 use std::marker::Model;
 
 /// Some rosters: for each person the lines that are allowed, which pairings must be open and which must not,
-/// and how many are open at least and at most. Costs are in parts of a cost unit, and those of a line are what
-/// it costs more than the person's empty one. Lines stay in the table if many of a person's are left, and few
-/// are copied. A copy of a region takes little memory, since lines are shared until one of the two changes.
+/// and how many are open at least and at most. Costs are in parts of a cost unit, and those of a line are
+/// what it costs more than the person's empty one. Lines stay in the table if many of a person's are left,
+/// and few are copied. A copy of a region takes little memory, since lines are shared until one of the two
+/// changes.
 #[derive(Drop)]
 pub struct Region {
     pub(crate) persons: Vec<Shared>,

@@ -98,8 +98,8 @@ impl Relaxation {
         mapped
     }
 
-    /// Begins with a part of the region, of which a roster may cost so much, in parts of a cost unit and without
-    /// what empty lines cost: dearer solutions aren't sought.
+    /// Begins with a part of the region, of which a roster may cost so much, in parts of a cost unit and
+    /// without what empty lines cost: dearer solutions aren't sought.
     pub fn begin(
         &mut self,
         alloc: Global,

@@ -95,7 +95,8 @@ impl Gains {
         }
     }
 
-    /// How good it is to branch on a place: both gains multiplied, and half of it for so much weight against it.
+    /// How good it is to branch on a place: both gains multiplied, and half of it for so much weight against
+    /// it.
     pub(crate) fn promise(&self, place: usize, weight: u32) -> u128 {
         if place >= self.first.len() || place >= self.other.len() {
             return 0;

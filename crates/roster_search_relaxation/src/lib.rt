@@ -1,5 +1,5 @@
-//! A linear program over lines of a region: its dual prices give bounds that come close to what rosters cost, and its
-//! shares say which choice to settle next. No answer of a search rests on them. In reading order:
+//! A linear program over lines of a region: its dual prices give bounds that come close to what rosters cost,
+//! and its shares say which choice to settle next. No answer of a search rests on them. In reading order:
 //!
 //! - `tuning`: the numbers that decide how long a search takes
 //! - `program_rows`: which persons and pairings have rows in a linear program

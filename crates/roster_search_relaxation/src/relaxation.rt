@@ -14,9 +14,9 @@ use roster_search_lp::{Allowed, Master};
 use roster_search_regions::{DualPrices, Region, number_at, scaled_penalty};
 use std::alloc::{AllocError, Global};
 
-/// A linear program over some lines of a region and of its parts: parts of lines may make up a line, and parts
-/// of rosters a roster. Its dual prices give bounds that come close to what that costs. If other lines cost less
-/// at these prices they are added, and so on; it goes on from one part of the region to the next.
+/// A linear program over some lines of a region and of its parts: parts of lines may make up a line, and
+/// parts of rosters a roster. Its dual prices give bounds that come close to what that costs. If other lines
+/// cost less at these prices they are added, and so on; it goes on from one part of the region to the next.
 ///
 /// It has a row for each person who has several lines in the region that it is made for, and for each pairing
 /// that one of them can have; and none if these are too many. Nothing that a search answers rests on it.
@@ -33,8 +33,8 @@ pub struct Relaxation {
     pub(crate) grain: i64,
     // What pairings without a row cost, which are all open, in parts of a cost unit.
     pub(crate) apart: i64,
-    // The dual prices of all pairings by the last solution, the bound that they give, and whether lines were new
-    // that were found by them.
+    // The dual prices of all pairings by the last solution, the bound that they give, and whether lines were
+    // new that were found by them.
     pub(crate) now: DualPrices,
     pub(crate) bound: i64,
     pub(crate) is_new: bool,
@@ -128,8 +128,8 @@ impl Relaxation {
         self.persons.len().saturating_add(self.pairings.len())
     }
 
-    /// Solves the program anew, and has its dual prices: those of pairings that may be open at most as high as
-    /// their penalties.
+    /// Solves the program anew, and has its dual prices: those of pairings that may be open at most as high
+    /// as their penalties.
     pub fn solve(
         &mut self,
         alloc: Global,
@@ -189,14 +189,14 @@ impl Relaxation {
         &self.best
     }
 
-    /// The greatest bound since the last beginning, in parts of a cost unit, without what empty lines cost; it
-    /// is an estimate.
+    /// The greatest bound since the last beginning, in parts of a cost unit, without what empty lines cost;
+    /// it is an estimate.
     pub fn bound(&self) -> i64 {
         self.best_bound
     }
 
-    /// Looks at all lines at the prices of the last solution: at the bound that these give, and for lines that
-    /// are cheaper than those that there are, which it adds.
+    /// Looks at all lines at the prices of the last solution: at the bound that these give, and for lines
+    /// that are cheaper than those that there are, which it adds.
     pub fn look(&mut self, problem: &Problem, region: &Region) -> Result<(), AllocError>
         requires { IsRegion problem.now region.now }
     {

@@ -1,4 +1,5 @@
-//! Looks of several threads for lines that a linear program lacks, and what it says of shares and open pairings.
+//! Looks of several threads for lines that a linear program lacks, and what it says of shares and open
+//! pairings.
 
 ghost use Rattle.std.specs.Prelude.{◌≡◌, ◌<◌, length};
 ghost use Rattle.std.specs.Thread.{IsSync};
@@ -69,16 +70,16 @@ impl Relaxation {
         &self.persons
     }
 
-    /// How large a part of the lines of the person of a row in the last solution has each pairing with a row, in
-    /// thousandths, by row.
+    /// How large a part of the lines of the person of a row in the last solution has each pairing with a row,
+    /// in thousandths, by row.
     pub(crate) fn put_shares(&self, row: usize, shares: &mut [u32])
         ensures { length shares.new ≡ length shares.old }
     {
         self.master.put_shares(row, shares);
     }
 
-    /// How large a part of the last solution it is to leave the pairing at place `p` open, in thousandths; all
-    /// of it if the pairing has no row, since nobody can have it.
+    /// How large a part of the last solution it is to leave the pairing at place `p` open, in thousandths;
+    /// all of it if the pairing has no row, since nobody can have it.
     pub fn open_share(&self, p: usize) -> u32 {
         match self.row_of(p) {
             Some(row) => self.master.open_share(row),
@@ -101,8 +102,8 @@ impl Relaxation {
         self.master.count_open(least, most)
     }
 
-    /// What one open pairing more is paid by the last solution, since so many must be open, or costs, since no
-    /// more may be: in parts of a cost unit.
+    /// What one open pairing more is paid by the last solution, since so many must be open, or costs, since
+    /// no more may be: in parts of a cost unit.
     pub fn count_dual(&self) -> i64 {
         self.master.count_dual()
     }

@@ -154,7 +154,8 @@ impl Seeker {
         Ok(least)
     }
 
-    // Keeps the line of the choice to which the path leads. It gives what the value of the next one is to be below.
+    // Keeps the line of the choice to which the path leads. It gives what the value of the next one is to be
+    // below.
     fn keep(
         &mut self,
         choice: &Choice,

@@ -20,10 +20,9 @@ const HALF: u32 = 500;
 /// What weighs against settling what is settled in the solution: more than against anything that isn't.
 const SETTLED: u32 = 1 << 31;
 
-/// What it is best to settle next, by the last solution of the program: how many pairings are open, if it leaves a
-/// part of one open, all in all; or else a pairing of which it leaves a part open;
-/// or else a person and a pairing that some of the person's lines have, and some haven't; the first of both if there
-/// are none.
+/// What it is best to settle next, by the last solution of the program: how many pairings are open, if it
+/// leaves a part of one open, all in all; or else a pairing of which it leaves a part open; or else a person
+/// and a pairing that some of the person's lines have, and some haven't; the first of both if there are none.
 pub fn branch_by_shares(
     alloc: Global,
     problem: &Problem,
@@ -52,7 +51,8 @@ pub fn branch_by_shares(
     Ok(relaxation.branch_at(best_of(relaxation, &picks)))
 }
 
-/// The best of the picks, the first of which has the least weight: that one, or one of the first few that promises more.
+/// The best of the picks, the first of which has the least weight: that one, or one of the first few that
+/// promises more.
 fn best_of(relaxation: &Relaxation, picks: &[(u32, usize)]) -> usize {
     let Some((least, first)) = picks.first() else {
         return 0;
@@ -73,8 +73,8 @@ fn best_of(relaxation: &Relaxation, picks: &[(u32, usize)]) -> usize {
     best
 }
 
-/// Of how many open pairings the last solution has at least, and a part of one more, if the region leaves it to be
-/// decided whether it is more.
+/// Of how many open pairings the last solution has at least, and a part of one more, if the region leaves it
+/// to be decided whether it is more.
 fn open_by_part(region: &Region, relaxation: &Relaxation) -> Option<usize> {
     let open = relaxation.open_count();
     let part = open % u64::from(MOST_SHARE);
@@ -89,8 +89,8 @@ fn open_by_part(region: &Region, relaxation: &Relaxation) -> Option<usize> {
     None
 }
 
-/// The pairing of which the last solution leaves a part open that is nearest to a half, if the region leaves it to
-/// be decided.
+/// The pairing of which the last solution leaves a part open that is nearest to a half, if the region leaves
+/// it to be decided.
 fn half_open(region: &Region, relaxation: &Relaxation) -> Option<usize> {
     let mut best = None;
     let mut least = HALF - LEAST_SHARE;
@@ -127,8 +127,8 @@ fn crowds(
     Ok(crowds)
 }
 
-/// Adds those of person `k`, who has this row and of whose lines pairings have these shares: what weighs against each,
-/// and its place.
+/// Adds those of person `k`, who has this row and of whose lines pairings have these shares: what weighs
+/// against each, and its place.
 fn add_picks(
     region: &Region,
     relaxation: &Relaxation,

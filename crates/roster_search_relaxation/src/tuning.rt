@@ -10,12 +10,12 @@ pub(crate) const FIRST_LINES_A_PERSON: usize = 20;
 /// So many lines of each person are added after a look, at most.
 pub(crate) const LINES_A_PERSON: usize = 6;
 
-/// A line is added if it is cheaper than its person's dual price by a part of what lies between two costs: one
-/// of so many.
+/// A line is added if it is cheaper than its person's dual price by a part of what lies between two costs:
+/// one of so many.
 pub(crate) const NEW_PART_OF_GRAIN: i64 = 512;
 
-/// What a solution costs counts less a part of what lies between two costs, one of so many, in judging whether
-/// a cost lies between it and the bound.
+/// What a solution costs counts less a part of what lies between two costs, one of so many, in judging
+/// whether a cost lies between it and the bound.
 pub(crate) const NEAR_PART_OF_GRAIN: i64 = 64;
 
 /// With more columns than this, and 8 for each row, the dearest are left out until this and 2 for each row
@@ -31,8 +31,8 @@ pub(crate) const LEAST_SHARE: u32 = 20;
 /// More of a share counts as settled.
 pub(crate) const MOST_SHARE_OF_LINES: u32 = 980;
 
-/// What weighs against a choice, in thousandths: each person who can have the pairing, and each doubling of the
-/// lines.
+/// What weighs against a choice, in thousandths: each person who can have the pairing, and each doubling of
+/// the lines.
 pub(crate) const SHARE_PER_PERSON: u32 = 30;
 
 /// See `SHARE_PER_PERSON`.

@@ -28,8 +28,8 @@ fn two(p: usize, q: usize) -> Set {
     set
 }
 
-/// Two persons and two pairings at penalties of 10. The first has pairing 0 for 5, and both for 20; the second
-/// has pairing 1 for 7.
+/// Two persons and two pairings at penalties of 10. The first has pairing 0 for 5, and both for 20; the
+/// second has pairing 1 for 7.
 fn pair(rt: &impl Abort, alloc: Global) -> Result<Master, AllocError> {
     let mut master = Master::new(alloc, &[0, 0], &[10 * UNIT, 10 * UNIT], SCALE)?;
     assert!(rt; master.persons() == 2);

@@ -5,8 +5,8 @@ use roster_plan_bound::{PricedBound, Pricing, Team};
 use roster_test_books::problem_of;
 use std::test::Fail;
 
-/// A person whose target asks for ten hours of flight on each second of 27 days, where two pairings have that, or ten
-/// minutes less. In 28 days a hundred hours may be flown.
+/// A person whose target asks for ten hours of flight on each second of 27 days, where two pairings have
+/// that, or ten minutes less. In 28 days a hundred hours may be flown.
 const LONG_DAYS: &[u8] = b"period,2024-03
 base,BAS,UTC0
 weight,1

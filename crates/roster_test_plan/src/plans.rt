@@ -40,7 +40,8 @@ impl Watcher for Told {
     }
 }
 
-/// The plan of the book with these places and means, if they are as many as its pairings, each of a person's or open.
+/// The plan of the book with these places and means, if they are as many as its pairings, each of a person's
+/// or open.
 fn planned<R: Threads + Sync>(
     rt: &R,
     alloc: Global,
