@@ -40,7 +40,7 @@
 //! - `master`: the best prices for the legal sets that are known
 //! - `start`: the prices that looks begin with
 //! - `pace`: how prices move from one look to the next
-//! - `rising`: prices that say more and more
+//! - `rising`: prices that say more and more, and a file for what is claimed of them
 //! - `dive`: rosters of columns
 //! - `own_cost`: what persons of a roster cost
 //! - `choosing`: who is next to get a column
