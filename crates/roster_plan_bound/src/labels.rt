@@ -11,7 +11,7 @@ ghost use Rattle.roster_plan_bound.specs.Seeks.{IsEndWith, IsSpot};
 
 use crate::columns::Columns;
 use crate::parts::MOST_PLAN_PRICE;
-use crate::prospect::Prospect;
+use crate::prospect::{Due, Prospect};
 use crate::seek::{End, Spot, end_with, is_legal, spot_with, start_of};
 use crate::tuning::{FEWEST_LABELS, LISTED_A_COLUMN, MANY_BROKEN, MOST_LABELS, MOST_LABELS_AT_ONE};
 use roster_legal::Judge;
@@ -109,7 +109,7 @@ fn promises(
     let limit = labelled.promise_limit();
     let mut near = Vec::new(alloc);
     for label in 0..labels.len() {
-        if let Some((_, least)) = promised(prospect, &labels[label], q, labelled.worth) {
+        if let Some((_, least)) = promised(prospect, &labels[label], q, labelled.worth, limit) {
             if least <= limit {
                 near.push(Promise {
                     saved: least.wrapping_neg(),
@@ -122,12 +122,14 @@ fn promises(
 }
 
 /// The end of a label with pairing `q` behind, and what it promises at least, or, with a worth of a minute of
-/// flight, what it brings so far; none if that isn't legal.
+/// flight, what it brings so far; none if that isn't legal. No more tables are asked once one says more than
+/// the limit.
 fn promised(
     prospect: &Prospect<'_>,
     spot: &Spot,
     q: usize,
     worth: Option<i64>,
+    limit: i64,
 ) -> Option<(End, i64)>
     requires { IsSpot prospect.now spot.now }
     ensures room { IfSome result (λ found. 0 < spot.now.room) }
@@ -145,7 +147,14 @@ fn promised(
                 Some(worth) => end
                     .value
                     .wrapping_add(worth.wrapping_mul(end.flight as i64)),
-                None => prospect.ahead(end.value, end.flight, end.load, q, end.class, end.need),
+                None => {
+                    let due = Due {
+                        class: end.class,
+                        need: end.need,
+                    };
+                    let enough = limit.saturating_add(1);
+                    prospect.ahead(end.value, end.flight, end.load, q, due, enough)
+                }
             };
             Some((end, least))
         }
@@ -212,7 +221,7 @@ fn next_label(
     let Some(spot) = labels.get(label) else {
         return Ok(None);
     };
-    let Some((end, _)) = promised(prospect, spot, q, labelled.worth) else {
+    let Some((end, _)) = promised(prospect, spot, q, labelled.worth, i64::MIN) else {
         return Ok(None);
     };
     if is_covered(labels, first, &end) {

@@ -23,6 +23,14 @@ use roster_problem::Problem;
 use std::alloc::{AllocError, Global};
 use std::marker::Model;
 
+/// What is still due where a pairing ends a path: since the instant of the class no recurrent rest lies before its
+/// end, and so many pairs of days off still have to come.
+#[derive(Clone, Copy)]
+pub(crate) struct Due {
+    pub(crate) class: usize,
+    pub(crate) need: usize,
+}
+
 /// What is known of a person at some prices. Contracts see the problem, the person, the timeline, the prices,
 /// and what each pairing brings at them.
 #[derive(Drop)]
@@ -227,24 +235,24 @@ impl<'a> Prospect<'a> {
         least
     }
 
-    /// What a path brings at least that begins with pairings of that value and flight, of which `q` is the
-    /// last one. Since the instant of the class no recurrent rest lies before its end, and so many pairs of
-    /// days off still have to come. No path has more flight than limits leave.
+    /// What a path brings at least that begins with pairings of that value, flight and load, of which `q` is the
+    /// last one, with what is due at its end. No path has more flight than limits leave. No more tables are asked
+    /// than say enough.
     pub(crate) fn ahead(
         &self,
         value: i64,
         flight: u64,
         load: u64,
         q: usize,
-        class: usize,
-        need: usize,
+        due: Due,
+        enough: i64,
     ) -> i64
         requires pairing { q < length self.now.problem.pairings }
         requires value { IsWithin (MOST_PAIRINGS * MOST_CHAIN_VALUE) value }
         requires flight { flight ≤ MOST_PAIRINGS * MOST_FLIGHT }
         requires load { load ≤ MOST_PAIRINGS * MOST_LOAD }
         ensures { IsAhead self.now.problem self.now.person self.now.timeline self.now.units value flight load q
-            class need result }
+            due.class due.need result }
     {
         self.problem.is_sound();
         if flight > self.spare {
@@ -255,9 +263,12 @@ impl<'a> Prospect<'a> {
         }
         let mut least = -(MOST_LEAST as i64);
         for i in 0..self.tables.len() {
+            if least >= enough {
+                break;
+            }
             let table = &self.tables[i];
             let value = laden(value, load, table.toll);
-            least = greater(least, table.ahead(value, flight, q, class, need));
+            least = greater(least, table.ahead(value, flight, q, due.class, due.need));
         }
         least
     }

@@ -11,7 +11,7 @@ ghost use Rattle.roster_plan_bound.specs.Seeks.{IsClassWith, IsEndWith, IsLeastB
 ghost use Rattle.roster_plan_bound.specs.Seeks.{IsNextSpot, IsOnward, IsSpot};
 
 use crate::columns::Columns;
-use crate::prospect::Prospect;
+use crate::prospect::{Due, Prospect};
 use crate::timeline::Timeline;
 use crate::tuning::{JUDGED_AT, MOST_LISTED};
 use roster_legal::{Judge, part_of_legal_is_legal};
@@ -189,7 +189,11 @@ fn onward(
     if end.class < prospect.timeline().lows[q] {
         return Ok(None);
     }
-    if prospect.ahead(end.value, end.flight, end.load, q, end.class, end.need) >= least {
+    let due = Due {
+        class: end.class,
+        need: end.need,
+    };
+    if prospect.ahead(end.value, end.flight, end.load, q, due, least) >= least {
         return Ok(None);
     }
     let next = spot_with(prospect, spot, q, end);
