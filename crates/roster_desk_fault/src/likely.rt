@@ -18,7 +18,8 @@ const MANY_REPORTS: usize = 8;
 /// Duties are told of if more than so many times as many touch the night as would if their times were local.
 const TIMES_MORE: usize = 3;
 
-/// How many leaves of a base have to be of whole days in UTC and not by its clocks before it is told, at least.
+/// How many leaves of a base have to be of whole days in UTC and not by its clocks before it is told, at
+/// least.
 const MANY_LEAVES: usize = 5;
 
 /// The minutes of a day, and those of it before its night's end and begin.
@@ -168,8 +169,8 @@ fn is_leave_at(rows: &[Record], row: &Record, base: &[u8]) -> bool {
             && person.field(2) == base)
 }
 
-/// How many leaves the base's persons have that aren't whole days by its clocks, if all are whole days in UTC;
-/// else none.
+/// How many leaves the base's persons have that aren't whole days by its clocks, if all are whole days in
+/// UTC; else none.
 fn days_in_utc(rows: &[Record], base: &[u8], days: &BaseDays) -> usize {
     let mut others = 0usize;
     for row in rows {
@@ -244,7 +245,8 @@ fn local_days(alloc: Global, others: usize) -> Result<Option<String>, AllocError
     Ok(Some(why))
 }
 
-/// Warnings of bases whose duties lie at night, or whose leaves are days in UTC, as if their times were local.
+/// Warnings of bases whose duties lie at night, or whose leaves are days in UTC, as if their times were
+/// local.
 pub(crate) fn nights(alloc: Global, rows: &[Record]) -> Result<Vec<Warning>, AllocError> {
     let mut warnings = Vec::new(alloc);
     for (at, row) in rows.iter().enumerate() {

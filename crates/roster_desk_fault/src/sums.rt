@@ -130,8 +130,8 @@ fn flight_of(rows: &[Record]) -> i64 {
     sum
 }
 
-/// The warning that all targets together are another flight than there is in the month. A book without pairings is
-/// one that waits for them.
+/// The warning that all targets together are another flight than there is in the month. A book without
+/// pairings is one that waits for them.
 pub(crate) fn shares(alloc: Global, rows: &[Record]) -> Result<Vec<Warning>, AllocError> {
     if !rows.iter().any(|row| row.is(Kind::Pairing)) {
         return Ok(Vec::new(alloc));

@@ -185,7 +185,8 @@ impl Columns {
         Ok(kept)
     }
 
-    /// Those that cost no more than so much above the least at the prices; both are in finer steps than parts.
+    /// Those that cost no more than so much above the least at the prices; both are in finer steps than
+    /// parts.
     pub(crate) fn near(
         &self,
         alloc: Global,

@@ -2,8 +2,8 @@
 
 use roster_problem::Problem;
 
-/// What a pairing costs that stays open, about, in the months that the numbers of `tuning` were found with, in cost
-/// units.
+/// What a pairing costs that stays open, about, in the months that the numbers of `tuning` were found with,
+/// in cost units.
 const USUAL_PENALTY: u64 = 8_192;
 
 /// No month counts as dearer than so many times that.

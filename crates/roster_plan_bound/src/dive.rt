@@ -1,6 +1,6 @@
-//! Rosters of columns: the person whose best column has the greatest share of the covers flies it, then the next
-//! one, and between them prices and columns are renewed for those who are left. Nothing rests on it: whoever
-//! takes such a roster judges it.
+//! Rosters of columns: the person whose best column has the greatest share of the covers flies it, then the
+//! next one, and between them prices and columns are renewed for those who are left. Nothing rests on it:
+//! whoever takes such a roster judges it.
 
 ghost use Rattle.std.specs.Prelude.{◌≡◌, ◌<◌, ◌≤◌, All, IfOk, length};
 ghost use Rattle.roster_plan_bound.specs.Reduced.{ArePrices};
@@ -25,8 +25,8 @@ use roster_problem::{Problem, open_number};
 use std::alloc::{AllocError, Global};
 use std::thread::{Threads, for_each_mut};
 
-/// A roster in the making: who is left, what is known of them, the prices, which pairings are free, and whom each
-/// pairing is given to so far.
+/// A roster in the making: who is left, what is known of them, the prices, which pairings are free, and whom
+/// each pairing is given to so far.
 #[derive(Drop)]
 pub(crate) struct Dive<'a> {
     pricing: &'a Pricing<'a>,
@@ -35,7 +35,8 @@ pub(crate) struct Dive<'a> {
     prices: Vec<i64>,
     free: Vec<Covered>,
     pub(crate) places: Vec<u16>,
-    // What those who are left cost with what they had, and open pairings beside them, in parts of a cost unit.
+    // What those who are left cost with what they had, and open pairings beside them, in parts of a cost
+    // unit.
     known: i64,
     // How many pairs looks may still go through.
     pairs: u64,
@@ -49,8 +50,8 @@ pub struct DivePlan {
     /// Each time at least so many hundredths of those who are left get a column, if any is fair, and one does
     /// in any case.
     pub hundredths: usize,
-    /// How many pairs of a person who is left and a pairing that is free looks go through in all, at most. Then
-    /// known columns are given without a look.
+    /// How many pairs of a person who is left and a pairing that is free looks go through in all, at most.
+    /// Then known columns are given without a look.
     pub pairs: u64,
 }
 
@@ -96,8 +97,8 @@ impl<'a> Dive<'a> {
         Ok(())
     }
 
-    /// Goes on until nobody is left. Those who are left get some of these pairings. It says false, and has done
-    /// nothing, if the first looks show no hope of a cheaper roster.
+    /// Goes on until nobody is left. Those who are left get some of these pairings. It says false, and has
+    /// done nothing, if the first looks show no hope of a cheaper roster.
     pub(crate) fn end<R: Threads + Sync>(
         &mut self,
         team: &Team<'_, R>,
@@ -210,8 +211,8 @@ impl<'a> Dive<'a> {
         Ok(choices)
     }
 
-    /// Those whose shares are the greatest get their columns: one, all who are nearly sure of it, and so many at
-    /// least whose shares are fair.
+    /// Those whose shares are the greatest get their columns: one, all who are nearly sure of it, and so many
+    /// at least whose shares are fair.
     fn take(&mut self, alloc: Global, choices: &[Choice], least: usize) -> Result<(), AllocError> {
         let mut gone = vec![in alloc; false; self.left.len()]?;
         for nth in 0..choices.len() {

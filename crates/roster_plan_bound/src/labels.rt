@@ -1,9 +1,9 @@
 //! Legal sets of a person that bring little, found by labels in order of time. Nothing rests on them.
 //!
-//! A label is a set of which each two pairings are legal together, with what is known at its end. Of the labels that
-//! end with a pairing only those stay that promise least, and each of them has another flight, a later class or more
-//! days off: of sets that differ little, one tells prices enough. Only the cheapest ones are judged in the end, or each
-//! of them if that came too late at the look before.
+//! A label is a set of which each two pairings are legal together, with what is known at its end. Of the
+//! labels that end with a pairing only those stay that promise least, and each of them has another flight, a
+//! later class or more days off: of sets that differ little, one tells prices enough. Only the cheapest ones
+//! are judged in the end, or each of them if that came too late at the look before.
 
 ghost use Rattle.std.specs.Prelude.{◌≡◌, ◌<◌, All, IfOk, IfSome, true};
 ghost use Rattle.roster_model.specs.Rules.{is_among};
@@ -58,7 +58,8 @@ struct Promise {
     label: usize,
 }
 
-/// Makes labels, pairing by pairing in order of time. The sets of those that bring least, as far as they are legal.
+/// Makes labels, pairing by pairing in order of time. The sets of those that bring least, as far as they are
+/// legal.
 pub(crate) fn label_all(
     alloc: Global,
     prospect: &Prospect<'_>,
@@ -202,8 +203,8 @@ fn add_labels(
     Ok(())
 }
 
-/// The label that goes on with pairing `q`; none if that isn't legal, or none of the labels from the first one
-/// on leaves it a chance.
+/// The label that goes on with pairing `q`; none if that isn't legal, or none of the labels from the first
+/// one on leaves it a chance.
 fn next_label(
     prospect: &Prospect<'_>,
     judge: &mut Judge<'_>,

@@ -4,8 +4,8 @@
 //! pairings it costs the reduced costs of its lines, and the price or the penalty of each pairing. Of each
 //! person labels find lines that cost little, and the least of them is a claim. Tables say what may stand
 //! behind a pairing at least, by the rests and days off that are still due, and a search that they lead shows
-//! the claim: it finds no line that costs less. A table of chains, of which each pairing is legal with the one
-//! before, says less, and serves gaps. In reading order:
+//! the claim: it finds no line that costs less. A table of chains, of which each pairing is legal with the
+//! one before, says less, and serves gaps. In reading order:
 //!
 //! - `parts`: amounts in parts of a cost unit
 //! - `network`: which pairings may follow one another

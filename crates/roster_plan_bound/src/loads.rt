@@ -1,7 +1,7 @@
 //! What pairings take of one sum that limits judge: the flight of 28 days in a row.
 //!
-//! Limits judge many such sums. Tables watch one of them: that of which the person could take most beyond what is
-//! left, about.
+//! Limits judge many such sums. Tables watch one of them: that of which the person could take most beyond
+//! what is left, about.
 
 ghost use Rattle.std.specs.Prelude.{◌≡◌, ◌<◌, ◌≤◌, ℕ, [], IfOk, Some, length, slice_get, slice_index};
 ghost use Rattle.roster_legal.specs.Stepping.{AreRoomsOf, IsLoadOf};
@@ -129,7 +129,8 @@ fn minutes_at(minutes: &[u16], at: usize) -> u64
     0
 }
 
-/// Where the sum stands, among those of flight in 28 days, of which the person could take most beyond what is left.
+/// Where the sum stands, among those of flight in 28 days, of which the person could take most beyond what is
+/// left.
 fn binding_of(problem: &Problem, k: usize, alone: &Set, rooms: &[u16], each: &[Taken]) -> usize
     requires { k < length problem.now.persons }
 {

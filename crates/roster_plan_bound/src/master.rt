@@ -1,5 +1,5 @@
-//! The best prices for the legal sets that are known: the linear program of these columns, nearly. Nothing rests
-//! on them.
+//! The best prices for the legal sets that are known: the linear program of these columns, nearly. Nothing
+//! rests on them.
 
 ghost use Rattle.std.specs.Prelude.{◌<◌};
 
@@ -16,10 +16,10 @@ use crate::way::{Way, advance, judge, start, sum_of_terms};
 use std::alloc::{AllocError, Global};
 use std::thread::{Threads, for_each_mut};
 
-/// Prices near the given ones, by no more than the stride of the pace, at which the columns of all persons cost the most,
-/// each covered pairing counting with its price, or its penalty if that is less: soft covers with momentum.
-/// Those of other pairings stay. The team shares the persons; what covers and costs add up to is the same for any
-/// number of threads.
+/// Prices near the given ones, by no more than the stride of the pace, at which the columns of all persons
+/// cost the most, each covered pairing counting with its price, or its penalty if that is less: soft covers
+/// with momentum. Those of other pairings stay. The team shares the persons; what covers and costs add up to
+/// is the same for any number of threads.
 pub(crate) fn ascend<R: Threads + Sync>(
     team: &Team<'_, R>,
     seen: &[Seen],
@@ -32,8 +32,8 @@ pub(crate) fn ascend<R: Threads + Sync>(
     ascend_with_shares(team, seen, center, covered, pace, &mut [])
 }
 
-/// `ascend`, for which the shares of columns are counted: those of some steps in the second half are added to the
-/// sums, one for each column of each person who has sums.
+/// `ascend`, for which the shares of columns are counted: those of some steps in the second half are added to
+/// the sums, one for each column of each person who has sums.
 pub(crate) fn ascend_with_shares<R: Threads + Sync>(
     team: &Team<'_, R>,
     seen: &[Seen],

@@ -9,9 +9,9 @@ use crate::tuning::{
 /// So much more is little, in parts of a cost unit.
 const LITTLE: i64 = PARTS as i64 / 3;
 
-/// How far prices may move from the best ones, how soft covers are at first, in parts of a cost unit, how often
-/// prices move before the next look, how dear the month is, and how many looks in a row have said more, or, below 0,
-/// no more.
+/// How far prices may move from the best ones, how soft covers are at first, in parts of a cost unit, how
+/// often prices move before the next look, how dear the month is, and how many looks in a row have said more,
+/// or, below 0, no more.
 #[derive(Clone, Copy)]
 pub(crate) struct Pace {
     pub(crate) stride: i64,
@@ -44,9 +44,10 @@ impl Pace {
         }
     }
 
-    /// The next one after a look that said so much more than the best one before, in parts of a cost unit: harder
-    /// if that was little, and softer if it was more. The first looks that say much less show columns that were
-    /// lacking, so they change no softness. In the month nobody has more units for a pairing, below 0 or above.
+    /// The next one after a look that said so much more than the best one before, in parts of a cost unit:
+    /// harder if that was little, and softer if it was more. The first looks that say much less show columns
+    /// that were lacking, so they change no softness. In the month nobody has more units for a pairing, below
+    /// 0 or above.
     pub(crate) fn after(self, gain: i64, most_units: i64) -> Pace {
         let run = run_after(self.run, gain);
         let widest = widest_stride(self.dear, most_units);
@@ -99,8 +100,8 @@ fn widest_stride(dear: i64, most_units: i64) -> i64 {
     MOST_STRIDE.wrapping_mul(dear).max(by_units)
 }
 
-/// The next stride, no more than the widest: wider after a look that said more, and twice so after the next ones,
-/// nearer after the second in a row that said no more.
+/// The next stride, no more than the widest: wider after a look that said more, and twice so after the next
+/// ones, nearer after the second in a row that said no more.
 fn stride_after(stride: i64, run: i32, widest: i64) -> i64 {
     match run {
         2.. => wider(wider(stride, widest), widest),

@@ -21,8 +21,8 @@ pub(crate) struct Seen {
 }
 
 impl Seen {
-    /// Of a person of whom these legal sets are known, before the first look: no reduced cost is below the least one
-    /// that there may be.
+    /// Of a person of whom these legal sets are known, before the first look: no reduced cost is below the
+    /// least one that there may be.
     pub(crate) fn before(columns: Columns) -> Seen {
         Seen {
             columns,
@@ -49,8 +49,8 @@ pub(crate) fn judge_labels(seen: &mut [Seen])
     }
 }
 
-/// Looks at each of these persons, whom the team shares, at the prices. It comes to the same for any number of
-/// threads, since nobody's look asks what another one's said.
+/// Looks at each of these persons, whom the team shares, at the prices. It comes to the same for any number
+/// of threads, since nobody's look asks what another one's said.
 pub(crate) fn look_at_all<R: Threads + Sync>(
     team: &Team<'_, R>,
     pricing: &Pricing<'_>,
@@ -77,8 +77,8 @@ pub(crate) fn look_at_all<R: Threads + Sync>(
     for_each_mut(team.rt, seen, team.threads, &look);
 }
 
-/// Renews the columns of each of these persons, whom the team shares, at the prices. What the cheapest one of each
-/// costs then: nothing is claimed of it.
+/// Renews the columns of each of these persons, whom the team shares, at the prices. What the cheapest one of
+/// each costs then: nothing is claimed of it.
 pub(crate) fn renew_all<R: Threads + Sync>(
     team: &Team<'_, R>,
     pricing: &Pricing<'_>,

@@ -50,8 +50,8 @@ pub(crate) struct Leasts {
     each: Vec<i64>,
 }
 
-/// The pairs, the network and the timeline of each person, made once for the bounds of all bases. Contracts see the
-/// problem.
+/// The pairs, the network and the timeline of each person, made once for the bounds of all bases. Contracts
+/// see the problem.
 #[derive(Drop)]
 pub struct Pricing<'a> {
     problem: &'a Problem,
@@ -105,8 +105,8 @@ impl<'a> Pricing<'a> {
         self.problem
     }
 
-    /// What the prices say of all rosters of the base, whose persons are given. Searches show it, which go on from
-    /// so many sets of a person at most, or only tables. The team shares the persons.
+    /// What the prices say of all rosters of the base, whose persons are given. Searches show it, which go on
+    /// from so many sets of a person at most, or only tables. The team shares the persons.
     pub(crate) fn look<R: Threads + Sync>(
         &self,
         team: &Team<'_, R>,
@@ -145,8 +145,9 @@ impl<'a> Pricing<'a> {
         &self.networks[k]
     }
 
-    /// What the known columns claim that the prices say of the rosters of a base, in parts of a cost unit above what
-    /// it costs that nobody has a pairing. It is true if the cheapest column of each person is the cheapest set.
+    /// What the known columns claim that the prices say of the rosters of a base, in parts of a cost unit
+    /// above what it costs that nobody has a pairing. It is true if the cheapest column of each person is the
+    /// cheapest set.
     pub(crate) fn claim(&self, base: usize, prices: &[i64], seen: &[Seen]) -> i64
         requires { ArePrices self.now prices.now }
     {
@@ -157,8 +158,8 @@ impl<'a> Pricing<'a> {
         sum
     }
 
-    /// No line of person `k` has a lower reduced cost at the prices. The person's columns get what is found, by a
-    /// search that goes on from so many sets at most. If the timeline says nothing, chains do.
+    /// No line of person `k` has a lower reduced cost at the prices. The person's columns get what is found,
+    /// by a search that goes on from so many sets at most. If the timeline says nothing, chains do.
     pub(crate) fn least(
         &self,
         alloc: Global,
@@ -180,7 +181,8 @@ impl<'a> Pricing<'a> {
         Ok(least)
     }
 
-    /// The person's columns are renewed at the prices. What the cheapest one brings: nothing is claimed of it.
+    /// The person's columns are renewed at the prices. What the cheapest one brings: nothing is claimed of
+    /// it.
     pub(crate) fn renew(
         &self,
         alloc: Global,

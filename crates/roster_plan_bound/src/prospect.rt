@@ -23,8 +23,8 @@ use roster_problem::Problem;
 use std::alloc::{AllocError, Global};
 use std::marker::Model;
 
-/// What is still due where a pairing ends a path: since the instant of the class no recurrent rest lies before its
-/// end, and so many pairs of days off still have to come.
+/// What is still due where a pairing ends a path: since the instant of the class no recurrent rest lies
+/// before its end, and so many pairs of days off still have to come.
 #[derive(Clone, Copy)]
 pub(crate) struct Due {
     pub(crate) class: usize,
@@ -133,9 +133,9 @@ impl<'a> Prospect<'a> {
         self.units.as_slice()
     }
 
-    /// Makes the table at what a minute of flight costs, or at the nearest worth that may be: no more than the
-    /// weight, on either side, but any above it if limits leave little flight. A minute of the sum that is watched
-    /// costs the toll. If memory runs out, nothing has changed.
+    /// Makes the table at what a minute of flight costs, or at the nearest worth that may be: no more than
+    /// the weight, on either side, but any above it if limits leave little flight. A minute of the sum that
+    /// is watched costs the toll. If memory runs out, nothing has changed.
     pub(crate) fn add(&mut self, alloc: Global, worth: i64, toll: i64) -> Result<(), AllocError>
         ensures { self.new ≡ self.old }
     {
@@ -157,8 +157,8 @@ impl<'a> Prospect<'a> {
         Ok(())
     }
 
-    /// Makes tables at tolls nearer and nearer to the one that says most, so often one on either side, the first ones
-    /// so far from it.
+    /// Makes tables at tolls nearer and nearer to the one that says most, so often one on either side, the
+    /// first ones so far from it.
     pub(crate) fn refine_toll(
         &mut self,
         alloc: Global,
@@ -235,9 +235,9 @@ impl<'a> Prospect<'a> {
         least
     }
 
-    /// What a path brings at least that begins with pairings of that value, flight and load, of which `q` is the
-    /// last one, with what is due at its end. No path has more flight than limits leave. No more tables are asked
-    /// than say enough.
+    /// What a path brings at least that begins with pairings of that value, flight and load, of which `q` is
+    /// the last one, with what is due at its end. No path has more flight than limits leave. No more tables
+    /// are asked than say enough.
     pub(crate) fn ahead(
         &self,
         value: i64,
@@ -307,8 +307,8 @@ impl<'a> Prospect<'a> {
         minutes > self.timeline.spare_load
     }
 
-    /// How much a minute of the sum that is watched is worth, about: what the pairings that bring something at the
-    /// best worth bring by the minute.
+    /// How much a minute of the sum that is watched is worth, about: what the pairings that bring something
+    /// at the best worth bring by the minute.
     pub(crate) fn usual_toll(&self) -> i64 {
         let (worth, _) = self.best();
         let mut saved: i64 = 0;
@@ -329,8 +329,8 @@ impl<'a> Prospect<'a> {
         self.is_scarce
     }
 
-    /// How much a minute of flight is worth, about: the weight, or, if limits leave little flight, what the pairings
-    /// that bring something bring by the minute.
+    /// How much a minute of flight is worth, about: the weight, or, if limits leave little flight, what the
+    /// pairings that bring something bring by the minute.
     pub(crate) fn usual_worth(&self) -> i64 {
         if !self.is_scarce {
             return self.weight;

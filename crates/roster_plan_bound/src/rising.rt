@@ -49,8 +49,8 @@ pub struct PricedBound<'a> {
     pace: Pace,
     // How many looks in a row have claimed neither a cost unit more nor one less.
     idle: u32,
-    // How many looks there were since searches showed a claim, and how many there are before they do again: twice
-    // as many each time that it was true.
+    // How many looks there were since searches showed a claim, and how many there are before they do again:
+    // twice as many each time that it was true.
     unshown: u32,
     trust: u32,
 }
@@ -68,8 +68,8 @@ impl<'a> Model for PricedBound<'a> {
 }
 
 impl<'a> PricedBound<'a> {
-    /// What no prices at all say of the base at this place, or the first prices, if these say more: also such at which
-    /// parts of all flight stay open, if likely many pairings do. The team shares its persons.
+    /// What no prices at all say of the base at this place, or the first prices, if these say more: also such
+    /// at which parts of all flight stay open, if likely many pairings do. The team shares its persons.
     pub fn new<R: Threads + Sync>(
         team: &Team<'_, R>,
         pricing: &'a Pricing<'a>,
@@ -102,11 +102,11 @@ impl<'a> PricedBound<'a> {
         self.priced.bound
     }
 
-    /// Raises the bound by so many looks at other prices. Each look lists legal sets that cost little, and the
-    /// next prices are the best ones for all that are known: column generation, with prices kept near those at
-    /// which most is claimed. Now and then searches show what is claimed, less often as long as it is true. There
-    /// are fewer looks if many in a row claim about the same, or if the bound is what a known roster costs. Any
-    /// number of threads that share the persons of a look gives the same bound.
+    /// Raises the bound by so many looks at other prices. Each look lists legal sets that cost little, and
+    /// the next prices are the best ones for all that are known: column generation, with prices kept near
+    /// those at which most is claimed. Now and then searches show what is claimed, less often as long as it
+    /// is true. There are fewer looks if many in a row claim about the same, or if the bound is what a known
+    /// roster costs. Any number of threads that share the persons of a look gives the same bound.
     pub fn raise<R: Threads + Sync>(
         &mut self,
         team: &Team<'_, R>,
@@ -128,8 +128,8 @@ impl<'a> PricedBound<'a> {
         Ok(())
     }
 
-    /// Shows what is claimed at the best prices, by longer searches than those between looks. The team shares the
-    /// persons.
+    /// Shows what is claimed at the best prices, by longer searches than those between looks. The team shares
+    /// the persons.
     pub fn settle<R: Threads + Sync>(&mut self, team: &Team<'_, R>) -> Result<(), AllocError>
         requires { 0 < team.now.threads }
         ensures problem { self.new.problem ≡ self.old.problem }
@@ -167,11 +167,11 @@ impl<'a> PricedBound<'a> {
         )
     }
 
-    /// Of a roster in which the persons of the base who are free get other pairings, by columns that cost little
-    /// for all of them together: whom each pairing is given to. All others keep what the given places give them.
-    /// It begins with so many looks, and each time at least so many hundredths of those who are left get theirs.
-    /// It need not be legal. The places are as given if the first looks leave no hope. The team shares the persons
-    /// of a look, and each number of threads gives the same.
+    /// Of a roster in which the persons of the base who are free get other pairings, by columns that cost
+    /// little for all of them together: whom each pairing is given to. All others keep what the given places
+    /// give them. It begins with so many looks, and each time at least so many hundredths of those who are
+    /// left get theirs. It need not be legal. The places are as given if the first looks leave no hope. The
+    /// team shares the persons of a look, and each number of threads gives the same.
     pub fn dive<R: Threads + Sync>(
         &self,
         team: &Team<'_, R>,
@@ -234,7 +234,8 @@ impl<'a> PricedBound<'a> {
         })
     }
 
-    /// Finds columns at prices at which parts of all flight stay open. Cheap labels likely break a limit then.
+    /// Finds columns at prices at which parts of all flight stay open. Cheap labels likely break a limit
+    /// then.
     fn look_at_scarce<R: Threads + Sync>(&mut self, team: &Team<'_, R>) -> Result<(), AllocError>
         requires { 0 < team.now.threads }
         ensures { self.new ≡ self.old }

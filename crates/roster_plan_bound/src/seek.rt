@@ -203,8 +203,8 @@ fn onward(
     Ok(Some(next))
 }
 
-/// Whether the path may be legal. To judge one takes long, so only those are judged that bring less than `least`, and
-/// of the others those of so many pairings.
+/// Whether the path may be legal. To judge one takes long, so only those are judged that bring less than
+/// `least`, and of the others those of so many pairings.
 fn may_be_legal(
     prospect: &Prospect<'_>,
     judge: &mut Judge<'_>,

@@ -1,7 +1,7 @@
 //! What legal sets bring at least.
 //!
-//! Labels find sets that bring little, and the least of them is a claim. Tables that know of recurrent rests and
-//! days off lead a search for a set that brings less. If it comes to its end, there is none.
+//! Labels find sets that bring little, and the least of them is a claim. Tables that know of recurrent rests
+//! and days off lead a search for a set that brings less. If it comes to its end, there is none.
 
 ghost use Rattle.std.specs.Prelude.{◌≡◌, ◌<◌, ◌≤ℤ◌, ◌⊎◌, IfOk, IfSome, MatchOption, length};
 ghost use Rattle.roster_plan_bound.specs.Reduced.{ArePrices, IsLeastOf};
@@ -21,9 +21,9 @@ use roster_legal::Judge;
 use roster_problem::Problem;
 use std::alloc::{AllocError, Global};
 
-/// No line of person `k`, whose timeline it is, has a lower reduced cost at the prices. What the cheapest column
-/// costs is the claim that a search is to show, which goes on from so many sets at most; the columns get what it
-/// finds. Nothing is known without a timeline, or if the fixed flight is too far from the target.
+/// No line of person `k`, whose timeline it is, has a lower reduced cost at the prices. What the cheapest
+/// column costs is the claim that a search is to show, which goes on from so many sets at most; the columns
+/// get what it finds. Nothing is known without a timeline, or if the fixed flight is too far from the target.
 pub(crate) fn least_set(
     alloc: Global,
     problem: &Problem,
@@ -54,9 +54,9 @@ pub(crate) fn least_set(
     Ok(Some(least))
 }
 
-/// Makes tables at what a minute of flight was worth to the best one before, and at a step less and more: what it is
-/// usually worth at first. The steps are half as long from then on if that is the best one again, and else twice as
-/// long, within limits.
+/// Makes tables at what a minute of flight was worth to the best one before, and at a step less and more:
+/// what it is usually worth at first. The steps are half as long from then on if that is the best one again,
+/// and else twice as long, within limits.
 fn add_tables(
     alloc: Global,
     prospect: &mut Prospect<'_>,
@@ -109,8 +109,8 @@ fn refine_tables(
     Ok(())
 }
 
-/// Makes tables at a step less and more than the toll of the best one before, if tolls count. The steps are half as
-/// long from then on if that is the best one again, and else twice as long, within limits.
+/// Makes tables at a step less and more than the toll of the best one before, if tolls count. The steps are
+/// half as long from then on if that is the best one again, and else twice as long, within limits.
 fn add_tolls(
     alloc: Global,
     prospect: &mut Prospect<'_>,
@@ -141,8 +141,9 @@ fn add_tolls(
     Ok(())
 }
 
-/// The columns get lines of person `k`, whose timeline it is, that cost little at the prices. What the cheapest one
-/// brings, or nothing without a timeline, or if the fixed flight is too far from the target: then columns stay.
+/// The columns get lines of person `k`, whose timeline it is, that cost little at the prices. What the
+/// cheapest one brings, or nothing without a timeline, or if the fixed flight is too far from the target:
+/// then columns stay.
 pub(crate) fn renew_sets(
     alloc: Global,
     problem: &Problem,
@@ -195,8 +196,8 @@ fn is_mostly_barred(prospect: &Prospect<'_>) -> bool {
     free.saturating_mul(MANY_BARRED) <= order.len()
 }
 
-/// What searches show that no line of the person is below, if it is more than `known`: what the cheapest column
-/// costs, or something between. The columns get what the first search finds.
+/// What searches show that no line of the person is below, if it is more than `known`: what the cheapest
+/// column costs, or something between. The columns get what the first search finds.
 fn least_shown(
     alloc: Global,
     prospect: &Prospect<'_>,
@@ -225,8 +226,8 @@ fn least_shown(
     }
 }
 
-/// What is claimed between `known` and what some line costs, if a search shows it: half of the way, or half of
-/// that.
+/// What is claimed between `known` and what some line costs, if a search shows it: half of the way, or half
+/// of that.
 fn least_claimed(
     alloc: Global,
     prospect: &Prospect<'_>,

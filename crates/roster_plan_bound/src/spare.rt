@@ -11,8 +11,8 @@ use roster_model::profile::{
 };
 use roster_problem::Problem;
 
-/// The minutes of flight that the limits of a calendar year and of twelve months leave person `k` beside the fixed
-/// ones.
+/// The minutes of flight that the limits of a calendar year and of twelve months leave person `k` beside the
+/// fixed ones.
 pub(crate) fn spare_flight(problem: &Problem, k: usize) -> u64
     requires { k < length problem.now.persons }
     ensures value { result ≡ spare_flight problem.now k }
@@ -23,7 +23,8 @@ pub(crate) fn spare_flight(problem: &Problem, k: usize) -> u64
     year.min(twelve).saturating_sub(fixed_flight(problem, k))
 }
 
-/// Whether so much flight is less than pairings have that are legal alone, and than a person may have in any 28 days.
+/// Whether so much flight is less than pairings have that are legal alone, and than a person may have in any
+/// 28 days.
 pub(crate) fn is_scarce(timeline: &Timeline, spare: u64) -> bool {
     let mut minutes: u64 = 0;
     for q in &timeline.order {

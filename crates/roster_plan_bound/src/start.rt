@@ -1,4 +1,5 @@
-//! The prices that looks begin with: what the flight of each pairing is worth, and what it costs to leave it open.
+//! The prices that looks begin with: what the flight of each pairing is worth, and what it costs to leave it
+//! open.
 //!
 //! If the crew lacks flight, nearly everybody ends below the target, and each minute saves the weight; else
 //! nearly everybody ends above it, and each minute costs as much. A pairing whose price is that brings just
@@ -29,8 +30,8 @@ pub(crate) fn start_prices(
     Ok(prices)
 }
 
-/// What the flight of each pairing is worth if so large a part of all flight stays open: that whose penalties are the
-/// least by the minute. No price is more than the penalty.
+/// What the flight of each pairing is worth if so large a part of all flight stays open: that whose penalties
+/// are the least by the minute. No price is more than the penalty.
 pub(crate) fn scarce_prices(
     alloc: Global,
     pricing: &Pricing<'_>,

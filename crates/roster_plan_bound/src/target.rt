@@ -53,8 +53,8 @@ fn missed_by(weight: i64, short: i64) -> i64
     weight * short.abs()
 }
 
-/// What a table has beside its pairings: by the worth, so much flight beyond the target costs no less, if there is no
-/// more than may be spared.
+/// What a table has beside its pairings: by the worth, so much flight beyond the target costs no less, if
+/// there is no more than may be spared.
 pub(crate) fn fixed_at(worth: i64, weight: i64, short: i64, spare: u64) -> i64
     requires small { IsWithin MOST_WORTH worth }
     requires low { neg_ℤ weight ≤ℤ worth }
@@ -70,8 +70,8 @@ pub(crate) fn fixed_at(worth: i64, weight: i64, short: i64, spare: u64) -> i64
     fixed_within(worth, weight, short)
 }
 
-/// Whether, by the worth, it costs least to fly all that may be spared: a minute costs more than the weight, or the
-/// person is below the target even then.
+/// Whether, by the worth, it costs least to fly all that may be spared: a minute costs more than the weight,
+/// or the person is below the target even then.
 fn is_spent(worth: i64, weight: i64, short: i64, spare: u64) -> bool
     requires short { IsWithin MOST_SHORT short }
     requires spare { spare ≤ MOST_FLIGHT_IN_A_YEAR }

@@ -1,5 +1,5 @@
-//! What loads cost by the minute. Limits leave a person only so much of the sum that loads are parts of, so what a
-//! minute of it is said to cost comes back as often as there are such minutes.
+//! What loads cost by the minute. Limits leave a person only so much of the sum that loads are parts of, so
+//! what a minute of it is said to cost comes back as often as there are such minutes.
 
 ghost use Rattle.std.specs.Prelude.{◌≡◌, ◌<◌, ◌≤◌, ◌*◌, ◌+ℤ◌, ◌-ℤ◌, ◌*ℤ◌, ◌≤ℤ◌, ℕ, pos};
 ghost use Rattle.std.specs.Prelude.{All, IfOk, length, slice_index};

@@ -1,6 +1,6 @@
 //! Numbers that were found by measuring. Each may be another one: no bound rests on them, only how good it
-//! is. Amounts for a month whose penalties are some thousand units: for a dearer one those of reach, near, softness and
-//! stride are as many times as much (`dearness`), but for the least reach, softness and stride.
+//! is. Amounts for a month whose penalties are some thousand units: for a dearer one those of reach, near,
+//! softness and stride are as many times as much (`dearness`), but for the least reach, softness and stride.
 
 /// One, in shares.
 pub(crate) const ONE: i64 = 1 << 16;
@@ -33,8 +33,8 @@ pub(crate) const MOST_STEPS: u32 = 1600;
 /// How often columns are chosen anew that are near enough to the least to move prices.
 pub(crate) const STEPS_A_CHOICE: u32 = 30;
 
-/// They are no further above it than so many times the softness, past which weights are nothing, but so far at
-/// least, and beside that the stride, but no more of it than so much; in parts of a cost unit.
+/// They are no further above it than so many times the softness, past which weights are nothing, but so far
+/// at least, and beside that the stride, but no more of it than so much; in parts of a cost unit.
 pub(crate) const NEAR_SOFTNESSES: i64 = 24;
 
 pub(crate) const LEAST_NEAR: i64 = 40 * 64;
@@ -67,11 +67,12 @@ pub(crate) const STRIDES_OF_UNITS: i64 = 8;
 /// So many looks in a row that say much less leave softness as it is.
 pub(crate) const MOST_LACKING: i32 = 2;
 
-/// After so many looks in a row that say neither more nor less in whole cost units the bound is as good as it gets.
+/// After so many looks in a row that say neither more nor less in whole cost units the bound is as good as it
+/// gets.
 pub(crate) const MOST_IDLE: u32 = 12;
 
-/// From how many sets a search goes on that shows the least, at most, for each look that claims before it, and in the
-/// end.
+/// From how many sets a search goes on that shows the least, at most, for each look that claims before it,
+/// and in the end.
 pub(crate) const VISITS_A_LOOK: u32 = 4_000;
 
 pub(crate) const MOST_VISITS: u32 = 100_000;
@@ -96,8 +97,8 @@ pub(crate) const MOST_KNOWN: usize = 500;
 
 pub(crate) const MOST_KEPT: usize = 300;
 
-/// How far the worth of a minute of flight moves from one look to the next: so many of such steps, at least and at
-/// most, are the weight of the target.
+/// How far the worth of a minute of flight moves from one look to the next: so many of such steps, at least
+/// and at most, are the weight of the target.
 pub(crate) const FEWEST_WORTH_STEPS: i64 = 8;
 
 pub(crate) const MOST_WORTH_STEPS: i64 = 32;
@@ -128,8 +129,8 @@ pub(crate) const FEWEST_LISTED: usize = 60;
 
 pub(crate) const MANY_LISTED: usize = 200;
 
-/// How far prices move in a dive from one look to the next, how soft covers are at first, in parts of a cost unit,
-/// and how often prices move.
+/// How far prices move in a dive from one look to the next, how soft covers are at first, in parts of a cost
+/// unit, and how often prices move.
 pub(crate) const DIVE_STRIDE: i64 = 60 * 64;
 
 pub(crate) const DIVE_SOFTNESS: i64 = 20 * 64;

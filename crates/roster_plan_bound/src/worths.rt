@@ -14,8 +14,8 @@ use crate::parts::{
 use roster_model::limits::{MOST_PAIRINGS, MOST_WEIGHT};
 use std::alloc::{AllocError, Global};
 
-/// A table at what a minute of flight costs, and one of a load, its toll. What the target costs beside it at least,
-/// without the toll of all load that may be.
+/// A table at what a minute of flight costs, and one of a load, its toll. What the target costs beside it at
+/// least, without the toll of all load that may be.
 #[derive(Drop)]
 pub(crate) struct WorthTable {
     pub(crate) worth: i64,
@@ -39,8 +39,8 @@ impl WorthTable {
         self.behind.begun + self.fixed
     }
 
-    /// What a path brings at least that begins with pairings of that value, their tolls included, and that flight,
-    /// of which `q` is the last one.
+    /// What a path brings at least that begins with pairings of that value, their tolls included, and that
+    /// flight, of which `q` is the last one.
     pub(crate) fn ahead(&self, value: i64, flight: u64, q: usize, class: usize, need: usize) -> i64
         requires pairing { q < length self.now.behind.rows.items }
         requires value { IsWithin MOST_LADEN value }
@@ -58,7 +58,8 @@ impl WorthTable {
     }
 }
 
-/// The nearest worth that may be: no more than the weight, on either side, or any above it if flight is scarce.
+/// The nearest worth that may be: no more than the weight, on either side, or any above it if flight is
+/// scarce.
 pub(crate) fn near_worth(worth: i64, weight: i64, is_scarce: bool) -> i64
     requires { (pos 0 ≤ℤ weight) × (weight ≤ℤ pos (PARTS * MOST_WEIGHT)) }
     ensures small { IsWithin MOST_WORTH result }

@@ -44,7 +44,8 @@ impl<'a> PricedBound<'a> {
         Ok(())
     }
 
-    /// Claims at the best prices again: columns that are new may cost less there than those that claimed before.
+    /// Claims at the best prices again: columns that are new may cost less there than those that claimed
+    /// before.
     fn claim_again(&mut self, alloc: Global) -> Result<(), AllocError>
         ensures { self.new ≡ self.old }
     {
@@ -79,8 +80,8 @@ impl<'a> PricedBound<'a> {
         self.priced.bound.saturating_add(more) >= known
     }
 
-    /// Shows what is claimed at the best prices, if it is more than what is known, by searches that go on from so
-    /// many sets of a person at most.
+    /// Shows what is claimed at the best prices, if it is more than what is known, by searches that go on
+    /// from so many sets of a person at most.
     pub(super) fn show<R: Threads + Sync>(
         &mut self,
         team: &Team<'_, R>,
