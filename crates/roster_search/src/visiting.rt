@@ -114,13 +114,7 @@ fn visit_at(
         side,
     } = node;
     let refined = refine(alloc, problem, &mut region, &mut prices, relaxation, most)?;
-    if let Some(side) = side {
-        let bound = match &refined {
-            Refined::Nothing => room(&region, most),
-            _ => relaxation.bound(),
-        };
-        relaxation.learn(side, bound);
-    }
+    learn(relaxation, side, &refined, room(&region, most));
     match refined {
         Refined::Nothing => Ok(Visited::Nothing),
         Refined::Found(roster) => {
@@ -129,6 +123,18 @@ fn visit_at(
         }
         Refined::Part => Ok(part(alloc, problem, region, prices, relaxation, most)?),
     }
+}
+
+/// Takes note of what a branch brought on this side, if it is one: as much as may be paid if nothing is left of it.
+fn learn(relaxation: &mut Relaxation, side: Option<Side>, refined: &Refined, room: i64) {
+    let Some(side) = side else {
+        return;
+    };
+    let bound = match refined {
+        Refined::Nothing => room,
+        Refined::Found(_) | Refined::Part => relaxation.bound(),
+    };
+    relaxation.learn(side, bound);
 }
 
 /// Parts a region, or answers its only roster if all is decided.

@@ -11,7 +11,7 @@ pub returns-in-Nothing : goal.returns-in-Nothing
 returns-in-Nothing c =
     let problem = c.args.problem.now in
     let most : ℤ = to_z w64 (of_z w64 c.args.most) in
-    let refined = subst (λ region. IsRefined problem most region c.refine.new.region c.in_ok-refine.field-0) c.node.view_is c.in_ok-refine.ensures in
+    let refined = subst (λ region. IsRefined problem most region c.refine.new.region c.in_ok-refined.refined) c.node.view_is c.in_ok-refined.ensures in
     let above = subst (IsRefined problem most c.args.node c.refine.new.region) c.in-Nothing.is refined in
     subst (CostsMore problem (IsIn problem c.args.node)) (to_z-of_z w64 c.args.most c.ranges.most)
     (λ others legal inside. above others inside)
@@ -20,7 +20,7 @@ pub returns-in_ok-part-in-Part : goal.returns-in_ok-part-in-Part
 returns-in_ok-part-in-Part c =
     let problem = c.args.problem.now in
     let most : ℤ = to_z w64 (of_z w64 c.args.most) in
-    let refined = subst (λ region. IsRefined problem most region c.refine.new.region c.in_ok-refine.field-0) c.node.view_is c.in_ok-refine.ensures in
+    let refined = subst (λ region. IsRefined problem most region c.refine.new.region c.in_ok-refined.refined) c.node.view_is c.in_ok-refined.ensures in
     let left = subst (IsRefined problem most c.args.node c.refine.new.region) c.in-Part.is refined in
     subst (λ most. IsVisited problem c.args.node most c.in_ok-part-in-Part.field-0)
     (to_z-of_z w64 c.args.most c.ranges.most)
