@@ -9,6 +9,7 @@
 //! - `limited`: a search that is given up once it has done so much work
 //! - `parts`: the least roster of one base
 //! - `root`: prices to begin with
+//! - `rise`: how they rise
 //! - `finding`: one thread that finds a roster that costs no more than it may
 //! - `exploring`: open nodes of which the last one is visited first
 //! - `stop`: who is told of the nodes of a search, and may end it
@@ -27,6 +28,7 @@ mod limited;
 mod parting;
 mod parts;
 mod refining;
+mod rise;
 mod rising;
 mod room;
 mod root;

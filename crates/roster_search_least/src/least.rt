@@ -47,14 +47,31 @@ pub fn least_of_region<F: Finder>(
     ensures least { IfOk result (IsLeastBelow problem.now (IsIn problem.now region) limit) }
     ensures goes_on { F.goes_on finder.old finder.new }
 {
-    costs_fit(problem);
     let mut region = region;
     let mut root = root;
-    let known = known_below(alloc, problem, &region, root.rounded.take(), limit)?;
-    match cheapest_from(alloc, problem, &region, &mut root, known, limit, finder)? {
+    least_within(alloc, problem, &mut region, &mut root, limit, finder)
+}
+
+/// `least_of_region`, where the region and its prices are lent.
+fn least_within<F: Finder>(
+    alloc: Global,
+    problem: &Problem,
+    region: &mut Region,
+    root: &mut RootPrices,
+    limit: i64,
+    finder: &mut F,
+) -> Result<Option<Roster>, AllocError>
+    requires finder { F.may_find }
+    requires region { IsRegion problem.now region.old }
+    ensures least { IfOk result (IsLeastBelow problem.now (IsIn problem.now region.old) limit) }
+    ensures goes_on { F.goes_on finder.old finder.new }
+{
+    costs_fit(problem);
+    let known = known_below(alloc, problem, region, root.rounded.take(), limit)?;
+    match cheapest_from(alloc, problem, region, root, known, limit, finder)? {
         Some(roster) => {
             let mut roster = roster;
-            first_of_all(alloc, problem, &mut region, &mut roster, &mut root, finder)?;
+            first_of_all(alloc, problem, region, &mut roster, root, finder)?;
             Ok(Some(roster))
         }
         None => Ok(None),

@@ -1,5 +1,5 @@
 use Rattle.roster_search_regions.specs.Regions.{IsRegion}
-use Rattle.roster_search.proofs.root.Rise.end_by_threads.Given as goal
+use Rattle.roster_search.proofs.rise.Rise.end_by_threads.Given as goal
 
 -- the part is a region
 abbrev pub invariant-loop-step : goal.invariant-loop-step
