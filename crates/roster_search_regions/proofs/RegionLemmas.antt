@@ -6,17 +6,17 @@ use Rattle.std.specs.Option.{option_map_or}
 use Rattle.std.proofs.lemmas.Bool.{both_ways, cases_eq, cases_lt, eqb-true}
 use Rattle.std.proofs.lemmas.List.{get_or-set_same, get_or-set_other, length-set, set-get_or}
 use Rattle.std.proofs.lemmas.List.Elements.{All-filter}
-use Rattle.std.proofs.lemmas.List.Sums.{list_all-from_AllPass, sum_by-set}
+use Rattle.std.proofs.lemmas.List.Sums.{AllPass-from_list_all, list_all-from_AllPass, sum_by-set}
 use Rattle.std.proofs.lemmas.Option.{get_or_from_slice_get, slice_get-get_or, slice_get_past, slice_get_within}
 use Rattle.roster_model.specs.Places.{open_number, set_of}
 use Rattle.roster_model.specs.Problem.{Problem}
 use Rattle.roster_model.specs.Rules.{is_among}
 use Rattle.roster_model.proofs.PlacesLemmas.{is_among-set_of}
-use Rattle.roster_model.proofs.SetLemmas.{All-from_is_among}
+use Rattle.roster_model.proofs.SetLemmas.{All-from_is_among, All-is_among}
 use Rattle.roster_search_regions.specs.Regions.{AllowedLine, lines_of, open_in, sets_of, size_of, with_lines, Has, HasNone, HasNot, HasOpenAtLeast, HasOpenAtMost, IsAllowedLine, IsIn, IsNarrowed, IsRegion, Region}
 use Rattle.roster_search_regions.specs.Trees.{lacks}
 use Rattle.roster_search_regions.proofs.Undecided.{undecided_flown, undecided_left_open}
-use Rattle.roster_search_regions.proofs.ListLemmas.{Contains-filter, Contains-from_filter, Contains-from_map, Contains-map, length-filter-le, length-filter-lt, passes-from_filter}
+use Rattle.roster_search_regions.proofs.ListLemmas.{Contains-filter, Contains-from_filter, Contains-from_map, Contains-map, false_from_not, length-filter-le, length-filter-lt, passes-from_filter}
 
 -- ---- who has a pairing
 
@@ -52,6 +52,13 @@ lacks-from_HasNone k taken places none =
         → not (is_among taken p) ≡ true
     go p here true e = absurd (none p e (Has-from_among k p places here))
     go p here false e = ap not e
+
+pub HasNone-from_lacks : (k : ℕ) (taken places : List ℕ) → lacks taken (set_of k places) ≡ true
+    → HasNone k taken places
+HasNone-from_lacks k taken places all p among has =
+    let each = AllPass-from_list_all (λ p. not (is_among taken p)) (set_of k places) all in
+    let none = All-is_among (λ p. not (is_among taken p) ≡ true) (set_of k places) p each (among_from_Has k p places has) in
+    both_ways (is_among taken p) (false_from_not (is_among taken p) none) among
 
 -- ---- the lines of one person
 

@@ -320,7 +320,8 @@ impl Region {
     ) -> Result<(), AllocError>
         requires region { IsRegion problem.now self.old }
         requires person { k < length problem.now.persons }
-        ensures { OnOk result (IsNarrowed problem.now (HasNone k taken.now) self.old self.new) }
+        ensures narrowed { OnOk result (IsNarrowed problem.now (HasNone k taken.now) self.old self.new) }
+        ensures all { OnOk result (IsWhollyIn problem.now self.new (HasNone k taken.now)) }
     {
         self.keep_lacking(alloc, k, taken)?;
         Ok(())

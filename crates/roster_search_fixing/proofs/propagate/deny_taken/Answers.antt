@@ -13,7 +13,7 @@ loop-k-preserved c =
     let before = c.loop-k.invariant in
     elim c.if-not-is_empty.branch [
       | then-not-is_empty+in_ok-deny_all w ↦
-          let step = narrowed_by_more problem (HasNone c.loop-k.k c.taken_from-taken.result) Anything mid w.deny_all.new.self w.in_ok-deny_all.ensures (λ places there any. c.taken_from-taken.ensures places there) in
+          let step = narrowed_by_more problem (HasNone c.loop-k.k c.taken_from-taken.result) Anything mid w.deny_all.new.self w.in_ok-deny_all.ensures.narrowed (λ places there any. c.taken_from-taken.ensures places there) in
           subst (IsNarrowed problem Anything old) (sym w.region-is)
           (narrowed_then problem Anything old mid w.deny_all.new.self before step)
       | else-not-is_empty w ↦ subst (IsNarrowed problem Anything old) (sym w.region-is) before
