@@ -1,7 +1,9 @@
 //! A row for each person.
 
-ghost use Rattle.std.specs.Prelude.{◌≡◌, ◌==◌, ◌<◌, length};
-ghost use Rattle.std.specs.List.{count_by};
+ghost use Rattle.std.specs.Prelude.{◌≡◌, ◌<◌, length, OnOk};
+ghost use Rattle.roster_desk_sheets.specs.Written.{IsWhole};
+ghost use Rattle.roster_desk_tables.specs.Rows as spec;
+ghost use Rattle.roster_desk_tables.specs.Rows.{HasPersonRow, pairings_of};
 
 use crate::month::month_days;
 use crate::sums::sums_of;
@@ -31,7 +33,7 @@ pub(crate) const COLUMNS: [&[u8]; 15] = [
 
 /// How many pairings the roster gives to person `k`.
 fn count_of(places: &[u16], k: usize) -> usize
-    ensures { result ≡ count_by (λ place. place == k) places.now }
+    ensures { result ≡ pairings_of places.now k }
 {
     places
         .iter()
@@ -42,6 +44,7 @@ fn count_of(places: &[u16], k: usize) -> usize
 /// How many leaves person `k` has.
 fn leaves_of(problem: &Problem, k: usize) -> usize
     requires { k < length problem.now.persons }
+    ensures { result ≡ spec.leaves_of problem.now k }
 {
     problem.leave(k).len()
 }
@@ -56,6 +59,8 @@ pub(crate) fn push_person(
 ) -> Result<(), AllocError>
     requires covers { length places.now ≡ length problem.now.pairings }
     requires person { k < length problem.now.persons }
+    ensures { OnOk result (IsWhole rows.old.records
+        → HasPersonRow problem.now places.now k rows.old rows.new) }
 {
     let person = problem.person(k);
     let list = duties_with(alloc, problem, places, k)?;
@@ -90,5 +95,6 @@ pub(crate) fn push_person(
         flight28.as_bytes(),
         target.as_bytes(),
         cost.as_bytes(),
-    ])
+    ])?;
+    Ok(())
 }

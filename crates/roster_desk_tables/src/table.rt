@@ -1,6 +1,7 @@
 //! The tables of a roster.
 
-ghost use Rattle.std.specs.Prelude.{◌≡◌, ◌<◌, length};
+ghost use Rattle.std.specs.Prelude.{◌≡◌, ◌<◌, IfOk, length};
+ghost use Rattle.roster_desk_tables.specs.Rows.{IsPersonsTable};
 
 use crate::persons::push_person;
 use crate::rows::push_rows;
@@ -37,10 +38,12 @@ pub fn persons_table(
     sheet: Sheet<'_>,
 ) -> Result<Vec<u8>, AllocError>
     requires { length places.now ≡ length problem.now.pairings }
+    ensures { IfOk result (λ text. IsPersonsTable problem.now places.now sheet.entry text.items) }
 {
     let mut table = TableRows::under(alloc, sheet, &persons::COLUMNS)?;
     for k in 0..problem.persons().len() {
         push_person(alloc, &mut table, problem, places, k)?;
     }
-    table.finish()
+    let text = table.finish()?;
+    Ok(text)
 }
