@@ -1,7 +1,10 @@
 //! The faults of a book, as values.
 
-ghost use Rattle.std.specs.Prelude.{◌≡◌, IfErr, IfOk, None};
+ghost use Rattle.std.specs.Prelude.{◌≡◌, ◌+◌, ◌<◌, IfErr, IfOk, None, OnOk, length};
+ghost use Rattle.std.specs.List.{AllZip};
 ghost use Rattle.roster_book.specs.Reading.{IsBookOf, TellsFirst};
+ghost use Rattle.roster_book.specs.declared.fault.BookFault.TheVariants.{At};
+ghost use Rattle.roster_desk_fault.specs.Firsts.{AreKept, BeginsAt, IsFirst, IsJudged, IsTold, IsValue};
 ghost use Rattle.roster_desk_fault.specs.declared.judging.Judged.TheVariants.{Good};
 ghost use Rattle.roster_model.specs.Answer.{records_of};
 ghost use Rattle.roster_model.specs.Faults.{first_fault};
@@ -66,7 +69,9 @@ pub(crate) fn read(alloc: Global, bytes: &[u8]) -> Result<Book, BookFault>
 }
 
 /// The record and the code of the fault; bytes in memory are no device that fails.
-pub(crate) fn first_of(fault: BookFault) -> Result<First, AllocError> {
+pub(crate) fn first_of(fault: BookFault) -> Result<First, AllocError>
+    ensures { IfOk result (λ first. fault ≡ At first.row first.code) }
+{
     match fault {
         BookFault::At { row, code } => Ok(First { row, code }),
         BookFault::Device | BookFault::Memory => Err(AllocError),
@@ -118,18 +123,22 @@ pub(crate) fn field_name(row: &Record, i: usize) -> &'static str {
     kind.name(i).unwrap_or("one too many")
 }
 
-/// What is wrong with the record at the place.
-fn told_at(
+/// Puts what is wrong with the record at the place behind the others.
+fn push_told(
     alloc: Global,
+    told: &mut Vec<Told>,
     rows: &[Record],
     at: usize,
     code: u8,
-) -> Result<Option<Told>, AllocError> {
+) -> Result<(), AllocError>
+    ensures { OnOk result (at < length rows.now → IsTold at code told.old.items told.new.items) }
+{
     let Some(row) = rows.get(at) else {
-        return Ok(None);
+        return Ok(());
     };
     let found = find(alloc, Seen { rows, at, row }, code)?;
-    Ok(Some(Told { at, code, found }))
+    told.push(Told { at, code, found })?;
+    Ok(())
 }
 
 /// Leaves out the record at the place, and if it is one too many, all later ones of its kind, which are too.
@@ -149,7 +158,9 @@ pub(crate) fn find_faults(
     rows: &mut Vec<Record>,
     first: First,
     most: usize,
-) -> Result<Faults, AllocError> {
+) -> Result<Faults, AllocError>
+    ensures { IfOk result (λ faults. AreKept rows.old.items → BeginsAt first faults.told.items) }
+{
     let mut told = Vec::new(alloc);
     let mut next = Some(first);
     for n in 0..most {
@@ -158,12 +169,10 @@ pub(crate) fn find_faults(
         if n > 0 && fault.code == NO_PERIOD {
             break;
         }
-        let Some(at) = kept_at(rows, fault.row.saturating_sub(1)) else {
+        let Some(at) = kept_at(rows, fault.row) else {
             break;
         };
-        if let Some(found) = told_at(alloc, rows, at, fault.code)? {
-            told.push(found)?;
-        }
+        push_told(alloc, &mut told, rows, at, fault.code)?;
         leave_out(rows, at, fault.code);
         next = first_kept(alloc, rows)?;
     }
@@ -183,27 +192,41 @@ fn field_in(
     }
 }
 
-/// Puts the fault behind the others.
-fn push_value(
-    alloc: Global,
-    faults: &mut Vec<Fault>,
-    rows: &[Record],
-    told: Told,
-) -> Result<(), AllocError> {
+/// The row of the record at the place.
+fn row_at(at: usize) -> usize
+    ensures { at < 18446744073709551615 → result ≡ at + 1 }
+{
+    at.saturating_add(1)
+}
+
+/// The fault as a value.
+fn value_of(alloc: Global, rows: &[Record], told: Told) -> Result<Fault, AllocError>
+    ensures { IfOk result (IsValue told) }
+{
     let Told { at, code, found } = told;
     let (field, has) = field_in(alloc, rows, at, found.field)?;
     let other = found
         .other
-        .map(|other| (other.place.saturating_add(1), other.relation));
-    faults.push(Fault {
-        row: at.saturating_add(1),
+        .map(|other| (row_at(other.place), other.relation));
+    Ok(Fault {
+        row: row_at(at),
         code,
         field,
         has,
         wanted: found.wanted,
         other,
-    })?;
-    Ok(())
+    })
+}
+
+/// The faults as values.
+fn values_of(alloc: Global, rows: &[Record], all: Vec<Told>) -> Result<Vec<Fault>, AllocError>
+    ensures { IfOk result (λ faults. AllZip IsValue all.items faults.items) }
+{
+    let mut faults = Vec::new(alloc);
+    for told in all {
+        faults.push(value_of(alloc, rows, told)?)?;
+    }
+    Ok(faults)
 }
 
 /// The faults of the records, of which this is the first.
@@ -212,20 +235,20 @@ fn faults_from(
     rows: &mut Vec<Record>,
     first: First,
     most: usize,
-) -> Result<Vec<Fault>, AllocError> {
+) -> Result<Vec<Fault>, AllocError>
+    ensures { IfOk result (λ faults. AreKept rows.old.items
+        → IsFirst first.row first.code faults.items) }
+{
     let found = find_faults(alloc, rows, first, most)?;
-    let mut faults = Vec::new(alloc);
-    for told in found.told {
-        push_value(alloc, &mut faults, rows, told)?;
-    }
-    Ok(faults)
+    values_of(alloc, rows, found.told)
 }
 
 /// Whether the book in the bytes has a fault. The first one is that of a check, and each later one as if the
 /// faulty records before it weren't there; so many at most.
 pub fn judge(alloc: Global, bytes: &[u8], most: usize) -> Result<Judged, AllocError>
-    ensures { IfOk result (λ judged. judged ≡ Good
+    ensures good { IfOk result (λ judged. judged ≡ Good
         → first_fault Check (records_of bytes.now) ≡ None) }
+    ensures first { IfOk result (IsJudged (records_of bytes.now)) }
 {
     let Err(fault) = read(alloc, bytes) else {
         return Ok(Judged::Good);

@@ -1,5 +1,8 @@
 //! The records of a book, each with its line in the file.
 
+ghost use Rattle.std.specs.Prelude.{◌≡◌, ◌+◌, ◌<◌, All, IfOk, IfSome};
+ghost use Rattle.roster_desk_fault.specs.Firsts.{AreKept, IsKeptAt};
+
 use crate::kinds::Kind;
 use roster_desk_sheets::{Row, push_field, read_rows as read_lines};
 use std::alloc::{AllocError, Global};
@@ -94,7 +97,9 @@ pub(crate) fn push_record(
 }
 
 /// The records of the book in the bytes, as a check reads them. The n-th is that of row n + 1.
-pub(crate) fn read_rows(alloc: Global, bytes: &[u8]) -> Result<Vec<Record>, AllocError> {
+pub(crate) fn read_rows(alloc: Global, bytes: &[u8]) -> Result<Vec<Record>, AllocError>
+    ensures { IfOk result (λ rows. AreKept rows.items) }
+{
     let mut records = Vec::new(alloc);
     for row in read_lines(alloc, bytes, b',')? {
         records.push(Record {
@@ -116,15 +121,18 @@ pub(crate) fn kept_text(alloc: Global, rows: &[Record]) -> Result<Vec<u8>, Alloc
     Ok(out)
 }
 
-/// The place of the record that has so many records before it that aren't left out, if there is one.
-pub(crate) fn kept_at(rows: &[Record], before: usize) -> Option<usize> {
-    let mut left = before;
-    for (i, row) in rows.iter().enumerate() {
-        if !row.left_out {
-            if left == 0 {
+/// The place of the n-th of the records that aren't left out, from 1, if there are so many.
+#[tactic(auto, using(crate::proofs::Counting::counting))]
+pub(crate) fn kept_at(rows: &[Record], n: usize) -> Option<usize>
+    ensures { IfSome result (IsKeptAt rows.now n) }
+{
+    let mut kept = 0usize;
+    for i in 0..rows.len() {
+        if !rows[i].left_out {
+            kept += 1;
+            if kept == n {
                 return Some(i);
             }
-            left -= 1;
         }
     }
     None

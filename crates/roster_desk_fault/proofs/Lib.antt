@@ -1,0 +1,4 @@
+pub mod Begun
+pub mod Counting
+pub mod Kept
+pub mod Values
