@@ -279,6 +279,11 @@ def crowded_books(root, desk, tests):
         (told[:2] != [f"  line    {row}", f"  record  {record}"] or not told[2].startswith(why)) and f"told is {told}",
         "roster-desk plan" not in told[-1] and "no way out",
     )
+    book = open(f"{folder}/book.csv", encoding="utf-8").read().splitlines()
+    crew = next(i for i, line in enumerate(book) if line.startswith("crew"))
+    book[crew:crew] = ["base,NOWHERE,UTC0", "crew,NOBODY,NOWHERE,0,0,0"]
+    text = desk("fault", "-", book="\n".join(book).encode()).stdout.decode()
+    tests.told("behind a person with few sets", f"  line    {row + 2}\n  record  {record}\n" not in text and f"told is {text}")
     most = told[2].removeprefix(why).split(",")[0]
     said = f"| 15 | gives a person who has more than {most} legal sets"
     tests.told("code 15 in docs/REPORT.md", said not in open(f"{root}/docs/REPORT.md", encoding="utf-8").read() and f"another number: {told}")
