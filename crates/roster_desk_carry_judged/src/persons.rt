@@ -1,6 +1,6 @@
 //! Whether persons are the same, with what they carry.
 
-ghost use Rattle.std.specs.Prelude.{◌≡◌, ◌+◌, ◌<◌, ◌≤◌, [], IfOk, IfSome, IsTrue, length};
+ghost use Rattle.std.specs.Prelude.{◌≡◌, ◌+◌, ◌^◌, ◌<◌, ◌≤◌, [], IfOk, IfSome, IsTrue, None, length};
 ghost use Rattle.roster_model.specs.Problem.{eleven_of, year_of};
 ghost use Rattle.roster_desk_carry_judged.specs.Carried as spec;
 ghost use Rattle.roster_desk_carry_judged.specs.Carried.{HasDuties, HasFlown, HasLeave, HasOneZone};
@@ -29,7 +29,8 @@ pub fn flight_in(alloc: Global, book: &Problem, places: &[u16], k: usize) -> Res
 /// What was flown in the calendar year of the month after this one, by what was flown of it before and in
 /// this one; none if that is no machine's number.
 pub fn year_after(this: Period, year: u64, flight: u64) -> Option<u64>
-    ensures { IfSome result (λ minutes. minutes ≡ spec.year_after this year flight) }
+    ensures sum { IfSome result (λ minutes. minutes ≡ spec.year_after this year flight) }
+    ensures none { result ≡ None → 2 ^ 64 ≤ spec.year_after this year flight }
 {
     if month_of(this) == 12 {
         Some(0)
