@@ -1,6 +1,7 @@
 pub mod Units
 pub mod Regions
 pub mod Trees
+pub mod Tests
 pub mod Marks
 pub mod Rows
 pub mod Sources

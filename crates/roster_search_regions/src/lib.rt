@@ -11,6 +11,7 @@
 //! - `marker`: marks of the choices of a tree that are left
 //! - `sums`: the prices of a path's pairings
 //! - `marking`: which choices of the table's rows are left
+//! - `test`: what is asked of a line that stays
 //! - `tree`: the lines that a person may still have
 //! - `shared`: trees that several regions have
 //! - `region`: regions, and what makes them smaller
@@ -38,6 +39,7 @@ mod rows;
 mod shared;
 mod split;
 mod sums;
+mod test;
 mod tree;
 mod units;
 mod writer;

@@ -10,15 +10,17 @@ ghost use Rattle.roster_search_regions.specs.Marks.{picked, IsMarking};
 ghost use Rattle.roster_search_regions.specs.declared.choice.Choice.{Choice as PlainChoice};
 ghost use Rattle.roster_search_regions.specs.Prices.{value_of, ArePrices};
 ghost use Rattle.roster_search_regions.specs.Regions.{AllowedLine};
+ghost use Rattle.roster_search_regions.specs.Tests.{passes};
 ghost use Rattle.roster_search_regions.specs.Trees.{agrees, lacks, lines_in, AreCertain, ArePossible, HasJust, Offers};
 
 use crate::all_lines::AllLines;
 use crate::choice::{Choice, MOST_VALUE};
 use crate::choices::Choices;
 use crate::marker::Marker;
-use crate::marking::{is_wanted, marks_having, marks_lacking, marks_within};
+use crate::marking::{marks_passing, marks_within};
 use crate::path::Path;
 use crate::sums::Sums;
+use crate::test::Test;
 use crate::writer::Writer;
 use roster_lines_table::SharedLines;
 use roster_values::Set;
@@ -145,25 +147,9 @@ impl Tree {
         ensures { IfOk result (λ tree. tree ≡ self) }
     {
         if wanted {
-            return self.copied(alloc);
+            return self.copied_passing(alloc, &Test::Any);
         }
         Ok(self)
-    }
-
-    /// The same lines, copied.
-    fn copied(&self, alloc: Global) -> Result<Tree, AllocError>
-        ensures { IfOk result (λ tree. tree ≡ self.now) }
-    {
-        let choices = self.choices();
-        let mut path = Path::new(alloc);
-        let mut writer = Writer::new(alloc);
-        for i in 0..choices.len() {
-            let choice = choices.at(i);
-            path.step(&choice)?;
-            writer.pass(&choice);
-            writer.keep(&path, &choice, true)?;
-        }
-        Ok(Tree::of(writer))
     }
 
     /// The tree's choices.
@@ -214,48 +200,34 @@ impl Tree {
         ensures { IfOk result
             (λ tree. tree ≡ filter (λ line. agrees wanted (is_among line.set p)) self.now) }
     {
-        match &self.held {
-            Held::Table(lines) => {
-                let marker = marks_having(alloc, &lines.rows(), p, wanted)?;
-                Tree::marked(alloc, lines, marker)
-            }
-            Held::Own(_) => self.copied_having(alloc, p, wanted),
-        }
-    }
-
-    /// `having`, for lines that are copied.
-    fn copied_having(&self, alloc: Global, p: usize, wanted: bool) -> Result<Tree, AllocError>
-        ensures { IfOk result
-            (λ tree. tree ≡ filter (λ line. agrees wanted (is_among line.set p)) self.now) }
-    {
-        let choices = self.choices();
-        let mut path = Path::new(alloc);
-        let mut writer = Writer::new(alloc);
-        for i in 0..choices.len() {
-            let choice = choices.at(i);
-            path.step(&choice)?;
-            writer.pass(&choice);
-            writer.keep(&path, &choice, is_wanted(wanted, path.has(p)))?;
-        }
-        Ok(Tree::of(writer))
+        self.passing(alloc, &Test::Having(p, wanted))
     }
 
     /// The lines that have none of the pairings of the set.
     pub(crate) fn lacking(&self, alloc: Global, taken: &Set) -> Result<Tree, AllocError>
         ensures { IfOk result (λ tree. tree ≡ filter (λ line. lacks taken.now line.set) self.now) }
     {
+        self.passing(alloc, &Test::Lacking(taken))
+    }
+
+    /// The lines that pass.
+    fn passing(&self, alloc: Global, test: &Test<'_>) -> Result<Tree, AllocError>
+        ensures { IfOk result
+            (λ tree. tree ≡ filter (λ line. passes test.now line.set) self.now) }
+    {
         match &self.held {
             Held::Table(lines) => {
-                let marker = marks_lacking(alloc, &lines.rows(), taken)?;
+                let marker = marks_passing(alloc, &lines.rows(), test)?;
                 Tree::marked(alloc, lines, marker)
             }
-            Held::Own(_) => self.copied_lacking(alloc, taken),
+            Held::Own(_) => self.copied_passing(alloc, test),
         }
     }
 
-    /// `lacking`, for lines that are copied.
-    fn copied_lacking(&self, alloc: Global, taken: &Set) -> Result<Tree, AllocError>
-        ensures { IfOk result (λ tree. tree ≡ filter (λ line. lacks taken.now line.set) self.now) }
+    /// `passing`, for lines that are copied.
+    fn copied_passing(&self, alloc: Global, test: &Test<'_>) -> Result<Tree, AllocError>
+        ensures { IfOk result
+            (λ tree. tree ≡ filter (λ line. passes test.now line.set) self.now) }
     {
         let choices = self.choices();
         let mut path = Path::new(alloc);
@@ -264,7 +236,7 @@ impl Tree {
             let choice = choices.at(i);
             path.step(&choice)?;
             writer.pass(&choice);
-            writer.keep(&path, &choice, path.lacks(taken))?;
+            writer.keep(&path, &choice, test.passes(&path))?;
         }
         Ok(Tree::of(writer))
     }

@@ -2,10 +2,11 @@ use Rattle.std.proofs.Common.{ap, sym, ◌∙◌, subst, arith}
 use Rattle.std.specs.Prelude.{filter}
 use Rattle.std.proofs.lemmas.List.{take_all}
 use Rattle.roster_search_regions.specs.Marks.{IsMarking}
-use Rattle.roster_search_regions.specs.Trees.{lacks, lines_after, lines_in, next_path, path_after}
+use Rattle.roster_search_regions.specs.Tests.{passes}
+use Rattle.roster_search_regions.specs.Trees.{lines_after, lines_in, next_path, path_after}
 use Rattle.roster_search_regions.proofs.MarkLemmas.{marked_at}
 use Rattle.roster_search_regions.proofs.TreeLemmas.{path_at}
-use Rattle.roster_search_regions.proofs.marking.marks_lacking.Goals as goal
+use Rattle.roster_search_regions.proofs.marking.marks_passing.Goals as goal
 
 pub loop-i-init : goal.loop-i-init
 unfolding path_after lines_after lines_in
@@ -26,13 +27,13 @@ loop-i-preserved c =
           c.in_ok-step.ensures ∙ ap (λ path. next_path path item) c.loop-i.invariant.there
           ∙ sym (path_at choices c.loop-i.i item c.at-choice.ensures.value);
       marking =
-          marked_at (λ line. lacks c.args.taken.now line.set) choices c.loop-i.i item c.lacks.result _ _ _ _
+          marked_at (λ line. passes c.args.test.now line.set) choices c.loop-i.i item c.passes.result _ _ _ _
           c.at-choice.ensures.value c.in_ok-step.ensures c.loop-i.invariant.there
-          c.lacks.ensures
+          c.passes.ensures
           c.in_ok-mark.ensures c.loop-i.invariant.marking;
     }
 
 pub returns : goal.returns
 returns c =
     let all = take_all c.loop-i.i c.args.rows.now (omega (arith, c.loop-i-test.false, c.len-i-end.ensures)) in
-    subst (λ cs. IsMarking c.loop-i.marker cs (filter (λ line. lacks c.args.taken.now line.set) (lines_in cs))) all c.loop-i.invariant.marking
+    subst (λ cs. IsMarking c.loop-i.marker cs (filter (λ line. passes c.args.test.now line.set) (lines_in cs))) all c.loop-i.invariant.marking

@@ -1,14 +1,14 @@
 use Rattle.std.proofs.Common.{◌≡◌, [], take}
 use Rattle.std.specs.Prelude.{filter}
 use Rattle.roster_search_regions.specs.Marks.{IsMarking}
-use Rattle.roster_model.specs.Rules.{is_among}
-use Rattle.roster_search_regions.specs.Trees.{agrees, lines_in, path_after}
-use Rattle.roster_search_regions.proofs.marking.marks_having.Given as goal
+use Rattle.roster_search_regions.specs.Tests.{passes}
+use Rattle.roster_search_regions.specs.Trees.{lines_in, path_after}
+use Rattle.roster_search_regions.proofs.marking.marks_passing.Given as goal
 
 -- the path has come to the choice before, and the choices so far are marked
 abbrev pub invariant-loop-i : goal.invariant-loop-i
 invariant-loop-i l = record {
   there : l.path ≡ path_after [] (take l.i l.rows);
   marking : IsMarking l.marker (take l.i l.rows)
-      (filter (λ line. agrees l.wanted (is_among line.set l.p)) (lines_in (take l.i l.rows)));
+      (filter (λ line. passes l.test line.set) (lines_in (take l.i l.rows)));
 }

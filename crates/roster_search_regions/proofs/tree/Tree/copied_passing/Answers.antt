@@ -1,10 +1,11 @@
 use Rattle.std.proofs.Common.{ap, sym, ◌∙◌, arith}
 use Rattle.std.specs.Prelude.{filter}
 use Rattle.std.proofs.lemmas.List.{take_all}
-use Rattle.roster_search_regions.specs.Trees.{lacks, lines_after, lines_in, next_path, path_after}
+use Rattle.roster_search_regions.specs.Tests.{passes}
+use Rattle.roster_search_regions.specs.Trees.{lines_after, lines_in, next_path, path_after}
 use Rattle.roster_search_regions.proofs.TreeLemmas.{path_at}
 use Rattle.roster_search_regions.proofs.Write.{kept_at, read_on}
-use Rattle.roster_search_regions.proofs.tree.Tree.copied_lacking.Goals as goal
+use Rattle.roster_search_regions.proofs.tree.Tree.copied_passing.Goals as goal
 
 pub loop-i-init : goal.loop-i-init
 unfolding path_after lines_after lines_in
@@ -26,9 +27,9 @@ loop-i-preserved c =
           c.in_ok-step.ensures ∙ ap (λ path. next_path path item) c.loop-i.invariant.there
           ∙ sym (path_at choices c.loop-i.i item c.at-choice.ensures.value);
       writing =
-          kept_at (λ line. lacks c.args.taken.now line.set) choices c.loop-i.i item c.lacks.result _ _ _ _
+          kept_at (λ line. passes c.args.test.now line.set) choices c.loop-i.i item c.passes.result _ _ _ _
           c.at-choice.ensures.value c.in_ok-step.ensures c.loop-i.invariant.there
-          c.lacks.ensures
+          c.passes.ensures
           c.in_ok-keep.ensures now;
     }
 
@@ -42,5 +43,5 @@ returns c =
     (omega (arith, c.loop-i-test.false, c.len-i-end.ensures)) in
     c.of.ensures
     ∙ c.loop-i.invariant.writing.written
-    ∙ ap (λ cs. filter (λ line. lacks c.args.taken.now line.set) (lines_in cs)) all
-    ∙ ap (filter (λ line. lacks c.args.taken.now line.set)) c.choices-choices.ensures
+    ∙ ap (λ cs. filter (λ line. passes c.args.test.now line.set) (lines_in cs)) all
+    ∙ ap (filter (λ line. passes c.args.test.now line.set)) c.choices-choices.ensures
