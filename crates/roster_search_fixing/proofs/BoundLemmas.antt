@@ -18,7 +18,8 @@ use Rattle.roster_cost.specs.Priced.{penalties_and_prices, reduced_cost}
 use Rattle.roster_search_regions.specs.Prices.{price_at, value_of}
 use Rattle.roster_search_regions.specs.Regions.{extra_of, lines_of, open_in, AllowedLine, IsAllowedLine, IsIn, IsRegion, Region}
 use Rattle.roster_search_regions.proofs.RegionLemmas.{chosen_line, lines_of_get}
-use Rattle.roster_search_fixing.specs.Bounds.{bound_of, fine_cost, fine_penalty, open_cost, paid_in, share_of, term_of, value_in, AreLeastValues, AreTerms, CostsAtMost, IsAllAbove, IsSlack}
+use Rattle.roster_search_regions.specs.Terms.{fine_penalty, open_cost, paid_in, term_of}
+use Rattle.roster_search_fixing.specs.Bounds.{bound_of, fine_cost, share_of, value_in, AreLeastValues, AreTerms, CostsAtMost, IsAllAbove, IsSlack}
 use Rattle.roster_search_fixing.proofs.Fine.{added, fine_split, times-le}
 use Rattle.roster_search_fixing.proofs.Totals.{total-by_place, total-gap, total-le}
 

@@ -13,7 +13,7 @@ use Rattle.roster_model.specs.Problem.{Problem}
 use Rattle.roster_model.proofs.CostLemmas.{total-nil, total-cons, total-both}
 use Rattle.roster_cost.specs.Priced.{penalties_and_prices, reduced_cost}
 use Rattle.roster_search_regions.specs.Regions.{extra_of, idle_cost}
-use Rattle.roster_search_fixing.specs.Bounds.{penalty_at}
+use Rattle.roster_search_regions.specs.Terms.{penalty_at}
 
 -- ---- so many times a number
 

@@ -10,7 +10,8 @@ use Rattle.roster_model.specs.Problem.{Problem}
 use Rattle.roster_search_regions.specs.Prices.{price_at, value_of}
 use Rattle.roster_search_regions.specs.Regions.{extra_of, lines_of, with_lines, Has, HasNot, IsIn, IsNarrowed, IsRegion, Region}
 use Rattle.roster_search_regions.proofs.RegionLemmas.{narrowed_by_filter}
-use Rattle.roster_search_fixing.specs.Bounds.{open_cost, penalty_at, CostsAtMost, IsShareWithin, IsValueWithin}
+use Rattle.roster_search_regions.specs.Terms.{open_cost, penalty_at}
+use Rattle.roster_search_fixing.specs.Bounds.{CostsAtMost, IsShareWithin, IsValueWithin}
 use Rattle.roster_search_fixing.specs.declared.tightening.Bounds.{Bounds}
 use Rattle.roster_search_fixing.specs.Tightening.{IsUse}
 use Rattle.roster_search_fixing.proofs.BoundLemmas.{true-int_le, value_is}

@@ -4,7 +4,7 @@ use Rattle.roster_model.specs.Problem.{Problem}
 use Rattle.roster_cost.specs.Amounts.{IsWithin}
 use Rattle.roster_search_regions.specs.declared.choice.TheConstants.{MOST_VALUE}
 use Rattle.roster_search_regions.specs.Regions.{Region}
-use Rattle.roster_search_fixing.specs.declared.bounding.TheConstants.{MOST_TERM}
+use Rattle.roster_search_regions.specs.declared.terms.TheConstants.{MOST_TERM}
 use Rattle.roster_search_fixing.specs.declared.tightening.TheConstants.{MOST_SLACK}
 use Rattle.roster_search_fixing.specs.declared.tightening.Bounds.{Bounds}
 use Rattle.roster_search_fixing.specs.Bounds.{IsSlack}

@@ -15,7 +15,6 @@ mod inside;
 mod propagate;
 mod tightening;
 
-pub use bounding::{paid_for_open, term};
 pub use costs::{cost_above, cost_at_most};
 pub use deciding::{is_split, only, pick};
 pub use inside::is_in;

@@ -8,13 +8,11 @@ ghost use Rattle.roster_search_regions.specs.Regions.{IsNarrowed, IsRegion};
 ghost use Rattle.roster_search_fixing.specs.Bounds.{CostsAtMost, IsAllAbove, IsShareWithin, IsValueWithin};
 ghost use Rattle.roster_search_fixing.specs.Tightening.{IsUse};
 
-use crate::bounding::{
-    MOST_BOUND, MOST_PAID, cost_of_open, least_values, paid_for_open, sum_of_both, terms,
-};
+use crate::bounding::{MOST_BOUND, least_values, sum_of_both, terms};
 use crate::propagate::propagate;
 use roster_cost::priced_shares_add_up;
 use roster_problem::Problem;
-use roster_search_regions::{Region, price_of};
+use roster_search_regions::{MOST_PAID, Region, cost_of_open, paid_for_open, price_of};
 use std::alloc::{AllocError, Global};
 
 /// How often a region is tightened at once, at most.

@@ -8,4 +8,5 @@ pub mod Sources
 pub mod Held
 pub mod Writing
 pub mod Prices
+pub mod Terms
 pub mod Building

@@ -20,6 +20,7 @@
 //! - `split`: what a region may be parted by
 //! - `reading`: lists read past their ends
 //! - `person_lines`: the lines of a person, all or some, for what looks at them
+//! - `terms`: what open pairings and the pairings of a bound add
 //! - `dual_prices`: dual prices of pairings, and one step of them
 #![tactic(auto)]
 
@@ -39,6 +40,7 @@ mod rows;
 mod shared;
 mod split;
 mod sums;
+mod terms;
 mod test;
 mod tree;
 mod units;
@@ -53,4 +55,5 @@ pub use region::Region;
 pub use rows::Rows;
 pub use split::Split;
 pub use sums::price_of;
+pub use terms::{MOST_PAID, MOST_TERM, cost_of_open, paid_for_open, term};
 pub use writer::is_same;

@@ -9,9 +9,8 @@ use crate::program_rows::{NO_ROW, apart_from, pairings_of, penalties_of, persons
 use crate::seeking::{Seeker, Sought};
 use crate::tuning::{LINES_A_PERSON, MOST_ROWS, NEW_PART_OF_GRAIN};
 use roster_problem::Problem;
-use roster_search_fixing::{paid_for_open, term};
 use roster_search_lp::{Allowed, Master};
-use roster_search_regions::{DualPrices, Region, number_at, scaled_penalty};
+use roster_search_regions::{DualPrices, Region, number_at, paid_for_open, scaled_penalty, term};
 use std::alloc::{AllocError, Global};
 
 /// A linear program over some lines of a region and of its parts: parts of lines may make up a line, and
@@ -75,7 +74,6 @@ impl Relaxation {
         let mut seekers = Vec::new(alloc);
         seekers.push(Seeker::new(alloc, problem.pairings().len())?)?;
         Ok(Relaxation {
-            master: Master::new(alloc, &idle, &penalties, grain_in_word(region))?,
             rows: rows_of(alloc, problem, &pairings)?,
             gains: Gains::new(alloc, persons.len().saturating_mul(pairings.len()))?,
             apart: apart_from(problem, region, &penalties),
@@ -91,6 +89,7 @@ impl Relaxation {
             allowed: Vec::new(alloc),
             limits: Vec::new(alloc),
             seekers,
+            master: Master::new(alloc, &idle, &penalties, grain_in_word(region))?,
         })
     }
 
@@ -99,7 +98,6 @@ impl Relaxation {
         let mut seekers = Vec::new(alloc);
         seekers.push(Seeker::new(alloc, self.rows.len())?)?;
         Ok(Relaxation {
-            master: self.master.copy(alloc)?,
             persons: self.persons.clone()?,
             pairings: self.pairings.clone()?,
             rows: self.rows.clone()?,
@@ -115,6 +113,7 @@ impl Relaxation {
             limits: Vec::new(alloc),
             seekers,
             gains: self.gains.copy()?,
+            master: self.master.copy(alloc)?,
         })
     }
 

@@ -1,7 +1,7 @@
 use Rattle.std.proofs.Common.{arith}
 use Rattle.std.proofs.lemmas.Int.{ints}
 use Rattle.roster_search_regions.specs.declared.choice.TheConstants.{MOST_VALUE}
-use Rattle.roster_search_fixing.specs.declared.bounding.TheConstants.{MOST_TERM}
+use Rattle.roster_search_regions.specs.declared.terms.TheConstants.{MOST_TERM}
 use Rattle.roster_search_fixing.proofs.Totals.{total-within}
 use Rattle.roster_search_fixing.proofs.bounding.sum_of_both.Goals as goal
 

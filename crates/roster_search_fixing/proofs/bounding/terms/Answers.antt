@@ -4,8 +4,8 @@ use Rattle.std.proofs.lemmas.Int.{ints, to_z-of_z}
 use Rattle.std.proofs.lemmas.List.{length_push}
 use Rattle.std.proofs.lemmas.List.Elements.{All-push}
 use Rattle.roster_cost.specs.Amounts.{IsWithin}
-use Rattle.roster_search_fixing.specs.declared.bounding.TheConstants.{MOST_TERM}
-use Rattle.roster_search_fixing.specs.Bounds.{term_of}
+use Rattle.roster_search_regions.specs.declared.terms.TheConstants.{MOST_TERM}
+use Rattle.roster_search_regions.specs.Terms.{term_of}
 use Rattle.roster_search_fixing.proofs.BoundLemmas.{more_leasts}
 use Rattle.roster_search_fixing.proofs.bounding.terms.Goals as goal
 

@@ -1,8 +1,8 @@
 use Rattle.std.proofs.Common.{◌≡◌, ◌<◌, ℕ, length, get_or, pos}
 use Rattle.std.specs.Prelude.{All}
 use Rattle.roster_cost.specs.Amounts.{IsWithin}
-use Rattle.roster_search_fixing.specs.declared.bounding.TheConstants.{MOST_TERM}
-use Rattle.roster_search_fixing.specs.Bounds.{term_of}
+use Rattle.roster_search_regions.specs.declared.terms.TheConstants.{MOST_TERM}
+use Rattle.roster_search_regions.specs.Terms.{term_of}
 use Rattle.roster_search_fixing.proofs.bounding.terms.Given as goal
 
 -- those of the pairings so far

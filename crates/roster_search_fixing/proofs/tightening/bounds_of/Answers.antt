@@ -1,7 +1,8 @@
 use Rattle.std.proofs.Common.{ℕ, List, ap, ap₂, ◌∙◌, w64, subst, arith}
 use Rattle.std.proofs.lemmas.Int.{ints, to_z-of_z}
 use Rattle.roster_search_regions.specs.Regions.{IsIn}
-use Rattle.roster_search_fixing.specs.Bounds.{bound_of, paid_in, AreTerms}
+use Rattle.roster_search_regions.specs.Terms.{paid_in}
+use Rattle.roster_search_fixing.specs.Bounds.{bound_of, AreTerms}
 use Rattle.roster_search_fixing.proofs.BoundLemmas.{all_above, slack_is, IsPriced}
 use Rattle.roster_search_fixing.proofs.tightening.bounds_of.Goals as goal
 
