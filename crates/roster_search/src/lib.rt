@@ -10,6 +10,7 @@
 //! - `parts`: the least roster of one base
 //! - `root`: prices to begin with
 //! - `rise`: how they rise
+//! - `looks`: who looks at lines for that
 //! - `finding`: one thread that finds a roster that costs no more than it may
 //! - `exploring`: open nodes of which the last one is visited first
 //! - `stop`: who is told of the nodes of a search, and may end it
@@ -25,6 +26,7 @@ mod boxes;
 mod exploring;
 mod finding;
 mod limited;
+mod looks;
 mod parting;
 mod parts;
 mod refining;
@@ -40,6 +42,7 @@ pub use boxes::{least_of_box, least_with};
 pub use exploring::{Explored, explore, first_nodes, limit};
 pub use finding::find;
 pub use limited::{Searched, least_within};
-pub use root::root_prices_by_threads;
+pub use looks::{Looks, SeveralThreads};
+pub use root::root_prices;
 pub use stop::{Never, Stop};
 pub use visiting::OpenNode;

@@ -5,6 +5,7 @@ ghost use Rattle.roster_lines_table.specs.Person.{AreListed};
 ghost use Rattle.roster_search.specs.Limited.{IsSearched};
 
 use crate::finding::find;
+use crate::looks::OneThread;
 use crate::root::root_prices;
 use crate::stop::Stop;
 use roster_lines_table::Table;
@@ -47,7 +48,7 @@ pub fn least_within(
     let ranges = whole(alloc, problem, table)?;
     let region = Region::of_ranges(alloc, problem, table, &ranges)?;
     let first = DualPrices::of_parts(alloc, problem, &region, prices, parts)?;
-    let root = root_prices(alloc, problem, &region, &first, limit)?;
+    let root = root_prices(&OneThread, alloc, problem, &region, &first, limit)?;
     let mut patience = Patience::new(work);
     let found = least_of_region(alloc, problem, region, root, limit, &mut patience);
     match found {

@@ -6,6 +6,7 @@ ghost use Rattle.roster_search_least.specs.Least.{IsLeastBelow};
 ghost use Rattle.roster_search_least.specs.Parts.{AreBaseParts, IsInPart};
 ghost use Rattle.roster_lines_table.specs.Person.{AreListed};
 
+use crate::looks::OneThread;
 use crate::root::root_prices;
 use roster_search_least::{Finder, LeastOfBase, LineBox, least_in, region_of_base};
 use roster_search_regions::DualPrices;
@@ -64,6 +65,6 @@ fn least_of_base<F: Finder>(
 {
     let region = region_of_base(alloc, lines, base)?;
     let first = DualPrices::of_penalties(alloc, lines.problem, &region)?;
-    let root = root_prices(alloc, lines.problem, &region, &first, i64::MAX)?;
+    let root = root_prices(&OneThread, alloc, lines.problem, &region, &first, i64::MAX)?;
     least_in(alloc, lines, base, region, root, finder)
 }

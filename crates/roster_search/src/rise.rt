@@ -1,8 +1,9 @@
 //! Prices that rise at a root, and a linear program that goes on from them.
 
-ghost use Rattle.std.specs.Prelude.{◌≡◌, ◌<◌, IfOk, IsTrue, OnOk, length};
+ghost use Rattle.std.specs.Prelude.{◌≡◌, IfOk, IsTrue, OnOk, length};
 ghost use Rattle.roster_search_regions.specs.Regions.{IsRegion};
 
+use crate::looks::Looks;
 use crate::refining::left_in;
 use crate::room::{likely, room};
 use crate::tuning::{
@@ -17,7 +18,6 @@ use roster_search_prices::{Ascent, rounded};
 use roster_search_regions::{DualPrices, Region};
 use roster_search_relaxation::Relaxation;
 use std::alloc::{AllocError, Global};
-use std::thread::Threads;
 
 /// Prices on their rise at a root.
 #[derive(Drop)]
@@ -60,71 +60,37 @@ impl Rise {
     }
 
     /// Raises the prices, and then those of a linear program, as far as that is worth it.
-    pub(crate) fn raise(
+    pub(crate) fn raise<L: Looks>(
         &mut self,
+        looks: &L,
         alloc: Global,
         problem: &Problem,
         region: &Region,
     ) -> Result<(), AllocError>
+        requires may_look { L.may_look }
         requires region { IsRegion problem.now region.now }
         requires part { IsRegion problem.now self.old.part }
     {
-        self.end(alloc, problem, region)?;
-        self.relax(alloc, problem, region)
-    }
-
-    /// `raise`, for which so many threads look at the lines.
-    pub(crate) fn raise_by_threads<R: Threads + Sync>(
-        &mut self,
-        rt: &R,
-        alloc: Global,
-        threads: usize,
-        problem: &Problem,
-        region: &Region,
-    ) -> Result<(), AllocError>
-        requires region { IsRegion problem.now region.now }
-        requires part { IsRegion problem.now self.old.part }
-        requires threads { 0 < threads }
-    {
-        self.end_by_threads(rt, alloc, threads, problem, region)?;
-        self.relax_by_threads(rt, alloc, threads, problem, region)
+        self.end(looks, alloc, problem, region)?;
+        self.relax(looks, alloc, problem, region)
     }
 
     /// Raises the prices until that is no longer worth it.
-    fn end(&mut self, alloc: Global, problem: &Problem, region: &Region) -> Result<(), AllocError>
-        requires region { IsRegion problem.now region.now }
-        requires part { IsRegion problem.now self.old.part }
-        ensures { OnOk result (IsRegion problem.now self.new.part) }
-    {
-        for step in 0..self.steps {
-            let room = self.room(region);
-            let is_worth = self.ascent.look(alloc, problem, &self.part, room)?;
-            if !self.goes_on(alloc, problem, region, is_worth, step)? {
-                return Ok(());
-            }
-        }
-        Ok(())
-    }
-
-    /// `end`, for which so many threads look at the lines.
-    fn end_by_threads<R: Threads + Sync>(
+    fn end<L: Looks>(
         &mut self,
-        rt: &R,
+        looks: &L,
         alloc: Global,
-        threads: usize,
         problem: &Problem,
         region: &Region,
     ) -> Result<(), AllocError>
+        requires may_look { L.may_look }
         requires region { IsRegion problem.now region.now }
         requires part { IsRegion problem.now self.old.part }
-        requires threads { 0 < threads }
         ensures { OnOk result (IsRegion problem.now self.new.part) }
     {
         for step in 0..self.steps {
             let room = self.room(region);
-            let is_worth = self
-                .ascent
-                .look_by_threads(rt, alloc, threads, problem, &self.part, room)?;
+            let is_worth = looks.at_prices(alloc, problem, &self.part, &mut self.ascent, room)?;
             if !self.goes_on(alloc, problem, region, is_worth, step)? {
                 return Ok(());
             }
@@ -283,41 +249,22 @@ impl Rise {
     }
 
     /// Solves a linear program, whose dual prices leave less of the part, as long as that is worth it.
-    fn relax(&mut self, alloc: Global, problem: &Problem, region: &Region) -> Result<(), AllocError>
-        requires { IsRegion problem.now self.old.part }
-    {
-        if !self.begins(alloc, problem, region)? {
-            return Ok(());
-        }
-        for _ in 0..MOST_SOLUTIONS {
-            self.relaxation.solve(alloc, problem, &self.part)?;
-            self.relaxation.look(problem, &self.part)?;
-            if !self.narrows(alloc, problem)? {
-                return Ok(());
-            }
-        }
-        Ok(())
-    }
-
-    /// `relax`, for which so many threads look at the lines.
-    fn relax_by_threads<R: Threads + Sync>(
+    fn relax<L: Looks>(
         &mut self,
-        rt: &R,
+        looks: &L,
         alloc: Global,
-        threads: usize,
         problem: &Problem,
         region: &Region,
     ) -> Result<(), AllocError>
+        requires may_look { L.may_look }
         requires part { IsRegion problem.now self.old.part }
-        requires threads { 0 < threads }
     {
         if !self.begins(alloc, problem, region)? {
             return Ok(());
         }
         for _ in 0..MOST_SOLUTIONS {
             self.relaxation.solve(alloc, problem, &self.part)?;
-            self.relaxation
-                .look_by_threads(rt, alloc, threads, problem, &self.part)?;
+            looks.for_program(alloc, problem, &self.part, &mut self.relaxation)?;
             if !self.narrows(alloc, problem)? {
                 return Ok(());
             }

@@ -14,7 +14,7 @@ use roster_incumbent::Gate;
 use roster_lines_table::Table;
 use roster_model::limits::MOST_BASES;
 use roster_problem::Problem;
-use roster_search::root_prices_by_threads;
+use roster_search::{SeveralThreads, root_prices};
 use roster_search_least::{LeastOfBase, LineBox, least_in, region_of_base};
 use roster_search_regions::DualPrices;
 use roster_values::Roster;
@@ -168,7 +168,8 @@ fn least_of_base_by_threads<R: Threads + Wait + Sync, G: Gate>(
     let problem = lines.problem;
     let region = region_of_base(alloc, lines, base)?;
     let first = DualPrices::of_penalties(alloc, problem, &region)?;
-    let root = root_prices_by_threads(rt, alloc, threads, problem, &region, &first, i64::MAX)?;
+    let looks = SeveralThreads::new(rt, threads);
+    let root = root_prices(&looks, alloc, problem, &region, &first, i64::MAX)?;
     least_in(alloc, lines, base, region, root, crew)
 }
 

@@ -3,4 +3,4 @@ use Rattle.roster_search.proofs.rise.Rise.relax.Given as goal
 
 -- the part is a region
 abbrev pub invariant-loop : goal.invariant-loop
-invariant-loop l = IsRegion l.problem l.self.part
+invariant-loop g l = IsRegion l.problem l.self.part
