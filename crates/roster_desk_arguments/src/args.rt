@@ -1,7 +1,7 @@
 //! Arguments, and commands that have them, on `clap`.
 
 ghost use Rattle.std.specs.Prelude.{◌≡◌, codes, false, IfOk};
-ghost use Rattle.clap.specs.Words.{app_of, new_app, rule_of, with_rule};
+ghost use Rattle.clap.specs.Words.{App, Rule, app_of, new_app, rule_of, with_rule};
 ghost use Rattle.clap.specs.declared.builder.command.Command.TheViews as views;
 ghost use Rattle.roster_desk_arguments.specs.Commands.{book_rule, demanded_rule, flag_rule, lists_rule};
 ghost use Rattle.roster_desk_arguments.specs.Commands.{named_rule, needed_rule, number_rule, placed_rule};
@@ -126,12 +126,16 @@ pub(crate) fn command<'a>(
     Command::new(alloc, name).about(about).after_help(examples)
 }
 
-/// The command with one argument more.
-pub(crate) fn with<'a>(command: Command<'a>, arg: Arg<'a>) -> Result<Command<'a>, AllocError>
-    requires command { (views.out-Command command).has_globals ≡ false }
+/// The command with one argument more, if it could be made.
+pub(crate) fn with<'a>(
+    command: Result<Command<'a>, AllocError>,
+    arg: Arg<'a>,
+) -> Result<Command<'a>, AllocError>
+    requires command { IfOk command (λ c. (views.out-Command c).has_globals ≡ false) }
     requires arg { arg.global ≡ false }
-    ensures app { IfOk result (λ c. app_of c ≡ with_rule (app_of command.entry) (rule_of arg.entry)) }
+    ensures app { (of : App) (rule : Rule) → IfOk command.entry (λ c. app_of c ≡ of)
+        → rule_of arg.entry ≡ rule → IfOk result (λ c. app_of c ≡ with_rule of rule) }
     ensures local { IfOk result (λ c. (views.out-Command c).has_globals ≡ false) }
 {
-    command.arg(arg)
+    command?.arg(arg)
 }

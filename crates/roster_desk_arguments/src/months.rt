@@ -35,8 +35,8 @@ fn begun_repair<'a>(alloc: Global) -> Result<Command<'a>, AllocError>
   roster-desk repair --from 2024-06-12T06:00Z --change 800 --notice 2d:2000 book.csv plan.txt
   roster-desk repair --from 2024-06-12T06:00Z --broken OUT-BACK:ANNA book.csv plan.txt",
     );
-    let repair = with(repair, book(alloc))?;
-    let repair = with(repair, needed_report(alloc, "report"))?;
+    let repair = with(Ok(repair), book(alloc));
+    let repair = with(repair, needed_report(alloc, "report"));
     with(
         repair,
         demanded(
@@ -64,14 +64,14 @@ pub(crate) fn repair<'a>(alloc: Global) -> Result<Command<'a>, AllocError>
     ensures app { IfOk result (λ c. app_of c ≡ repair_app) }
     ensures local { IfOk result (λ c. (views.out-Command c).has_globals ≡ false) }
 {
-    let repair = with(begun_repair(alloc)?, change(alloc))?;
+    let repair = with(begun_repair(alloc), change(alloc));
     let notice = named(
         alloc,
         "notice",
         "TIME:UNITS",
         "What it costs instead if the pairing reports within this time, as 2d:2000 or 36h:2000",
     );
-    let repair = with(repair, notice)?;
+    let repair = with(repair, notice);
     with(repair, broken(alloc))
 }
 
@@ -98,7 +98,7 @@ fn month<'a>(alloc: Global) -> Result<Command<'a>, AllocError>
   roster-desk book --month 2024-06 --base ZRH --base LIS --rank CP --weight 2 tables > june.csv",
     );
     let folder = "The path of a folder with bases.csv, crew.csv, pairings.csv and other tables";
-    let month = with(month, needed(alloc, "folder", "FOLDER", folder))?;
+    let month = with(Ok(month), needed(alloc, "folder", "FOLDER", folder));
     with(
         month,
         demanded(alloc, "month", "YYYY-MM", "The month, as 2024-06"),
@@ -116,15 +116,15 @@ pub(crate) fn made_book<'a>(alloc: Global) -> Result<Command<'a>, AllocError>
         "BASE",
         "Only this base; more than one may be named",
     );
-    let book = with(month(alloc)?, base)?;
+    let book = with(month(alloc), base);
     let rank = named(
         alloc,
         "rank",
         "RANK",
         "Only persons and pairings of this rank",
     );
-    let book = with(book, rank)?;
-    let book = with(book, weight(alloc))?;
+    let book = with(book, rank);
+    let book = with(book, weight(alloc));
     let start = named(
         alloc,
         "start",
@@ -147,15 +147,15 @@ pub(crate) fn carry<'a>(alloc: Global) -> Result<Command<'a>, AllocError>
   roster-desk carry --flown flown.csv book.csv plan.txt > records.csv
   roster-desk carry --flown flown.csv --into tables book.csv plan.txt",
     );
-    let carry = with(carry, book(alloc))?;
-    let carry = with(carry, needed_report(alloc, "report"))?;
+    let carry = with(Ok(carry), book(alloc));
+    let carry = with(carry, needed_report(alloc, "report"));
     let flown = named(
         alloc,
         "flown",
         "FILE",
         "The path of the table of what persons have flown, month by month",
     );
-    let carry = with(carry, flown)?;
+    let carry = with(carry, flown);
     let into = named(
         alloc,
         "into",

@@ -58,9 +58,9 @@ fn bounded_plan<'a>(alloc: Global) -> Result<Command<'a>, AllocError>
 A receipt has what gives the bytes of the plan again, and `again` tells whether they come. The script
 roster-desk takes both.",
     );
-    let plan = with(plan, book(alloc))?;
-    let plan = with(plan, effort(alloc))?;
-    let plan = with(plan, workers(alloc))?;
+    let plan = with(Ok(plan), book(alloc));
+    let plan = with(plan, effort(alloc));
+    let plan = with(plan, workers(alloc));
     with(plan, sets(alloc))
 }
 
@@ -75,13 +75,13 @@ pub(crate) fn plan<'a>(alloc: Global) -> Result<Command<'a>, AllocError>
         "REPORT",
         "A report or plan to begin with, or -; what isn't legal of it is left out",
     );
-    let plan = with(bounded_plan(alloc)?, start)?;
+    let plan = with(bounded_plan(alloc), start);
     let progress = flag(
         alloc,
         "progress",
         "Standard error is told what is known so far, as a terminal always is",
     );
-    let plan = with(plan, progress)?;
+    let plan = with(plan, progress);
     let keep = named(
         alloc,
         "keep",

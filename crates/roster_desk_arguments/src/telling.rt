@@ -25,7 +25,7 @@ fn begun_why<'a>(alloc: Global) -> Result<Command<'a>, AllocError>
   roster-desk why --pairing OUT-BACK book.csv plan.txt
   roster-desk why --pairing OUT-BACK --person ANNA book.csv plan.txt",
     );
-    let why = with(why, book(alloc))?;
+    let why = with(Ok(why), book(alloc));
     with(why, report(alloc))
 }
 
@@ -36,8 +36,8 @@ pub(crate) fn why<'a>(alloc: Global) -> Result<Command<'a>, AllocError>
 {
     let help =
         "Only this pairing, open or not: a line for each person of its base, the nearest first";
-    let why = with(begun_why(alloc)?, named(alloc, "pairing", "PAIRING", help))?;
-    let why = with(why, named(alloc, "person", "PERSON", "Only this person"))?;
+    let why = with(begun_why(alloc), named(alloc, "pairing", "PAIRING", help));
+    let why = with(why, named(alloc, "person", "PERSON", "Only this person"));
     let help = "A line for each person and each open pairing, in book order";
     with(why, flag(alloc, "all", help))
 }
@@ -55,8 +55,8 @@ pub(crate) fn limits<'a>(alloc: Global) -> Result<Command<'a>, AllocError>
   roster-desk limits book.csv plan.txt
   roster-desk limits --person ANNA book.csv plan.txt",
     );
-    let limits = with(limits, book(alloc))?;
-    let limits = with(limits, report(alloc))?;
+    let limits = with(Ok(limits), book(alloc));
+    let limits = with(limits, report(alloc));
     with(limits, named(alloc, "person", "PERSON", "Only this person"))
 }
 
@@ -74,8 +74,8 @@ fn begun_table<'a>(alloc: Global) -> Result<Command<'a>, AllocError>
   roster-desk table --persons book.csv plan.txt > persons.csv
   roster-desk table --semicolon --bom --names names.csv book.csv plan.txt > named.csv",
     );
-    let table = with(table, book(alloc))?;
-    let table = with(table, report(alloc))?;
+    let table = with(Ok(table), book(alloc));
+    let table = with(table, report(alloc));
     with(
         table,
         flag(alloc, "persons", "A row for each person, with sums"),
@@ -89,9 +89,9 @@ pub(crate) fn table<'a>(alloc: Global) -> Result<Command<'a>, AllocError>
 {
     let help =
         "Semicolons between cells, as a spreadsheet wants them where numbers have a decimal comma";
-    let table = with(begun_table(alloc)?, flag(alloc, "semicolon", help))?;
+    let table = with(begun_table(alloc), flag(alloc, "semicolon", help));
     let help = "A byte order mark first, by which a spreadsheet knows UTF-8";
-    let table = with(table, flag(alloc, "bom", help))?;
+    let table = with(table, flag(alloc, "bom", help));
     with(table, names(alloc))
 }
 
@@ -108,8 +108,8 @@ pub(crate) fn chart<'a>(alloc: Global) -> Result<Command<'a>, AllocError>
   roster-desk chart book.csv plan.txt > chart.html
   roster-desk chart --names names.csv book.csv plan.txt > named.html",
     );
-    let chart = with(chart, book(alloc))?;
-    let chart = with(chart, report(alloc))?;
+    let chart = with(Ok(chart), book(alloc));
+    let chart = with(chart, report(alloc));
     with(chart, names(alloc))
 }
 
@@ -126,9 +126,9 @@ pub(crate) fn diff<'a>(alloc: Global) -> Result<Command<'a>, AllocError>
   roster-desk diff book.csv plan.txt better.txt
   roster-desk diff --persons book.csv plan.txt better.txt",
     );
-    let diff = with(diff, book(alloc))?;
-    let diff = with(diff, needed_report(alloc, "report"))?;
-    let diff = with(diff, needed_report(alloc, "other"))?;
+    let diff = with(Ok(diff), book(alloc));
+    let diff = with(diff, needed_report(alloc, "report"));
+    let diff = with(diff, needed_report(alloc, "other"));
     with(
         diff,
         flag(
@@ -151,7 +151,7 @@ pub(crate) fn assigns<'a>(alloc: Global) -> Result<Command<'a>, AllocError>
         "Examples:
   roster-desk assigns plan.txt > assigns.csv",
     );
-    with(assigns, needed_report(alloc, "report"))
+    with(Ok(assigns), needed_report(alloc, "report"))
 }
 
 /// `fault`, with its book.
@@ -166,7 +166,7 @@ pub(crate) fn fault<'a>(alloc: Global) -> Result<Command<'a>, AllocError>
         "Examples:
   roster-desk fault book.csv",
     );
-    with(fault, book(alloc))
+    with(Ok(fault), book(alloc))
 }
 
 /// `warn`, with its book.
@@ -181,7 +181,7 @@ pub(crate) fn warn<'a>(alloc: Global) -> Result<Command<'a>, AllocError>
         "Examples:
   roster-desk warn book.csv",
     );
-    with(warn, book(alloc))
+    with(Ok(warn), book(alloc))
 }
 
 /// `fair`, with its book.
@@ -196,5 +196,5 @@ pub(crate) fn fair<'a>(alloc: Global) -> Result<Command<'a>, AllocError>
         "Examples:
   roster-desk fair book.csv > fair.csv",
     );
-    with(fair, book(alloc))
+    with(Ok(fair), book(alloc))
 }
