@@ -25,7 +25,10 @@ use std::alloc::{AllocError, Global};
 use std::thread::{Threads, for_each_mut};
 
 /// The least effort at which there are dives.
-const LEAST_EFFORT: u32 = 3;
+const LEAST_EFFORT: u32 = 2;
+
+/// The least effort at which there are dives of a few persons.
+const LEAST_EFFORT_OF_FEW: u32 = 3;
 
 /// At each dive of a base at least so many hundredths of those who are left get a column each time.
 const HUNDREDTHS: [usize; 2] = [15, 5];
@@ -144,10 +147,13 @@ fn of_groups<R: Threads + Sync, W: Watcher>(
 
 /// How often an effort has so many dives of a few persons: the first one as often as it and all before it.
 fn rounds_of(effort: u32) -> u32 {
-    if effort > LEAST_EFFORT {
+    if effort < LEAST_EFFORT_OF_FEW {
+        return 0;
+    }
+    if effort > LEAST_EFFORT_OF_FEW {
         return ROUNDS_AN_EFFORT;
     }
-    ROUNDS_AN_EFFORT * LEAST_EFFORT
+    ROUNDS_AN_EFFORT * LEAST_EFFORT_OF_FEW
 }
 
 /// The month with what dives of a base find.
