@@ -1,9 +1,11 @@
 //! The book in which pairings break off, as a command line says.
 
-ghost use Rattle.std.specs.Prelude.{◌<◌, IfOk, length};
+ghost use Rattle.std.specs.Prelude.{◌<◌, ◌≡◌, IfOk, length, option_map};
+ghost use Rattle.roster_desk_answers.specs.Mended.{parts_at};
+ghost use Rattle.roster_desk_answers.specs.Pages.{IsUnmade};
 
-use crate::telling::Untold;
 use crate::unmade::unmade;
+use crate::untold::Untold;
 use roster_desk_arguments::RepairLine;
 use roster_desk_given::Unknown;
 use roster_desk_made::Unmade;
@@ -33,7 +35,9 @@ fn remedy(code: u8) -> &'static str {
 }
 
 /// Why the rest has no book. An option is named that may help.
-pub(crate) fn unrepaired<'a>(alloc: Global, why: Unmade) -> Untold<'a> {
+pub(crate) fn unrepaired<'a>(alloc: Global, why: Unmade) -> Untold<'a>
+    ensures { IsUnmade result }
+{
     let said = match &why {
         Unmade::At { code, .. } => remedy(*code),
         Unmade::Unlike | Unmade::Memory => "",
@@ -47,6 +51,13 @@ fn unbroken<'a>(alloc: Global, why: Unmade, words: &str) -> Untold<'a> {
         Ok(said) => unmade(alloc, why, said.as_str()),
         Err(_) => Untold::Memory,
     }
+}
+
+/// The texts before the first colon and behind it, if there is one.
+pub(crate) fn at_colon(text: &str) -> Option<(&str, &str)>
+    ensures { option_map (λ parts. (parts.0.now, parts.1.now)) result ≡ parts_at 58 text.now }
+{
+    text.split_once(':')
 }
 
 /// What the words say becomes of the rest: the name of a person, or two instants.
@@ -70,7 +81,7 @@ fn rest_in<'a>(book: &Problem, words: &str) -> Result<Rest, Untold<'a>> {
 fn break_in<'a>(book: &Problem, at: Minute, words: &str) -> Result<Break, Untold<'a>>
     ensures { IfOk result (λ off. off.pairing < length book.now.pairings) }
 {
-    let Some((name, rest)) = words.split_once(':') else {
+    let Some((name, rest)) = at_colon(words) else {
         return Err(Untold::Words(NO_REST));
     };
     let Some(pairing) = pairing_named(book, name.as_bytes()) else {

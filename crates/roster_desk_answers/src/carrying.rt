@@ -1,11 +1,19 @@
 //! The next month's book, or tables of it, and what standard error is told.
 
-ghost use Rattle.std.specs.Prelude.{◌≡◌, IfOk, IfSome, None, false, length};
+ghost use Rattle.std.specs.Prelude.{◌≡◌, false, [], IfErr, IfOk, IfSome, is_some, length, map, OnErr, Some};
+ghost use Rattle.roster_desk_carry.specs.Made.{IsMade};
+ghost use Rattle.roster_desk_carry.specs.Tables as tables;
+ghost use Rattle.roster_desk_reports.specs.Faults.{fault_of_report};
 ghost use Rattle.roster_watched.specs.Watch.{has_failed};
+ghost use Rattle.roster_desk_answers.specs.Carried.{IsUncarried, Keeps, MakesNext};
+ghost use Rattle.roster_desk_answers.specs.Pages.{IsForgotten, IsUnmade};
+ghost use Rattle.roster_desk_answers.specs.Refusing.{RefusesReport};
+ghost use Rattle.roster_desk_answers.specs.Told.{IsRosterOf};
 
-use crate::telling::{Untold, refuse, refused, write};
+use crate::reading::{read, refuse};
 use crate::unmade::unmade;
-use roster_book::{BookFault, Command, read_book};
+use crate::untold::{Untold, refused};
+use crate::writing::write;
 use roster_desk_arguments::CarryLine;
 use roster_desk_carry::{
     CarriedBook, carried_tables, carry_by_book, carry_by_ledger, read_ledger, unlike_text,
@@ -66,6 +74,9 @@ fn next_book<'a>(
     notes: &mut Vec<u8>,
 ) -> Result<Option<CarriedBook>, Untold<'a>>
     requires { length places.now ≡ length book.now.pairings }
+    ensures made { IfOk result (λ made. IfSome made
+        (MakesNext book.now places.now (is_some files.now.flown))) }
+    ensures unmade { IfErr result IsUnmade }
 {
     let Some(flown) = &files.flown else {
         notes.extend_from_slice(NO_LEDGER)?;
@@ -119,6 +130,9 @@ fn tables<'a>(
     notes: &mut Vec<u8>,
 ) -> Result<Option<Vec<TableFile>>, Untold<'a>>
     requires { length places.now ≡ length book.now.pairings }
+    ensures tables { IfOk result (λ files. IfSome files
+        (λ files. map (λ file. file.table) files.items ≡ tables.carried)) }
+    ensures memory { IfErr result IsForgotten }
 {
     let mut mistakes = Mistakes::none(alloc);
     let old = files.old.as_slice();
@@ -137,7 +151,9 @@ fn roster_of<'a>(
     book: &Problem,
     report: &[u8],
 ) -> Result<Places, Untold<'a>>
-    ensures { IfOk result (λ places. length places ≡ length book.now.pairings) }
+    ensures roster { IfOk result (IsRosterOf false book.now report.now) }
+    ensures refused { IfErr result (RefusesReport line.now.report.now
+        (λ told. fault_of_report book.now report.now ≡ Some told)) }
 {
     match read_roster(alloc, book, report) {
         Ok(places) => Ok(places),
@@ -154,7 +170,10 @@ fn carry_book<'a, W: Write>(
     report: &[u8],
     files: &CarryFiles,
     writer: &mut Watched<W>,
-) -> Result<Carried, Untold<'a>> {
+) -> Result<Carried, Untold<'a>>
+    ensures kept { IfErr result (Keeps book.now line.now report.now) }
+    ensures unwritten { OnErr result (writer.new ≡ writer.old) }
+{
     let places = roster_of(alloc, line, book, report)?;
     let places = places.as_slice();
     let mut notes = Vec::new(alloc);
@@ -181,7 +200,10 @@ fn carry_book<'a, W: Write>(
 
 impl Carried {
     /// Something is wrong with the inputs, as the notes tell.
-    fn refused(alloc: Global, notes: Vec<u8>) -> Carried {
+    fn refused(alloc: Global, notes: Vec<u8>) -> Carried
+        ensures status { result.status ≡ Status.Refused }
+        ensures files { result.files.items ≡ [] }
+    {
         Carried {
             status: Status::Refused,
             notes,
@@ -190,7 +212,10 @@ impl Carried {
     }
 
     /// Nothing is told but the status.
-    fn ended(alloc: Global, status: Status) -> Carried {
+    fn ended(alloc: Global, status: Status) -> Carried
+        ensures status { result.status ≡ status }
+        ensures files { result.files.items ≡ [] }
+    {
         Carried {
             status,
             notes: Vec::new(alloc),
@@ -210,14 +235,12 @@ pub fn carry_on<'a, W: Write>(
     writer: &mut Watched<W>,
 ) -> Result<Carried, Untold<'a>>
     requires { has_failed writer.old ≡ false }
+    // The report is refused for what is wrong with it, or no book is made, and then nothing was written.
+    ensures uncarried { IfErr result (IsUncarried line.now text.now report.now) }
+    ensures unwritten { OnErr result (writer.new ≡ writer.old) }
 {
-    let mut reader = Watched::new(text);
-    match read_book(alloc, &mut reader, Command::Check) {
+    match read(alloc, text) {
         Ok(book) => carry_book(alloc, line, text, &book.problem, report, files, writer),
-        Err(BookFault::At { row, code }) => {
-            Ok(Carried::ended(alloc, refuse(alloc, row, code, writer)))
-        }
-        Err(BookFault::Device) => Ok(Carried::ended(alloc, Status::ReadFailed)),
-        Err(BookFault::Memory) => Ok(Carried::ended(alloc, Status::Memory)),
+        Err(fault) => Ok(Carried::ended(alloc, refuse(alloc, fault, writer))),
     }
 }

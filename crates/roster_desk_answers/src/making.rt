@@ -1,12 +1,16 @@
 //! The book of the tables of a folder, and what standard error is told of it.
 
-ghost use Rattle.std.specs.Prelude.{◌≡◌, IfOk, IfSome, None};
-ghost use Rattle.roster_model.specs.Answer.{records_of};
-ghost use Rattle.roster_model.specs.Faults.{first_fault};
-ghost use Rattle.roster_model.specs.Record.{Check};
+ghost use Rattle.std.specs.Prelude.{◌≡◌, [], IfErr, IfOk, IfSome, None, OnErr, OnOk, Some, true};
+ghost use Rattle.roster_desk_answers.specs.Made.{HasRoster, IsBook, IsMade, IsUnmade, StartsWith};
+ghost use Rattle.roster_desk_answers.specs.Pages.{IsFaultless};
+ghost use Rattle.roster_desk_answers.specs.Told.{IsRosterOf};
 
-use crate::telling::{Noted, Untold, push_unknown, refused, write};
-use roster_book::{BookFault, Command, read_book};
+use crate::reading::read;
+use crate::reports::push_unknown;
+use crate::telling::Noted;
+use crate::untold::{Untold, refused};
+use crate::writing::write;
+use roster_book::BookFault;
 use roster_desk_arguments::BookLine;
 use roster_desk_book::{Answer, Asked, make_book};
 use roster_desk_fault::{Judged, judge};
@@ -15,6 +19,7 @@ use roster_desk_given::Status;
 use roster_desk_reports::read_known_roster;
 use roster_desk_sheets::Records;
 use roster_problem::Problem;
+use roster_values::Places;
 use roster_watched::Watched;
 use std::alloc::{AllocError, Global};
 use std::io::Write;
@@ -32,8 +37,28 @@ fn push_roster(records: &mut Records, problem: &Problem, places: &[u16]) -> Resu
     Ok(())
 }
 
+/// The roster of the report at the path, which gives the book one. Persons and pairings that the book doesn't
+/// have are told.
+fn start_of<'a>(
+    alloc: Global,
+    problem: &Problem,
+    path: &'a str,
+    report: &[u8],
+    notes: &mut Vec<u8>,
+) -> Result<Places, Untold<'a>>
+    ensures roster { IfOk result (IsRosterOf true problem.now report.now) }
+    ensures refused { IfErr result (IsUnmade (Some path.entry)) }
+{
+    match read_known_roster(alloc, problem, report) {
+        Ok(places) => {
+            push_unknown(alloc, notes, problem, report)?;
+            Ok(places)
+        }
+        Err(fault) => Err(refused(path, fault)),
+    }
+}
+
 /// Puts the `assign` records that give the book the roster of the report at the path behind the others.
-/// Persons and pairings that the book doesn't have are told.
 fn push_assigns<'a>(
     alloc: Global,
     records: &mut Records,
@@ -41,20 +66,18 @@ fn push_assigns<'a>(
     book: &[u8],
     report: &[u8],
     notes: &mut Vec<u8>,
-) -> Result<(), Untold<'a>> {
-    let mut reader = Watched::new(book);
-    let problem = match read_book(alloc, &mut reader, Command::Check) {
+) -> Result<(), Untold<'a>>
+    ensures start { OnOk result (HasRoster book.now report.now) }
+    ensures unmade { IfErr result (IsUnmade (Some path.entry)) }
+{
+    let problem = match read(alloc, book) {
         Ok(book) => book.problem,
         Err(BookFault::Memory) => return Err(Untold::Memory),
         Err(_) => return Err(Untold::Unlike),
     };
-    match read_known_roster(alloc, &problem, report) {
-        Ok(places) => {
-            push_unknown(alloc, notes, &problem, report)?;
-            Ok(push_roster(records, &problem, places.as_slice())?)
-        }
-        Err(fault) => Err(refused(path, fault)),
-    }
+    let places = start_of(alloc, &problem, path, report, notes)?;
+    push_roster(records, &problem, places.as_slice())?;
+    Ok(())
 }
 
 /// The records that the line adds to the book.
@@ -64,7 +87,10 @@ fn added<'a>(
     book: &[u8],
     report: &[u8],
     notes: &mut Vec<u8>,
-) -> Result<Vec<u8>, Untold<'a>> {
+) -> Result<Vec<u8>, Untold<'a>>
+    ensures start { OnOk result (StartsWith line.now.start book.now report.now) }
+    ensures unmade { IfErr result (IsUnmade line.now.start) }
+{
     let mut records = Records::new(alloc);
     if let Some(weight) = line.weight {
         let weight = weight.to_string(alloc)?;
@@ -78,7 +104,9 @@ fn added<'a>(
 
 /// The text, if no record of it has a fault.
 fn faultless<'a>(alloc: Global, text: Vec<u8>) -> Result<Vec<u8>, Untold<'a>>
-    ensures { IfOk result (λ text. first_fault Check (records_of text.items) ≡ None) }
+    ensures good { IfOk result (λ text. IsFaultless text.items) }
+    ensures same { IfOk result (λ same. same ≡ text) }
+    ensures unlike { IfErr result (IsUnmade None) }
 {
     match judge(alloc, text.as_slice(), 1)? {
         Judged::Good => Ok(text),
@@ -95,8 +123,8 @@ fn made<'a>(
     report: &[u8],
     notes: &mut Vec<u8>,
 ) -> Result<Option<Vec<u8>>, Untold<'a>>
-    ensures { IfOk result (λ book. IfSome book
-        (λ text. first_fault Check (records_of text.items) ≡ None)) }
+    ensures book { IfOk result (λ book. IfSome book (λ text. IsBook line.now report.now text.items)) }
+    ensures unmade { IfErr result (IsUnmade line.now.start) }
 {
     let Some(asked) = Asked::new(line.month, line.bases.as_slice(), line.rank) else {
         return Err(Untold::Words(NO_MONTH));
@@ -126,7 +154,13 @@ pub fn write_book<'a, W: Write>(
     files: &Files,
     report: &[u8],
     writer: &mut Watched<W>,
-) -> Result<Noted, Untold<'a>> {
+) -> Result<Noted, Untold<'a>>
+    ensures made { IfOk result (λ noted. IsMade W.contents line.now report.now
+        writer.old writer.new noted.status) }
+    // The line or the report is refused, or the book wouldn't ask for what is meant: nothing was written.
+    ensures unmade { IfErr result (IsUnmade line.now.start) }
+    ensures unwritten { OnErr result (writer.new ≡ writer.old) }
+{
     let mut notes = Vec::new(alloc);
     let status = match made(alloc, line, files, report, &mut notes)? {
         Some(book) => write(book.as_slice(), writer),

@@ -1,11 +1,20 @@
 //! The book of a repair, and what standard error is told of it.
 
-ghost use Rattle.std.specs.Prelude.{◌≡◌, false};
+ghost use Rattle.std.specs.Prelude.{◌≡◌, ◌≤◌, ◌*◌, false, IfOk, IfSome, OnErr, Some};
+ghost use Rattle.roster_model.specs.Answer.{IsRefusal, records_of};
+ghost use Rattle.roster_model.specs.Record.{Check};
+ghost use Rattle.roster_model.specs.declared.limits.TheConstants.{MOST_UNITS};
 ghost use Rattle.roster_watched.specs.Watch.{has_failed};
+ghost use Rattle.roster_desk_arguments.specs.Line.{number_spelled};
+ghost use Rattle.roster_desk_answers.specs.Ending.{Ends};
+ghost use Rattle.roster_desk_answers.specs.Mended.{AreTerms, IsMended, IsNotice, IsRepaired, IsTime, Mends};
 
-use crate::breaking::{broken_off, unrepaired};
-use crate::telling::{Noted, Untold, push_unknown, refuse, refused, write};
-use roster_book::{BookFault, Command, read_book};
+use crate::breaking::{at_colon, broken_off, unrepaired};
+use crate::reading::{read, refuse};
+use crate::reports::push_unknown;
+use crate::telling::Noted;
+use crate::untold::{Untold, refused};
+use crate::writing::write;
 use roster_desk_arguments::RepairLine;
 use roster_desk_given::Status;
 use roster_desk_repair::{RepairedBook, repair};
@@ -27,7 +36,9 @@ const NO_INSTANT: &str = "--from wants an instant in UTC, as 2024-06-12T06:00Z";
 const NO_NOTICE: &str = "--notice wants a time and cost units, as 2d:2000, 36h:2000 or 90m:2000";
 
 /// The number that the digits spell, so many times.
-fn number_of(digits: &str, times: u32) -> Option<u32> {
+fn number_of(digits: &str, times: u32) -> Option<u32>
+    ensures { IfSome result (λ number. number ≡ number_spelled digits.now * times) }
+{
     match digits.parse::<u32>() {
         Ok(number) => number.checked_mul(times),
         Err(_) => None,
@@ -35,7 +46,9 @@ fn number_of(digits: &str, times: u32) -> Option<u32> {
 }
 
 /// The minutes of a time, as `2d`, `36h` or `90m`.
-fn minutes_in(text: &str) -> Option<u32> {
+fn minutes_in(text: &str) -> Option<u32>
+    ensures { IfSome result (IsTime text.now) }
+{
     if let Some(days) = text.strip_suffix('d') {
         return number_of(days, 1440);
     }
@@ -46,8 +59,10 @@ fn minutes_in(text: &str) -> Option<u32> {
 }
 
 /// The minutes and the cost units of a notice, as `2d:2000`.
-fn notice_in(text: &str) -> Option<(u32, u32)> {
-    let (time, units) = text.split_once(':')?;
+fn notice_in(text: &str) -> Option<(u32, u32)>
+    ensures { IfSome result (λ notice. IsNotice text.now notice.0 notice.1) }
+{
+    let (time, units) = at_colon(text)?;
     let minutes = minutes_in(time)?;
     let units = number_of(units, 1)?;
     if units > MOST_UNITS {
@@ -56,25 +71,42 @@ fn notice_in(text: &str) -> Option<(u32, u32)> {
     Some((minutes, units))
 }
 
+/// What it costs by the line that a pairing moves.
+fn change_in(line: &RepairLine<'_>) -> u32
+    ensures { line.now.change ≤ MOST_UNITS → result ≡ line.now.change }
+{
+    if line.change <= MOST_UNITS as usize {
+        line.change as u32
+    } else {
+        MOST_UNITS
+    }
+}
+
 /// What the line says of the repair.
-fn terms_of<'a>(line: &RepairLine<'a>) -> Result<Terms, Untold<'a>> {
+fn terms_of<'a>(line: &RepairLine<'a>) -> Result<Terms, Untold<'a>>
+    ensures terms { IfOk result (AreTerms line.now) }
+{
     let Some(from) = read_minute(line.from.as_bytes()) else {
         return Err(Untold::Words(NO_INSTANT));
     };
-    let change = u32::try_from(line.change).unwrap_or(MOST_UNITS);
-    let (notice, short) = match line.notice {
-        None => (0, change),
-        Some(text) => match notice_in(text) {
-            Some(notice) => notice,
-            None => return Err(Untold::Words(NO_NOTICE)),
-        },
+    let change = change_in(line);
+    let Some(text) = line.notice else {
+        return Ok(Terms {
+            from,
+            notice: 0,
+            short: change,
+            change,
+        });
     };
-    Ok(Terms {
-        from,
-        notice,
-        short,
-        change,
-    })
+    match notice_in(text) {
+        Some((notice, short)) => Ok(Terms {
+            from,
+            notice,
+            short,
+            change,
+        }),
+        None => Err(Untold::Words(NO_NOTICE)),
+    }
 }
 
 /// Appends a line for each person who is locked by what is fixed.
@@ -145,7 +177,9 @@ fn repaired<'a>(
     text: &[u8],
     book: &Problem,
     report: &[u8],
-) -> Result<RepairedBook, Untold<'a>> {
+) -> Result<RepairedBook, Untold<'a>>
+    ensures made { IfOk result (λ made. IsRepaired book.now terms.now report.now made.text.items) }
+{
     let published = match read_known_roster(alloc, book, report) {
         Ok(published) => published,
         Err(fault) => return Err(refused(line.report, fault)),
@@ -156,7 +190,7 @@ fn repaired<'a>(
     }
 }
 
-/// The text of the book of the rest, and what standard error is told of it.
+/// The text of the book of the rest, and what standard error is told.
 fn rest_of<'a>(
     alloc: Global,
     line: &RepairLine<'a>,
@@ -164,7 +198,9 @@ fn rest_of<'a>(
     text: &[u8],
     book: Problem,
     report: &[u8],
-) -> Result<(Vec<u8>, Vec<u8>), Untold<'a>> {
+) -> Result<(Vec<u8>, Vec<u8>), Untold<'a>>
+    ensures { IfOk result (λ told. Mends terms.now report.now told.0.items) }
+{
     let (text, book) = broken_off(alloc, line, terms.from, text, book)?;
     let made = repaired(alloc, line, terms, &text, &book, report)?;
     let notes = notes_of(alloc, &book, report, &made)?;
@@ -180,19 +216,22 @@ pub fn mend<'a, W: Write>(
     writer: &mut Watched<W>,
 ) -> Result<Noted, Untold<'a>>
     requires { has_failed writer.old ≡ false }
+    // The repair, once each pairing that the line names has broken off, or the line of the first fault.
+    ensures ended { IfOk result (λ noted. Ends W.contents (IsMended line.now text.now report.now)
+        (IsRefusal Check (records_of text.now)) writer.old writer.new noted.status) }
+    // Nothing was written if the line or the report is refused, or no book is made.
+    ensures unwritten { OnErr result (writer.new ≡ writer.old) }
 {
     let terms = terms_of(line)?;
-    let mut notes = Vec::new(alloc);
-    let mut reader = Watched::new(text);
-    let status = match read_book(alloc, &mut reader, Command::Check) {
+    match read(alloc, text) {
         Ok(book) => {
-            let (rest, told) = rest_of(alloc, line, &terms, text, book.problem, report)?;
-            notes = told;
-            write(rest.as_slice(), writer)
+            let (rest, notes) = rest_of(alloc, line, &terms, text, book.problem, report)?;
+            let status = write(rest.as_slice(), writer);
+            Ok(Noted { status, notes })
         }
-        Err(BookFault::At { row, code }) => refuse(alloc, row, code, writer),
-        Err(BookFault::Device) => Status::ReadFailed,
-        Err(BookFault::Memory) => Status::Memory,
-    };
-    Ok(Noted { status, notes })
+        Err(fault) => Ok(Noted {
+            status: refuse(alloc, fault, writer),
+            notes: Vec::new(alloc),
+        }),
+    }
 }

@@ -1,6 +1,8 @@
 //! Why no book was made, as it is told.
 
-use crate::telling::Untold;
+ghost use Rattle.roster_desk_answers.specs.Pages.{IsUnmade};
+
+use crate::untold::Untold;
 use roster_desk_fault::fault_text;
 use roster_desk_made::Unmade;
 use std::alloc::{AllocError, Global};
@@ -13,7 +15,9 @@ fn faults_of(alloc: Global, text: &[u8], said: &str) -> Result<Vec<u8>, AllocErr
 }
 
 /// Why no book was made. Behind its faults stands what is said of them.
-pub(crate) fn unmade<'a>(alloc: Global, why: Unmade, said: &str) -> Untold<'a> {
+pub(crate) fn unmade<'a>(alloc: Global, why: Unmade, said: &str) -> Untold<'a>
+    ensures { IsUnmade result }
+{
     match why {
         Unmade::At { text, .. } => match faults_of(alloc, &text, said) {
             Ok(faults) => Untold::Faulty(faults),

@@ -1,0 +1,4 @@
+mod Assigns
+mod Endings
+mod Refusals
+mod Tellings
