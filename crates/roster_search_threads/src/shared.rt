@@ -121,6 +121,10 @@ fn threads_a_base(problem: &Problem, threads: usize) -> usize
 }
 
 /// The least rosters of the bases that nobody else has taken, one after another. Then the thread is idle.
+///
+/// It is no part of its callers: threads are started one within another, and each start would take as much of the stack
+/// as a search.
+#[inline(never)]
 fn parts_in_turn<R: Threads + Wait + Sync, G: Gate>(
     rt: &R,
     alloc: Global,
