@@ -66,8 +66,8 @@ pub record Mends (terms : Terms) (report text : List ℕ) : Type 0 where
   pub last : Problem
   pub repaired : IsRepaired last terms report text
 
--- The book has no fault, and the text is the repair, on the terms of the line, of the book in which the pairings have
--- broken off that the line names.
+-- The book has no fault, and the text is the repair of a book on the terms of the line. How that book comes of this one,
+-- by pairings that break off, isn't said.
 pub record IsMended (line : RepairLine) (book report text : List ℕ) : Type 0 where
   pub faultless : IsFaultless book
   pub terms : Terms
