@@ -17,6 +17,7 @@ use roster_lines_table::{Table, all_lines_are_some};
 use roster_problem::Problem;
 use roster_search::{Stop, least_of_box};
 use roster_search_least::{Finder, LineBox};
+use roster_search_relaxation::Relaxation;
 use roster_subtreepool_spans::{Done, Piece, Span};
 use roster_values::Roster;
 use std::alloc::{AllocError, Global};
@@ -123,7 +124,7 @@ fn is_settled(
 
 /// A roster of the span that comes before the given one and isn't after any of the span; or none, and then
 /// the given one isn't after any of it.
-fn least_in<F: Finder>(
+fn least_in<F: Finder<Guide = Relaxation>>(
     alloc: Global,
     problem: &Problem,
     table: &Table,

@@ -129,6 +129,8 @@ impl<'a, S: Sight> Stop for Watch<'a, S> {
 }
 
 impl<'a, S: Sight> Finder for Watch<'a, S> {
+    type Guide = Relaxation;
+
     ghost use Rattle.roster_branchtree.specs.Shown.{KeepsWatch};
     ghost use Rattle.roster_branchtree.specs.Watching.{keeps_nothing, keeps_then};
 

@@ -13,6 +13,7 @@ use crate::parts::least_at;
 use roster_bases::{all_open, united};
 use roster_model::limits::MOST_BASES;
 use roster_search_least::{Finder, LeastOfBase, LineBox, costs_fit, if_before};
+use roster_search_relaxation::Relaxation;
 use roster_values::Roster;
 use std::alloc::{AllocError, Global};
 
@@ -20,7 +21,7 @@ use std::alloc::{AllocError, Global};
 ///
 /// No line has another base's pairing, so each base is searched apart, and the answers are united. Two
 /// problems that share nothing take as long as one after the other.
-pub fn least_of_box<F: Finder>(
+pub fn least_of_box<F: Finder<Guide = Relaxation>>(
     alloc: Global,
     lines: &LineBox<'_>,
     known: &Roster,
@@ -40,7 +41,7 @@ pub fn least_of_box<F: Finder>(
 }
 
 /// `least_of_box`, if the least rosters of some bases are known, which aren't searched again.
-pub fn least_with<F: Finder>(
+pub fn least_with<F: Finder<Guide = Relaxation>>(
     alloc: Global,
     lines: &LineBox<'_>,
     parts: &[LeastOfBase],
@@ -68,7 +69,7 @@ pub fn least_with<F: Finder>(
 
 /// The places of the least roster of the box, united from those of all bases; or none, and then some base has
 /// no roster.
-fn united_bases<F: Finder>(
+fn united_bases<F: Finder<Guide = Relaxation>>(
     alloc: Global,
     lines: &LineBox<'_>,
     parts: &[LeastOfBase],
@@ -96,7 +97,7 @@ fn united_bases<F: Finder>(
 }
 
 /// The places with those of the least roster of one base more; or none, if it has no roster.
-fn with_base<F: Finder>(
+fn with_base<F: Finder<Guide = Relaxation>>(
     alloc: Global,
     lines: &LineBox<'_>,
     parts: &[LeastOfBase],

@@ -43,6 +43,8 @@ pub fn find<S: Stop>(
 }
 
 impl Finder for Never {
+    type Guide = Relaxation;
+
     ghost may_find = { Unit };
 
     ghost goes_on = { λ old new. Unit };

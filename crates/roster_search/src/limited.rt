@@ -104,6 +104,8 @@ impl Stop for Patience {
 }
 
 impl Finder for Patience {
+    type Guide = Relaxation;
+
     ghost may_find = { Unit };
 
     ghost goes_on = { λ old new. Unit };

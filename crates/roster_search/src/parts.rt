@@ -10,11 +10,12 @@ use crate::looks::OneThread;
 use crate::root::root_prices;
 use roster_search_least::{Finder, LeastOfBase, LineBox, least_in, region_of_base};
 use roster_search_regions::DualPrices;
+use roster_search_relaxation::Relaxation;
 use roster_values::Roster;
 use std::alloc::{AllocError, Global};
 
 /// `least_of_base`, which is looked up among the parts first.
-pub(crate) fn least_at<F: Finder>(
+pub(crate) fn least_at<F: Finder<Guide = Relaxation>>(
     alloc: Global,
     lines: &LineBox<'_>,
     parts: &[LeastOfBase],
@@ -50,7 +51,7 @@ fn copy_if(alloc: Global, roster: &Option<Roster>) -> Result<Option<Roster>, All
 
 /// The least roster in which the persons of one base have lines in their ranges and all others no pairing,
 /// if there is one.
-fn least_of_base<F: Finder>(
+fn least_of_base<F: Finder<Guide = Relaxation>>(
     alloc: Global,
     lines: &LineBox<'_>,
     base: usize,

@@ -302,7 +302,7 @@ impl Rise {
     }
 
     /// The prices of the greatest bound.
-    pub(crate) fn prices(self, region: &Region) -> RootPrices {
+    pub(crate) fn prices(self, region: &Region) -> RootPrices<Relaxation> {
         let bound = self.ascent.bound().max(self.relaxation.bound());
         let mut prices = self.ascent.into_best();
         if self.relaxation.bound() >= bound {
@@ -310,7 +310,7 @@ impl Rise {
         }
         RootPrices {
             prices,
-            relaxation: self.relaxation,
+            guide: self.relaxation,
             likely: likely(region, bound),
             rounded: self.rounded,
         }

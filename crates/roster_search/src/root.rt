@@ -7,6 +7,7 @@ use crate::rise::Rise;
 use roster_problem::Problem;
 use roster_search_least::RootPrices;
 use roster_search_regions::{DualPrices, Region};
+use roster_search_relaxation::Relaxation;
 use std::alloc::{AllocError, Global};
 
 /// Raises prices from the given ones on, for rosters that cost less than the limit. One that is rounded on
@@ -18,7 +19,7 @@ pub fn root_prices<L: Looks>(
     region: &Region,
     first: &DualPrices,
     limit: i64,
-) -> Result<RootPrices, AllocError>
+) -> Result<RootPrices<Relaxation>, AllocError>
     requires may_look { L.may_look }
     requires region { IsRegion problem.now region.now }
 {

@@ -24,7 +24,7 @@ pub(crate) fn cheapest<F: Finder>(
     alloc: Global,
     problem: &Problem,
     region: &Region,
-    root: &mut RootPrices,
+    root: &mut RootPrices<F::Guide>,
     least: i64,
     limit: i64,
     finder: &mut F,
@@ -47,7 +47,7 @@ pub(crate) fn cheapest<F: Finder>(
             problem,
             region.copy(alloc)?,
             &root.prices,
-            &mut root.relaxation,
+            &mut root.guide,
             budget,
         )? {
             Some(roster) => return Ok(Some(roster)),

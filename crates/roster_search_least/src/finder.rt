@@ -6,7 +6,6 @@ ghost use Rattle.roster_search_least.specs.Least.{IsCheapestWithin};
 
 use roster_problem::Problem;
 use roster_search_regions::{DualPrices, Region};
-use roster_search_relaxation::Relaxation;
 use roster_values::Roster;
 use std::alloc::{AllocError, Global};
 
@@ -21,6 +20,9 @@ pub struct Budget {
 
 /// Finds a roster of a region that costs at most so much: one thread, or several.
 pub trait Finder {
+    /// What it goes by, and what one search leaves for the next.
+    type Guide: Drop;
+
     /// Whether it may be asked.
     ghost may_find: { Type 0 };
 
@@ -28,15 +30,15 @@ pub trait Finder {
     ghost goes_on: { Self → Self → Type 0 };
 
     /// A roster of the region that costs at most so much, with its cost: a cheapest one, or one that costs no
-    /// more than is enough; or none, and then each of them costs more. Any prices and any relaxation will do
-    /// for it; good ones make it short.
+    /// more than is enough; or none, and then each of them costs more. Any prices and any guide will do for
+    /// it; good ones make it short.
     fn find(
         &mut self,
         alloc: Global,
         problem: &Problem,
         region: Region,
         prices: &DualPrices,
-        relaxation: &mut Relaxation,
+        guide: &mut Self::Guide,
         budget: Budget,
     ) -> Result<Option<Roster>, AllocError>
         requires may_find { may_find }

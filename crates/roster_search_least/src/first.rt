@@ -25,7 +25,7 @@ pub(crate) fn first<F: Finder>(
     problem: &Problem,
     region: &mut Region,
     roster: &mut Roster,
-    root: &mut RootPrices,
+    root: &mut RootPrices<F::Guide>,
     finder: &mut F,
 ) -> Result<(), AllocError>
     requires finder { F.may_find }
@@ -65,7 +65,7 @@ fn settle<F: Finder>(
     problem: &Problem,
     region: &mut Region,
     roster: &mut Roster,
-    root: &mut RootPrices,
+    root: &mut RootPrices<F::Guide>,
     p: usize,
     finder: &mut F,
 ) -> Result<(), AllocError>
@@ -93,7 +93,7 @@ fn earlier_at<F: Finder>(
     problem: &Problem,
     region: &mut Region,
     roster: &Roster,
-    root: &mut RootPrices,
+    root: &mut RootPrices<F::Guide>,
     p: usize,
     finder: &mut F,
 ) -> Result<Option<Roster>, AllocError>
@@ -132,7 +132,7 @@ fn first_found<F: Finder>(
     problem: &Problem,
     region: &Region,
     roster: &Roster,
-    root: &mut RootPrices,
+    root: &mut RootPrices<F::Guide>,
     p: usize,
     finder: &mut F,
 ) -> Result<(u16, Option<Roster>), AllocError>
@@ -189,7 +189,7 @@ fn with_holder<F: Finder>(
     problem: &Problem,
     region: &Region,
     holder: Holder,
-    root: &mut RootPrices,
+    root: &mut RootPrices<F::Guide>,
     most: i64,
     finder: &mut F,
 ) -> Result<Option<Roster>, AllocError>
@@ -204,14 +204,7 @@ fn with_holder<F: Finder>(
     let mut given = region.copy(alloc)?;
     given.give(alloc, problem, holder.k, holder.p)?;
     let budget = Budget { most, enough: most };
-    finder.find(
-        alloc,
-        problem,
-        given,
-        &root.prices,
-        &mut root.relaxation,
-        budget,
-    )
+    finder.find(alloc, problem, given, &root.prices, &mut root.guide, budget)
 }
 
 /// A number and a pairing, by its place, and what a roster may cost that has an earlier number there.
@@ -229,7 +222,7 @@ fn with_earlier<F: Finder>(
     problem: &Problem,
     region: &Region,
     ask: Ask,
-    root: &mut RootPrices,
+    root: &mut RootPrices<F::Guide>,
     finder: &mut F,
 ) -> Result<Option<Roster>, AllocError>
     requires finder { F.may_find }
@@ -247,14 +240,7 @@ fn with_earlier<F: Finder>(
     keep_earlier(alloc, problem, &mut part, ask.number, ask.p)?;
     let most = ask.most;
     let budget = Budget { most, enough: most };
-    finder.find(
-        alloc,
-        problem,
-        part,
-        &root.prices,
-        &mut root.relaxation,
-        budget,
-    )
+    finder.find(alloc, problem, part, &root.prices, &mut root.guide, budget)
 }
 
 /// Whether some line that the region leaves a person before the number has the pairing at place `p`.

@@ -14,18 +14,17 @@ use roster_cost::{cost_without_pairings, lines_are_near, roster_cost, shares_add
 use roster_problem::Problem;
 use roster_search_fixing::{is_in, tighten};
 use roster_search_regions::{DualPrices, Region};
-use roster_search_relaxation::Relaxation;
 use roster_values::{Places, Roster};
 use std::alloc::{AllocError, Global};
 
-/// Good prices for a region, the linear program that makes good ones for its parts, what the least roster
-/// likely costs, and the places of the cheapest one that was rounded. Nothing rests on any of them.
+/// Good prices for a region, what a finder goes by in its parts, what the least roster likely costs, and the
+/// places of the cheapest one that was rounded. Nothing rests on any of them.
 #[derive(Drop)]
-pub struct RootPrices {
+pub struct RootPrices<G> {
     /// The prices.
     pub prices: DualPrices,
-    /// The linear program.
-    pub relaxation: Relaxation,
+    /// What a finder goes by.
+    pub guide: G,
     /// What the least roster likely costs, in cost units.
     pub likely: i64,
     /// The places of the roster that was rounded, if there is one.
@@ -38,7 +37,7 @@ pub fn least_of_region<F: Finder>(
     alloc: Global,
     problem: &Problem,
     region: Region,
-    root: RootPrices,
+    root: RootPrices<F::Guide>,
     limit: i64,
     finder: &mut F,
 ) -> Result<Option<Roster>, AllocError>
@@ -57,7 +56,7 @@ fn least_within<F: Finder>(
     alloc: Global,
     problem: &Problem,
     region: &mut Region,
-    root: &mut RootPrices,
+    root: &mut RootPrices<F::Guide>,
     limit: i64,
     finder: &mut F,
 ) -> Result<Option<Roster>, AllocError>
@@ -128,7 +127,7 @@ fn cheapest_from<F: Finder>(
     alloc: Global,
     problem: &Problem,
     region: &Region,
-    root: &mut RootPrices,
+    root: &mut RootPrices<F::Guide>,
     known: Option<Roster>,
     limit: i64,
     finder: &mut F,
@@ -159,7 +158,7 @@ fn first_of_all<F: Finder>(
     problem: &Problem,
     region: &mut Region,
     roster: &mut Roster,
-    root: &mut RootPrices,
+    root: &mut RootPrices<F::Guide>,
     finder: &mut F,
 ) -> Result<(), AllocError>
     requires finder { F.may_find }

@@ -37,7 +37,7 @@ pub fn least_in<F: Finder>(
     lines: &LineBox<'_>,
     base: usize,
     region: Region,
-    root: RootPrices,
+    root: RootPrices<F::Guide>,
     finder: &mut F,
 ) -> Result<Option<Roster>, AllocError>
     requires finder { F.may_find }

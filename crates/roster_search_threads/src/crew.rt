@@ -44,6 +44,8 @@ impl<'r, R: Threads + Wait + Sync, G> Crew<'r, R, G> {
 }
 
 impl<'r, R: Threads + Wait + Sync, G: Gate> Finder for Crew<'r, R, G> {
+    type Guide = Relaxation;
+
     ghost may_find = { IsSync R.row };
 
     ghost goes_on = { λ old new. Unit };

@@ -1,4 +1,4 @@
-use Rattle.std.proofs.Common.{IfOk, w64, ℤ, subst}
+use Rattle.std.proofs.Common.{IfOk, w64, subst}
 use Rattle.std.proofs.lemmas.Int.{to_z-of_z}
 use Rattle.roster_search_regions.specs.Regions.{IsIn}
 use Rattle.roster_search_least.specs.Least.{IsLeastBelow}
