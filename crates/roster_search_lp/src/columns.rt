@@ -1,7 +1,7 @@
 //! Columns of a linear program.
 
 use crate::inverse::number_at;
-use crate::marking::{Allowed, is_allowed};
+use crate::marking::{Allowed, Marks};
 use roster_model::limits::MOST_PAIRINGS;
 use roster_values::Set;
 use std::alloc::{AllocError, Global};
@@ -35,8 +35,6 @@ pub(crate) enum Count {
 #[derive(Clone, Copy)]
 pub(crate) struct Column {
     pub(crate) kind: Kind,
-    /// The pairings of the line; none if it is no line.
-    pub(crate) set: Set,
     /// In parts of a cost unit.
     pub(crate) cost: i64,
     /// The row where it is basic, or `NOWHERE`.
@@ -78,11 +76,15 @@ impl Column {
     }
 }
 
-/// Columns, and the rows in which they have ones.
+/// Columns, and the rows in which they have ones. What each step looks at takes little memory.
 #[derive(Drop)]
 pub(crate) struct Columns {
     list: Vec<Column>,
-    ones: Vec<usize>,
+    // The pairings of each line; none of what is no line.
+    sets: Vec<Set>,
+    ones: Vec<u16>,
+    // Which columns are forbidden.
+    marks: Marks,
     // The greatest cost, or how far the least is below 0.
     greatest: u64,
 }
@@ -92,7 +94,9 @@ impl Columns {
     fn new(alloc: Global) -> Columns {
         Columns {
             list: Vec::new(alloc),
+            sets: Vec::new(alloc),
             ones: Vec::new(alloc),
+            marks: Marks::new(alloc),
             greatest: 1,
         }
     }
@@ -130,13 +134,13 @@ impl Columns {
         cost: i64,
     ) -> Result<(), AllocError> {
         let first = self.ones.len();
-        self.ones.push(k)?;
+        self.ones.push(short(k))?;
         let mut from = 0;
         for _ in 0..MOST_PAIRINGS {
             let Some(p) = set.first_from(from) else {
                 break;
             };
-            self.ones.push(persons.saturating_add(p))?;
+            self.ones.push(short(persons.saturating_add(p)))?;
             from = p + 1;
         }
         self.add(Kind::Line(k), *set, first, cost, false)
@@ -145,14 +149,16 @@ impl Columns {
     // Adds the column of an open pairing, which has ones in these rows.
     fn add_open(&mut self, p: usize, rows: [usize; 3], penalty: i64) -> Result<(), AllocError> {
         let first = self.ones.len();
-        self.ones.extend_from_slice(&rows)?;
+        for row in rows {
+            self.ones.push(short(row))?;
+        }
         self.add(Kind::Open(p), Set::empty(), first, penalty, false)
     }
 
     // Adds the column of fewer open pairings than a row counts, or that of more.
     fn add_slack(&mut self, count: Count, row: usize, is_more: bool) -> Result<(), AllocError> {
         let first = self.ones.len();
-        self.ones.push(row)?;
+        self.ones.push(short(row))?;
         let kind = if is_more {
             Kind::More(count)
         } else {
@@ -170,13 +176,17 @@ impl Columns {
         cost: i64,
         is_negative: bool,
     ) -> Result<(), AllocError> {
+        let is_forbidden = match kind {
+            Kind::Line(k) => !self.marks.allow(k, &set),
+            _ => false,
+        };
         self.greatest = self.greatest.max(cost.unsigned_abs());
+        self.sets.push(set)?;
         self.list.push(Column {
             kind,
-            set,
             cost,
             row: NOWHERE,
-            is_forbidden: false,
+            is_forbidden,
             is_negative,
             first,
             end: self.ones.len(),
@@ -188,7 +198,9 @@ impl Columns {
     pub(crate) fn copy(&self) -> Result<Columns, AllocError> {
         Ok(Columns {
             list: self.list.clone()?,
+            sets: self.sets.clone()?,
             ones: self.ones.clone()?,
+            marks: self.marks.copy()?,
             greatest: self.greatest,
         })
     }
@@ -203,6 +215,19 @@ impl Columns {
         &self.list
     }
 
+    /// The pairings of each line; none of what is no line.
+    pub(crate) fn sets(&self) -> &[Set] {
+        &self.sets
+    }
+
+    /// The pairings of column `c`, if it is a line of person `k`.
+    pub(crate) fn set_of(&self, k: usize, c: usize) -> Option<&Set> {
+        match self.list.get(c) {
+            Some(column) if column.is_line_of(k) => self.sets.get(c),
+            _ => None,
+        }
+    }
+
     /// Column `c`, if there is one.
     pub(crate) fn column(&self, c: usize) -> Option<&Column> {
         self.list.get(c)
@@ -211,7 +236,7 @@ impl Columns {
     /// The column of person `k`'s line of these pairings, if there is one.
     pub(crate) fn line(&self, k: usize, set: &Set) -> Option<usize> {
         for (c, column) in self.list.iter().enumerate().rev() {
-            if column.is_line_of(k) && column.set == *set {
+            if column.is_line_of(k) && self.sets.get(c) == Some(set) {
                 return Some(c);
             }
         }
@@ -224,7 +249,7 @@ impl Columns {
     }
 
     /// The rows in which column `c` has ones.
-    pub(crate) fn ones(&self, c: usize) -> &[usize] {
+    pub(crate) fn ones(&self, c: usize) -> &[u16] {
         match self.list.get(c) {
             Some(column) => self.ones_of(column),
             None => &[],
@@ -245,7 +270,7 @@ impl Columns {
     }
 
     /// The rows in which a column has ones.
-    pub(crate) fn ones_of(&self, column: &Column) -> &[usize] {
+    pub(crate) fn ones_of(&self, column: &Column) -> &[u16] {
         self.ones.get(column.first..column.end).unwrap_or(&[])
     }
 
@@ -266,7 +291,7 @@ impl Columns {
     }
 
     /// The rows in which a column that may be used has ones, or minus ones.
-    pub(crate) fn ones_of_usable(&self, usable: &Usable) -> &[usize] {
+    pub(crate) fn ones_of_usable(&self, usable: &Usable) -> &[u16] {
         self.ones.get(usable.first..usable.end).unwrap_or(&[])
     }
 
@@ -308,20 +333,22 @@ impl Columns {
     /// The columns that are kept, in the same order. What is kept is told by place; what isn't told of goes.
     pub(crate) fn kept(&self, alloc: Global, kept: &[bool]) -> Result<Columns, AllocError> {
         let mut columns = Columns::new(alloc);
-        for (column, is_kept) in self.list.iter().zip(kept) {
+        columns.marks = self.marks.copy()?;
+        for ((column, set), is_kept) in self.list.iter().zip(&self.sets).zip(kept) {
             if *is_kept {
-                columns.take(column, self.ones_of(column))?;
+                columns.take(column, set, self.ones_of(column))?;
             }
         }
         Ok(columns)
     }
 
-    // Takes over a column with these ones.
-    fn take(&mut self, column: &Column, ones: &[usize]) -> Result<(), AllocError> {
+    // Takes over a column of these pairings, with these ones.
+    fn take(&mut self, column: &Column, set: &Set, ones: &[u16]) -> Result<(), AllocError> {
         let first = self.ones.len();
         self.ones.extend_from_slice(ones)?;
         self.greatest = self.greatest.max(column.cost.unsigned_abs());
         let end = self.ones.len();
+        self.sets.push(*set)?;
         self.list.push(Column {
             first,
             end,
@@ -338,13 +365,22 @@ impl Columns {
         }
     }
 
-    /// Allows the columns that these sets allow, and forbids the others, but for those of counts.
-    pub(crate) fn mark(&mut self, allowed: &[Allowed], flown: &Set, left_open: &Set) {
-        for column in self.list.iter_mut() {
-            if let Some(is_allowed) = is_allowed(column, allowed, flown, left_open) {
+    /// Allows the columns that these sets allow, and forbids the others, but for those of counts. There are so many
+    /// pairings.
+    pub(crate) fn mark(
+        &mut self,
+        allowed: &[Allowed],
+        flown: &Set,
+        left_open: &Set,
+        pairings: usize,
+    ) -> Result<(), AllocError> {
+        self.marks.put(allowed, left_open, pairings)?;
+        for (column, set) in self.list.iter_mut().zip(&self.sets) {
+            if let Some(is_allowed) = self.marks.is_allowed(column, set, flown) {
                 column.is_forbidden = !is_allowed;
             }
         }
+        Ok(())
     }
 
     /// Says whether column `c` may not be used.
@@ -356,11 +392,16 @@ impl Columns {
     }
 }
 
+/// The number of a row in little memory. A program has some hundred rows; one past the last that fits has none.
+fn short(row: usize) -> u16 {
+    row.min(usize::from(u16::MAX)) as u16
+}
+
 /// What a column with ones in these rows costs more than the duals pay for it.
-fn reduced(column: &Column, ones: &[usize], duals: &[i64]) -> i64 {
+fn reduced(column: &Column, ones: &[u16], duals: &[i64]) -> i64 {
     let mut paid: i64 = 0;
     for i in ones {
-        paid = paid.wrapping_add(number_at(duals, *i));
+        paid = paid.wrapping_add(number_at(duals, usize::from(*i)));
     }
     if column.is_negative {
         column.cost.wrapping_add(paid)

@@ -112,7 +112,7 @@ impl Inverse {
     }
 
     /// Looks at a column that has ones in these rows, or minus ones.
-    pub(crate) fn look(&mut self, ones: &[usize], is_negative: bool) {
+    pub(crate) fn look(&mut self, ones: &[u16], is_negative: bool) {
         for (i, row) in self.rows.iter().enumerate() {
             let entry = entry(row, ones);
             if i < self.image.len() {
@@ -261,10 +261,10 @@ fn add_to_last(row: &mut [i64], more: i64) {
 }
 
 /// What a column with ones in these rows has in a row, as the basis sees it.
-pub(crate) fn entry(row: &[i64], ones: &[usize]) -> i64 {
+pub(crate) fn entry(row: &[i64], ones: &[u16]) -> i64 {
     let mut sum: i64 = 0;
     for i in ones {
-        sum = sum.wrapping_add(number_at(row, *i));
+        sum = sum.wrapping_add(number_at(row, usize::from(*i)));
     }
     cleared(sum)
 }

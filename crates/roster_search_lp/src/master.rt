@@ -3,7 +3,7 @@
 ghost use Rattle.std.specs.Prelude.{◌≡◌, ◌<◌, ◌≤◌, ◌&&◌, ◌∷◌, [], IfOk, OnOk, length, nat_lt, not, replicate};
 ghost use Rattle.roster_search_lp.specs.Programs.{has_set, sets_of, with_line, AreDuals, IsDual};
 
-use crate::columns::Column;
+use crate::columns::Columns;
 use crate::fixed::times;
 use crate::limits::{MOST_DUAL, MOST_SHARE};
 use crate::person_sets::PersonSets;
@@ -244,11 +244,9 @@ impl Master {
     {
         shares.fill(0);
         for row in 0..self.simplex.size() {
-            if let Some(column) = self.simplex.columns().column(self.simplex.basic(row)) {
-                if column.is_line_of(k) {
-                    let share = thousandths(self.simplex.amount_in(row));
-                    add_share(shares, &column.set, share);
-                }
+            if let Some(set) = self.simplex.columns().set_of(k, self.simplex.basic(row)) {
+                let share = thousandths(self.simplex.amount_in(row));
+                add_share(shares, set, share);
             }
         }
     }
@@ -264,20 +262,20 @@ impl Master {
         }
         self.simplex.forget(alloc, most)?;
         let mut persons = empty_lines(alloc, self.persons.len())?;
-        put_lines(&mut persons, self.simplex.columns().all())?;
+        put_lines(&mut persons, self.simplex.columns())?;
         self.persons = persons;
         Ok(())
     }
 }
 
 /// Puts the lines among these columns into the sets of their persons.
-fn put_lines(persons: &mut [PersonSets], columns: &[Column]) -> Result<(), AllocError>
+fn put_lines(persons: &mut [PersonSets], columns: &Columns) -> Result<(), AllocError>
     ensures { length persons.new ≡ length persons.old }
 {
-    for column in columns {
+    for (column, set) in columns.all().iter().zip(columns.sets()) {
         if let Some(k) = column.person() {
             if k < persons.len() {
-                persons[k].put(&column.set)?;
+                persons[k].put(set)?;
             }
         }
     }

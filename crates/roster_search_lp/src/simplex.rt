@@ -118,9 +118,14 @@ impl Simplex {
     }
 
     /// Allows the columns that lines of persons may have, and forbids the others.
-    pub(crate) fn mark(&mut self, allowed: &[Allowed], flown: &Set, left_open: &Set) {
+    pub(crate) fn mark(
+        &mut self,
+        allowed: &[Allowed],
+        flown: &Set,
+        left_open: &Set,
+    ) -> Result<(), AllocError> {
         self.raises = 0;
-        self.columns.mark(allowed, flown, left_open);
+        self.columns.mark(allowed, flown, left_open, self.pairings)
     }
 
     /// How many columns have entered so far.

@@ -143,7 +143,7 @@ impl Relaxation {
         }
         let flown = self.set_in_rows(region.flown());
         let left_open = self.set_in_rows(region.left_open());
-        self.master.mark(&self.allowed, &flown, &left_open);
+        self.master.mark(&self.allowed, &flown, &left_open)?;
         let apart = self.never_held();
         let least = region.least_open().saturating_sub(apart);
         let most = region.most_open().saturating_sub(apart);

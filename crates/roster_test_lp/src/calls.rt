@@ -91,18 +91,18 @@ fn marks_hold_until_the_next(rt: HostRuntime) -> Result<(), Fail> {
             certain: nothing,
         },
     ];
-    master.mark(&allowed, &nothing, &nothing);
+    master.mark(&allowed, &nothing, &nothing)?;
     master.solve()?;
     assert_eq!(rt; master.value(), 15 * UNIT);
     assert_eq!(rt; master.open_share(1), 1000);
-    master.mark(&allowed, &one(1), &nothing);
+    master.mark(&allowed, &one(1), &nothing)?;
     master.solve()?;
     assert_eq!(rt; master.value(), 20 * UNIT);
-    master.mark(&allowed, &nothing, &one(0));
+    master.mark(&allowed, &nothing, &one(0))?;
     master.solve()?;
     assert_eq!(rt; master.value(), 20 * UNIT);
     assert_eq!(rt; master.open_share(0), 1000);
-    master.mark(&[], &nothing, &nothing);
+    master.mark(&[], &nothing, &nothing)?;
     master.solve()?;
     assert_eq!(rt; master.value(), 12 * UNIT);
     Ok(())
@@ -125,13 +125,13 @@ fn dear_solutions_are_left(rt: HostRuntime) -> Result<(), Fail> {
         },
     ];
     master.begin(30 * UNIT)?;
-    master.mark(&allowed, &one(1), &nothing);
+    master.mark(&allowed, &one(1), &nothing)?;
     master.solve()?;
     assert!(rt; master.uses_forbidden());
     assert!(rt; master.value() > 29 * UNIT);
     assert!(rt; master.value() < 31 * UNIT);
     master.begin(i64::MAX)?;
-    master.mark(&[], &nothing, &nothing);
+    master.mark(&[], &nothing, &nothing)?;
     master.solve()?;
     assert_eq!(rt; master.value(), 12 * UNIT);
     assert!(rt; !master.uses_forbidden());

@@ -60,7 +60,7 @@ fn a_person_who_has_no_line(rt: HostRuntime) -> Result<(), Fail> {
 #[test]
 fn a_pairing_that_must_be_flown_and_that_nobody_can_have(rt: HostRuntime) -> Result<(), Fail> {
     let mut master = Master::new(rt.alloc(), &[0], &[1 << 20], SCALE)?;
-    master.mark(&[], &set_of(0, 1), &Set::empty());
+    master.mark(&[], &set_of(0, 1), &Set::empty())?;
     master.solve()?;
     assert!(rt; master.uses_forbidden());
     for _ in 0..5 {
@@ -69,7 +69,7 @@ fn a_pairing_that_must_be_flown_and_that_nobody_can_have(rt: HostRuntime) -> Res
         assert!(rt; master.uses_forbidden());
     }
     assert!(rt; !master.raise());
-    master.mark(&[], &Set::empty(), &Set::empty());
+    master.mark(&[], &Set::empty(), &Set::empty())?;
     master.solve()?;
     assert!(rt; !master.uses_forbidden());
     assert_eq!(rt; master.value(), 1 << 20);

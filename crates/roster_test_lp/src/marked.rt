@@ -37,7 +37,7 @@ fn compare(
         let mut master = program.master(alloc)?;
         for _ in 0..3 {
             let marks = made_marks(alloc, &mut chance, &program)?;
-            master.mark(&marks.allowed, &marks.flown, &marks.left_open);
+            master.mark(&marks.allowed, &marks.flown, &marks.left_open)?;
             master.count_open(marks.least, marks.most)?;
             solve_dearly(&mut master)?;
             let least = program.least(alloc, &marks, FORBIDDEN)?;
