@@ -1,6 +1,7 @@
 //! A reason in words.
 
-ghost use Rattle.std.specs.Prelude.{◌<◌, length};
+ghost use Rattle.std.specs.Prelude.{◌≡◌, ◌<◌, length};
+ghost use Rattle.roster_desk_words.specs.Limits.{counted_text};
 
 use crate::times::{push_times, times_in_leave, times_of_block, times_of_rest, times_shared};
 use crate::words::{day, duty_name, pairing_name, push_all, push_time, time};
@@ -105,7 +106,9 @@ fn push_recovery(
 }
 
 /// What the limit counts in a run of days.
-pub(crate) fn counted(limit: Limit) -> &'static [u8] {
+pub(crate) fn counted(limit: Limit) -> &'static [u8]
+    ensures { result.now ≡ counted_text limit }
+{
     match limit {
         Limit::Duty7 => b" of duty in the 7 days to ",
         Limit::Duty14 => b" of duty in the 14 days to ",

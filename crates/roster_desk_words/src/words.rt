@@ -1,8 +1,9 @@
 //! Times, days and names.
 
-ghost use Rattle.std.specs.Prelude.{◌≡◌, ◌++◌, IfOk, OnOk, string_bytes};
+ghost use Rattle.std.specs.Prelude.{◌≡◌, ◌++◌, ◌<◌, IfOk, OnOk, length, string_bytes};
 ghost use Rattle.std.specs.List.{flat_map};
-ghost use Rattle.roster_desk_words.specs.Words.{name_at, time_text};
+ghost use Rattle.roster_desk_words.specs.Words as words;
+ghost use Rattle.roster_desk_words.specs.Words.{date_text, day_text, name_at, person_at, time_text};
 
 use jiff_core::civil::Date;
 use roster_instants::{Minute, Period};
@@ -43,10 +44,26 @@ pub(crate) fn push_time(
 }
 
 /// A date as in `2024-03-09`.
-fn date(alloc: Global, year: i16, month: u8, day: usize) -> Result<String, AllocError> {
+pub fn date(alloc: Global, year: i16, month: u8, day: usize) -> Result<String, AllocError>
+    ensures { IfOk result (λ text. string_bytes text ≡ date_text year month day) }
+{
     let (month_tens, month_ones) = (month / 10, month % 10);
     let (tens, ones) = (day / 10, day % 10);
     format!(in alloc; "{year}-{month_tens}{month_ones}-{tens}{ones}")
+}
+
+/// The date of the `n`-th day of the month, which has so many days, or of the next month.
+fn date_in(alloc: Global, period: Period, month_days: usize, n: usize) -> Result<String, AllocError>
+    ensures { IfOk result (λ text. string_bytes text ≡ words.date_in period month_days n) }
+{
+    let (year, month) = (period.year(), period.month() as u8);
+    if n <= month_days {
+        return date(alloc, year, month, n);
+    }
+    if month < 12 {
+        return date(alloc, year, month + 1, n - month_days);
+    }
+    date(alloc, year + 1, 1, n - month_days)
 }
 
 /// The date of a day of the window that is of the month, which has so many days, or of the next one.
@@ -55,16 +72,15 @@ pub(crate) fn day(
     period: Period,
     month_days: usize,
     day: usize,
-) -> Result<String, AllocError> {
-    let (year, month) = (period.year(), period.month() as u8);
-    let number = day.saturating_sub(DAYS_BEFORE).saturating_add(1);
-    if number <= month_days {
-        return date(alloc, year, month, number);
-    }
-    if month < 12 {
-        return date(alloc, year, month + 1, number - month_days);
-    }
-    date(alloc, year + 1, 1, number - month_days)
+) -> Result<String, AllocError>
+    ensures { IfOk result (λ text. string_bytes text ≡ day_text period month_days day) }
+{
+    date_in(
+        alloc,
+        period,
+        month_days,
+        day.saturating_sub(DAYS_BEFORE) + 1,
+    )
 }
 
 /// An instant as in `2024-06-11T08:00Z`.
@@ -102,4 +118,12 @@ pub fn pairing_name(problem: &Problem, p: usize) -> &[u8]
         Some(pairing) => pairing.id.as_bytes(),
         None => b"-",
     }
+}
+
+/// The name of person `k` of the book.
+pub(crate) fn person_name(problem: &Problem, k: usize) -> &[u8]
+    requires { k < length problem.now.persons }
+    ensures { result.now ≡ person_at problem.now k }
+{
+    problem.person(k).id.as_bytes()
 }
