@@ -50,12 +50,17 @@ pub record IsValue (told : Told) (fault : Fault) : Type 0 where
   pub row : told.at < 18446744073709551615 → fault.row ≡ told.at + 1
   pub code : fault.code ≡ told.code
 
--- The first of the values is of the row, and has the code.
+-- There is a value, and the first one is of the row, and has the code.
 abbrev pub IsFirst : ℕ → ℕ → List Fault → Type 0
-IsFirst row code [] = ⊤
+IsFirst row code [] = ⊥
 IsFirst row code (fault ∷ rest) = (fault.row ≡ row) × (fault.code ≡ code)
 
--- A good book has no fault. Of another one the fault that is told first is its first fault.
+-- So it is if there is one.
+abbrev pub MayBeFirst : ℕ → ℕ → List Fault → Type 0
+MayBeFirst row code [] = ⊤
+MayBeFirst row code (fault ∷ rest) = IsFirst row code (fault ∷ rest)
+
+-- A good book has no fault. Of another one at least one is told, and the first of them is the book's first fault.
 abbrev pub IsJudged : List model.Record → Judged → Type 0
 IsJudged records Good = first_fault Check records ≡ None
 IsJudged records (Faulty faults) =

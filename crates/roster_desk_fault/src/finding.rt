@@ -41,6 +41,9 @@ impl Finding {
     }
 }
 
+/// What is wanted of the first record of a book.
+pub(crate) const MONTH_FIRST: &str = "period and the month: period,2024-06";
+
 /// What is wrong with the first record of a book that doesn't begin with its month.
 fn find_no_period(alloc: Global, seen: Seen<'_>) -> Result<Finding, AllocError> {
     let kind = seen.row.field(0);
@@ -49,7 +52,7 @@ fn find_no_period(alloc: Global, seen: Seen<'_>) -> Result<Finding, AllocError> 
     } else if kind.contains(&b'\0') || !kind.is_ascii() {
         "period and the month as UTF-8 text: period,2024-06; the file may be UTF-16"
     } else {
-        "period and the month: period,2024-06"
+        MONTH_FIRST
     };
     Finding::plain(alloc, 0, wanted)
 }

@@ -4,13 +4,13 @@ ghost use Rattle.std.specs.Prelude.{◌≡◌, ◌+◌, ◌<◌, IfErr, IfOk, No
 ghost use Rattle.std.specs.List.{AllZip};
 ghost use Rattle.roster_book.specs.Reading.{IsBookOf, TellsFirst};
 ghost use Rattle.roster_book.specs.declared.fault.BookFault.TheVariants.{At};
-ghost use Rattle.roster_desk_fault.specs.Firsts.{AreKept, BeginsAt, IsFirst, IsJudged, IsTold, IsValue};
+ghost use Rattle.roster_desk_fault.specs.Firsts.{AreKept, BeginsAt, IsFirst, IsJudged, IsTold, IsValue, MayBeFirst};
 ghost use Rattle.roster_desk_fault.specs.declared.judging.Judged.TheVariants.{Good};
 ghost use Rattle.roster_model.specs.Answer.{records_of};
 ghost use Rattle.roster_model.specs.Faults.{first_fault};
 ghost use Rattle.roster_model.specs.Record.{Check};
 
-use crate::finding::{Finding, find};
+use crate::finding::{Finding, MONTH_FIRST, find};
 use crate::kinds::Kind;
 use crate::rows::{Record, kept_at, kept_text, read_rows};
 use crate::seen::Seen;
@@ -40,7 +40,7 @@ pub struct Fault {
 pub enum Judged {
     /// It has none.
     Good,
-    /// It has some: the first one, and others.
+    /// It has some: the first one, and others behind it. There is one at least.
     Faulty(Vec<Fault>),
 }
 
@@ -193,7 +193,7 @@ fn field_in(
 }
 
 /// The row of the record at the place.
-fn row_at(at: usize) -> usize
+pub(crate) fn row_at(at: usize) -> usize
     ensures { at < 18446744073709551615 → result ≡ at + 1 }
 {
     at.saturating_add(1)
@@ -229,6 +229,34 @@ fn values_of(alloc: Global, rows: &[Record], all: Vec<Told>) -> Result<Vec<Fault
     Ok(faults)
 }
 
+/// The first fault of a book in which its record isn't found, as one that has none.
+fn first_alone(alloc: Global, first: First) -> Result<Fault, AllocError>
+    ensures row { IfOk result (λ fault. fault.row ≡ first.row) }
+    ensures code { IfOk result (λ fault. fault.code ≡ first.code) }
+{
+    Ok(Fault {
+        row: first.row,
+        code: first.code,
+        field: "the kind",
+        has: Vec::new(alloc),
+        wanted: String::from_str(alloc, MONTH_FIRST)?,
+        other: None,
+    })
+}
+
+/// The faults, or the first one if there are none.
+fn or_first(alloc: Global, first: First, faults: Vec<Fault>) -> Result<Vec<Fault>, AllocError>
+    ensures { IfOk result (λ all. MayBeFirst first.row first.code faults.items
+        → IsFirst first.row first.code all.items) }
+{
+    if !faults.is_empty() {
+        return Ok(faults);
+    }
+    let mut all = Vec::new(alloc);
+    all.push(first_alone(alloc, first)?)?;
+    Ok(all)
+}
+
 /// The faults of the records, of which this is the first.
 fn faults_from(
     alloc: Global,
@@ -239,12 +267,13 @@ fn faults_from(
     ensures { IfOk result (λ faults. AreKept rows.old.items
         → IsFirst first.row first.code faults.items) }
 {
-    let found = find_faults(alloc, rows, first, most)?;
-    values_of(alloc, rows, found.told)
+    let found = find_faults(alloc, rows, first, most.max(1))?;
+    let faults = values_of(alloc, rows, found.told)?;
+    or_first(alloc, first, faults)
 }
 
 /// Whether the book in the bytes has a fault. The first one is that of a check, and each later one as if the
-/// faulty records before it weren't there; so many at most.
+/// faulty records before it weren't there; so many at most, but always the first.
 pub fn judge(alloc: Global, bytes: &[u8], most: usize) -> Result<Judged, AllocError>
     ensures good { IfOk result (λ judged. judged ≡ Good
         → first_fault Check (records_of bytes.now) ≡ None) }

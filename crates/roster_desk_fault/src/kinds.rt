@@ -1,5 +1,9 @@
 //! The kinds of records, and the names and forms of their fields.
 
+ghost use Rattle.std.specs.Prelude.{◌≡◌};
+ghost use Rattle.roster_model.specs.Record.{word_of};
+ghost use Rattle.roster_desk_fault.specs.Kinds.{kind_of, most_of};
+
 use roster_model::limits::{
     MOST_BASES, MOST_COSTS, MOST_DUTIES, MOST_LEAVES, MOST_MINUTES, MOST_PAIRINGS, MOST_PENALTY,
     MOST_PERSONS, MOST_SECTORS, MOST_UNITS, MOST_WEIGHT,
@@ -185,7 +189,10 @@ impl Kind {
     ];
 
     /// What the format says of it.
-    fn shape(self) -> Shape {
+    fn shape(self) -> Shape
+        ensures word { result.word.now ≡ word_of (kind_of self) }
+        ensures most { result.most ≡ most_of (kind_of self) }
+    {
         match self {
             Kind::Period => PERIOD,
             Kind::Weight => WEIGHT,
@@ -211,7 +218,9 @@ impl Kind {
     }
 
     /// The word that names the kind.
-    pub fn word(self) -> &'static str {
+    pub fn word(self) -> &'static str
+        ensures { result.now ≡ word_of (kind_of self) }
+    {
         self.shape().word
     }
 
@@ -226,7 +235,9 @@ impl Kind {
     }
 
     /// How many records of the kind there may be; `None` if the kind has no limit of its own.
-    pub fn most(self) -> Option<usize> {
+    pub fn most(self) -> Option<usize>
+        ensures { result ≡ most_of (kind_of self) }
+    {
         self.shape().most
     }
 

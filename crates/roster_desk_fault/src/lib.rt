@@ -1,8 +1,9 @@
 //! What is wrong with a book, and what is likely a mistake in it, in words.
 //!
 //! `fault_text` and `judge` tell the faults of a refused book, the first of which is the one that a check
-//! tells: that is proved of `judge`, if it tells one. Later faults, fields, sentences and what is wanted are
-//! only tested. `warn_text` tells what is likely a mistake in a book without a fault. In reading order:
+//! tells: that is proved, and who is told to have too many legal sets. Later faults, fields, sentences and
+//! what is wanted are only tested. `warn_text` tells what is likely a mistake in a book without a fault; of
+//! that only the words are proved, and their order. In reading order:
 //!
 //! - `kinds`: the kinds of records, and their fields
 //! - `rows`: the records of a book, each with its line

@@ -1,5 +1,9 @@
 //! The warnings of a book in words.
 
+ghost use Rattle.std.specs.Prelude.{◌≡◌, IfOk};
+ghost use Rattle.roster_desk_words.specs.Parts.{AreParts};
+ghost use Rattle.roster_desk_fault.specs.Told.{IsOfWord, IsWarnText, or_none};
+
 use crate::alike::{stations, twins};
 use crate::homes::homes;
 use crate::likely::{free_months, long_duties, nights};
@@ -7,7 +11,7 @@ use crate::numbers::{hours, positioning, targets, years};
 use crate::rests::{fixed_rests, layovers, short_rests};
 use crate::rows::{Record, read_rows};
 use crate::sums::{flown_hours, histories, penalties, shares, weights};
-use crate::warning::{Warning, push_warnings};
+use crate::warning::{Warning, warnings_text};
 use crate::zones::zones;
 use std::alloc::{AllocError, Global};
 
@@ -35,55 +39,30 @@ enum Sign {
     Home,
 }
 
+/// All signs in the order in which they are told, each with the word that its warnings have.
+const SIGNS: [(Sign, &str); 19] = [
+    (Sign::Zone, "ZONE"),
+    (Sign::Night, "NIGHT"),
+    (Sign::Year, "YEAR"),
+    (Sign::Target, "TARGET"),
+    (Sign::Hours, "HOURS"),
+    (Sign::LongDuty, "LONGDUTY"),
+    (Sign::Positioning, "POSITIONING"),
+    (Sign::FreeMonth, "FREEMONTH"),
+    (Sign::ShortRest, "REST"),
+    (Sign::Station, "STATION"),
+    (Sign::Twin, "TWIN"),
+    (Sign::Flown, "ELEVEN"),
+    (Sign::Weight, "WEIGHT"),
+    (Sign::Penalty, "PENALTY"),
+    (Sign::Share, "SHARE"),
+    (Sign::History, "HISTORY"),
+    (Sign::FixedRest, "FIXED"),
+    (Sign::Layover, "AWAY"),
+    (Sign::Home, "HOME"),
+];
+
 impl Sign {
-    /// All signs, in the order in which they are told.
-    const ALL: [Sign; 19] = [
-        Sign::Zone,
-        Sign::Night,
-        Sign::Year,
-        Sign::Target,
-        Sign::Hours,
-        Sign::LongDuty,
-        Sign::Positioning,
-        Sign::FreeMonth,
-        Sign::ShortRest,
-        Sign::Station,
-        Sign::Twin,
-        Sign::Flown,
-        Sign::Weight,
-        Sign::Penalty,
-        Sign::Share,
-        Sign::History,
-        Sign::FixedRest,
-        Sign::Layover,
-        Sign::Home,
-    ];
-
-    /// The word that a warning has of it.
-    fn word(self) -> &'static str {
-        match self {
-            Sign::Zone => "ZONE",
-            Sign::Night => "NIGHT",
-            Sign::Year => "YEAR",
-            Sign::Target => "TARGET",
-            Sign::Hours => "HOURS",
-            Sign::LongDuty => "LONGDUTY",
-            Sign::Positioning => "POSITIONING",
-            Sign::FreeMonth => "FREEMONTH",
-            Sign::ShortRest => "REST",
-            Sign::Station => "STATION",
-            Sign::Twin => "TWIN",
-            Sign::Flown => "ELEVEN",
-            Sign::Weight => "WEIGHT",
-            Sign::Penalty => "PENALTY",
-            Sign::Share => "SHARE",
-            Sign::History => "HISTORY",
-            Sign::FixedRest => "FIXED",
-            Sign::Layover => "AWAY",
-            Sign::Home => "HOME",
-        }
-    }
-
     /// The warnings of it.
     fn warnings(self, alloc: Global, rows: &[Record]) -> Result<Vec<Warning>, AllocError> {
         match self {
@@ -110,18 +89,37 @@ impl Sign {
     }
 }
 
-/// What is likely a mistake in the book in the bytes, in which no record has a fault. It is valid UTF-8.
-pub fn warn_text(alloc: Global, bytes: &[u8]) -> Result<Vec<u8>, AllocError> {
-    let rows = read_rows(alloc, bytes)?;
+/// The warnings of these signs, each under its word.
+fn signs_text(alloc: Global, rows: &[Record], signs: &[(Sign, &str)]) -> Result<Vec<u8>, AllocError>
+    ensures { IfOk result (λ text. AreParts (λ sign. IsOfWord sign.1.now) signs.now text.items) }
+{
     let mut out = Vec::new(alloc);
-    let mut told = 0usize;
-    for &sign in &Sign::ALL {
-        let warnings = sign.warnings(alloc, &rows)?;
-        let more = push_warnings(alloc, &mut out, &rows, sign.word(), &warnings)?;
-        told = told.saturating_add(more);
-    }
-    if told == 0 {
-        out.extend_from_slice(b"NO WARNING\n")?;
+    for (sign, word) in signs {
+        let warnings = sign.warnings(alloc, rows)?;
+        let text = warnings_text(alloc, rows, word, &warnings)?;
+        out.extend_from_slice(text.as_slice())?;
     }
     Ok(out)
+}
+
+/// What is told, or the line that stands for no warning.
+fn or_none(told: Vec<u8>) -> Result<Vec<u8>, AllocError>
+    ensures { IfOk result (λ text. text.items ≡ or_none told.items) }
+{
+    if !told.is_empty() {
+        return Ok(told);
+    }
+    let mut out = told;
+    out.extend_from_slice(b"NO WARNING\n")?;
+    Ok(out)
+}
+
+/// What is likely a mistake in the book in the bytes, in which no record has a fault. It is valid UTF-8.
+pub fn warn_text(alloc: Global, bytes: &[u8]) -> Result<Vec<u8>, AllocError>
+    ensures { IfOk result (λ text. IsWarnText text.items) }
+{
+    let rows = read_rows(alloc, bytes)?;
+    let told = signs_text(alloc, &rows, &SIGNS)?;
+    let text = or_none(told)?;
+    Ok(text)
 }
