@@ -38,6 +38,8 @@
 //! - `way`: prices on their way to those at which known columns cost the most
 //! - `portions`: what the columns of some persons cover, shared among threads
 //! - `master`: the best prices for the legal sets that are known
+//! - `sketched`: a person in a sketch of a base
+//! - `sketch`: prices of a sketch, which move far in a moment
 //! - `start`: the prices that looks begin with
 //! - `pace`: how prices move from one look to the next
 //! - `rising`: prices that say more and more, and a file for what is claimed of them
@@ -78,6 +80,8 @@ mod rows;
 mod rows_behind;
 mod seek;
 mod sets;
+mod sketch;
+mod sketched;
 mod softness;
 mod span;
 mod spare;

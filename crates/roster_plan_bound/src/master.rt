@@ -138,7 +138,7 @@ fn add_shares(
 }
 
 /// The prices in steps that are finer than parts, as they move: rounded to parts, a small push would be none.
-fn fine_prices(alloc: Global, prices: &[i64]) -> Result<Vec<i64>, AllocError> {
+pub(crate) fn fine_prices(alloc: Global, prices: &[i64]) -> Result<Vec<i64>, AllocError> {
     let mut fine = Vec::new(alloc);
     for price in prices {
         fine.push(price.wrapping_mul(FINE))?;
@@ -147,7 +147,7 @@ fn fine_prices(alloc: Global, prices: &[i64]) -> Result<Vec<i64>, AllocError> {
 }
 
 /// The same for penalties.
-fn fine_covered(alloc: Global, covered: &[Covered]) -> Result<Vec<Covered>, AllocError> {
+pub(crate) fn fine_covered(alloc: Global, covered: &[Covered]) -> Result<Vec<Covered>, AllocError> {
     let mut fine = Vec::new(alloc);
     for one in covered {
         fine.push(Covered {
@@ -159,7 +159,7 @@ fn fine_covered(alloc: Global, covered: &[Covered]) -> Result<Vec<Covered>, Allo
 }
 
 /// Prices in parts again, each the nearest.
-fn in_parts(alloc: Global, fine: &[i64]) -> Result<Vec<i64>, AllocError> {
+pub(crate) fn in_parts(alloc: Global, fine: &[i64]) -> Result<Vec<i64>, AllocError> {
     let mut prices = Vec::new(alloc);
     for price in fine {
         prices.push(price.wrapping_add(FINE / 2).div_euclid(FINE))?;

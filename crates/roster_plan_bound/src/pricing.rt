@@ -196,6 +196,14 @@ impl<'a> Pricing<'a> {
         renew_sets(alloc, self.problem, k, &self.timelines[k], prices, columns)
     }
 
+    /// The timeline of person `k`, if there is such a person, who has one.
+    pub(crate) fn timeline(&self, k: usize) -> Option<&Timeline> {
+        match self.timelines.get(k) {
+            Some(Some(timeline)) => Some(timeline),
+            _ => None,
+        }
+    }
+
     /// The pairs of person `k`.
     pub(crate) fn pairs(&self, k: usize) -> &Pairs
         requires { k < length self.now.persons }

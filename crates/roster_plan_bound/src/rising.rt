@@ -268,7 +268,9 @@ impl<'a> PricedBound<'a> {
         ensures { self.new ≡ self.old }
     {
         let wanted = start_prices(team.alloc, self.pricing, self.base, &self.persons)?;
-        self.look_at(team, &wanted)
+        self.look_at(team, &wanted)?;
+        self.pace = Pace::first(self.pace.dear);
+        Ok(())
     }
 
     /// Finds columns at the next prices.

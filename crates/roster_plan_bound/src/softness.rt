@@ -23,6 +23,29 @@ pub(crate) fn share_of(weight: i64, sum: i64) -> i64 {
     weight.wrapping_mul(ONE) / sum.max(1)
 }
 
+/// What two amounts cost at least, about: the less, and something less if the other one is near. And which part
+/// of `ONE` the first one has of that.
+pub(crate) fn soft_least(first: i64, second: i64, softness: i64) -> (i64, i64) {
+    let least = first.min(second);
+    let above = first.max(second).wrapping_sub(least);
+    let weight = weight_of(above, softness) / (POWERS[0] / ONE);
+    let both = ONE.wrapping_add(weight);
+    let share = if first < second {
+        share_of(ONE, both)
+    } else {
+        share_of(weight, both)
+    };
+    (least.wrapping_sub(saved_by(weight, softness)), share)
+}
+
+/// By how much two amounts are less than the lesser one, whose weight is `ONE`: the logarithm to base 2 of
+/// both weights, nearly.
+fn saved_by(weight: i64, softness: i64) -> i64 {
+    let bend = weight.wrapping_mul(22_708) / ONE;
+    let logarithm = weight.wrapping_mul(88_244_i64.wrapping_sub(bend)) / ONE;
+    (softness / 16).wrapping_mul(logarithm) / (ONE / 16)
+}
+
 /// The logarithm to base 2 of a share, from -4 to 4, as so many parts of `ONE`; nearly.
 pub(crate) fn logarithm(share: i64) -> i64 {
     let least = ONE / 16;

@@ -1,18 +1,21 @@
-//! The prices that looks begin with: what the flight of each pairing is worth, and what it costs to leave it
-//! open.
+//! The prices that looks begin with: those of a sketch, which begins with what each pairing costs at least.
 //!
 //! If the crew lacks flight, nearly everybody ends below the target, and each minute saves the weight; else
-//! nearly everybody ends above it, and each minute costs as much. A pairing whose price is that brings just
-//! its units, whoever flies it. Nothing rests on these prices.
+//! nearly everybody ends above it, and each minute costs as much. A pairing costs that, and the units of who
+//! flies it. Nothing rests on these prices.
 
+use crate::covered::covered_of;
+use crate::lists::flight_at;
 use crate::parts::{MOST_PLAN_PRICE, PARTS};
 use crate::pricing::Pricing;
+use crate::sketch::sketched_prices;
 use roster_bases::{is_pairing_of, is_person_of};
 use roster_cost::fixed_flight;
 use roster_problem::Problem;
 use std::alloc::{AllocError, Global};
 
-/// A price for each pairing of the base, its weighed flight, but no more than its penalty; none for others.
+/// Prices at which the rosters of a sketch cost the most, nearly. They begin with what each pairing costs at
+/// least, units and flight, and the penalty if that is less.
 pub(crate) fn start_prices(
     alloc: Global,
     pricing: &Pricing<'_>,
@@ -22,12 +25,30 @@ pub(crate) fn start_prices(
     let problem = pricing.problem();
     let flights = flights_of(alloc, pricing, base, persons)?;
     let is_short = minutes_wanted(problem, base) > sum_of(&flights);
-    let mut prices = Vec::new(alloc);
-    for (pairing, flight) in problem.pairings().iter().zip(flights.iter()) {
+    let mut floors = Vec::new(alloc);
+    for (p, pairing) in problem.pairings().iter().enumerate() {
         let penalty = i64::from(pairing.penalty).wrapping_mul(PARTS as i64);
-        prices.push(start_price(problem, *flight, is_short).min(penalty))?;
+        let worth = start_price(problem, flight_at(&flights, p), is_short);
+        floors.push(least_with(pricing, persons, p, worth, penalty))?;
     }
-    Ok(prices)
+    let covered = covered_of(alloc, problem, base)?;
+    sketched_prices(alloc, pricing, &covered, persons, &floors, is_short)
+}
+
+/// What the pairing at place `p` costs at least, in parts of a cost unit: its penalty, or the units of one of
+/// the persons, if it is legal alone, and what its flight is worth.
+fn least_with(pricing: &Pricing<'_>, persons: &[usize], p: usize, worth: i64, penalty: i64) -> i64 {
+    let mut least = penalty;
+    for k in persons {
+        if let Some(timeline) = pricing.timeline(*k) {
+            if timeline.alone.has(p) {
+                let units = pricing.problem().units(*k, p);
+                let cost = units.wrapping_mul(PARTS as i64).wrapping_add(worth);
+                least = least.min(cost);
+            }
+        }
+    }
+    least
 }
 
 /// What the flight of each pairing is worth if so large a part of all flight stays open: that whose penalties

@@ -44,6 +44,15 @@ pub(crate) const MOST_NEAR_STRIDE: i64 = 60 * 64;
 /// Where shares of columns are counted, they are at one of so many steps.
 pub(crate) const STEPS_A_COUNT: u32 = 5;
 
+/// How many steps a sketch has. Covers are so soft at first that one of so many parts is what lies between
+/// prices and penalties, but no less than at the first look. Nothing holds prices of a sketch near the first
+/// ones.
+pub(crate) const SKETCH_STEPS: u32 = 400;
+
+pub(crate) const RANGES: i64 = 64;
+
+pub(crate) const MOST_STRIDE_OF_SKETCH: i64 = 1 << 60;
+
 /// Softness at first, where looks have long said little, at least, and how many steps it stays that say no
 /// more, in parts of a cost unit.
 pub(crate) const FIRST_SOFTNESS: i64 = 60 * 64;

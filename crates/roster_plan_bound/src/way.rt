@@ -98,7 +98,7 @@ fn push_of(cover: i64, softness: i64) -> i64 {
 }
 
 /// Sets the number at a place of a list.
-fn put(amounts: &mut [i64], i: usize, amount: i64) {
+pub(crate) fn put(amounts: &mut [i64], i: usize, amount: i64) {
     if i < amounts.len() {
         amounts[i] = amount;
     }
