@@ -27,9 +27,6 @@ use std::thread::{Threads, for_each_mut};
 /// The least effort at which there are dives.
 const LEAST_EFFORT: u32 = 2;
 
-/// The least effort at which there are dives of a few persons.
-const LEAST_EFFORT_OF_FEW: u32 = 3;
-
 /// At each dive of a base at least so many hundredths of those who are left get a column each time.
 const HUNDREDTHS: [usize; 2] = [15, 5];
 
@@ -40,8 +37,10 @@ const DIVES_A_LOOK: u64 = 2;
 /// not on how many threads share them.
 const DIVES_AT_ONCE: usize = 4;
 
-/// How often there are so many with each effort more, at most, and how many in a row that find nothing are
-/// enough.
+/// How often there are so many at the first efforts with dives, at most, and with each effort more; and how
+/// many in a row that find nothing are enough.
+const FIRST_ROUNDS: [u32; 2] = [4, 20];
+
 const ROUNDS_AN_EFFORT: u32 = 8;
 
 const IDLE_ROUNDS: u32 = 20;
@@ -122,8 +121,9 @@ fn of_groups<R: Threads + Sync, W: Watcher>(
     keys_are_in_order();
     let mut month = start;
     let mut idle: u32 = 0;
+    let enough = idle_rounds_of(gaps);
     for _ in 0..rounds_of(means.effort) {
-        if idle >= IDLE_ROUNDS {
+        if idle >= enough {
             break;
         }
         let cost = month.planned.roster.cost;
@@ -145,15 +145,22 @@ fn of_groups<R: Threads + Sync, W: Watcher>(
     Ok(month)
 }
 
-/// How often an effort has so many dives of a few persons: the first one as often as it and all before it.
+/// How often an effort has so many dives of a few persons.
 fn rounds_of(effort: u32) -> u32 {
-    if effort < LEAST_EFFORT_OF_FEW {
-        return 0;
+    match effort.saturating_sub(LEAST_EFFORT) {
+        0 => FIRST_ROUNDS[0],
+        1 => FIRST_ROUNDS[1],
+        _ => ROUNDS_AN_EFFORT,
     }
-    if effort > LEAST_EFFORT_OF_FEW {
-        return ROUNDS_AN_EFFORT;
+}
+
+/// How many times in a row that find nothing are enough: one, if a few persons are always all of a base.
+fn idle_rounds_of(gaps: &[Gap<'_>]) -> u32 {
+    if gaps.iter().all(|gap| gap.crew <= FEW) {
+        1
+    } else {
+        IDLE_ROUNDS
     }
-    ROUNDS_AN_EFFORT * LEAST_EFFORT_OF_FEW
 }
 
 /// The month with what dives of a base find.
