@@ -1,3 +1,4 @@
+pub mod Broken
 pub mod Carried
 pub mod Ending
 pub mod Made

@@ -48,11 +48,11 @@ IsMade contents line report old new status =
     Ends contents (IsBook line report) Nothing old new status ⊎ AreWrong old new status
 
 -- the line names no month, or the report is refused, or the book wouldn't ask for what is meant
-abbrev pub IsUnmade : Option (Bor (List ℕ)) → Untold → Type 0
-IsUnmade start (untolds.Unknown unknown) = ⊥
-IsUnmade start (untolds.Report path fault) = IsSomeAnd start (λ own. path.now ≡ own.now)
-IsUnmade start (untolds.Words sentence) = ⊤
-IsUnmade start (untolds.Faulty text) = ⊥
-IsUnmade start untolds.Unlike = ⊤
-IsUnmade start (untolds.Names text) = ⊥
-IsUnmade start untolds.Memory = ⊤
+abbrev pub IsBookUnmade : Option (Bor (List ℕ)) → Untold → Type 0
+IsBookUnmade start (untolds.Unknown unknown) = ⊥
+IsBookUnmade start (untolds.Report path fault) = IsSomeAnd start (λ own. path.now ≡ own.now)
+IsBookUnmade start (untolds.Words sentence) = ⊤
+IsBookUnmade start (untolds.Faulty text) = ⊥
+IsBookUnmade start untolds.Unlike = ⊤
+IsBookUnmade start (untolds.Names text) = ⊥
+IsBookUnmade start untolds.Memory = ⊤

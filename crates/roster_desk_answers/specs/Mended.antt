@@ -1,23 +1,18 @@
 -- The book of a repair.
-use Rattle.std.specs.Prelude.{◌≡◌, ◌≤◌, ◌⊎◌, ◌++◌, ◌∷◌, ◌*◌, ◌==◌, ℕ, List, [], None, Option, Some, if◌then◌else◌, length, nat_lt, true}
+use Rattle.std.specs.Prelude.{◌≡◌, ◌≤◌, ◌⊎◌, ◌++◌, ◌∷◌, ◌*◌, ℕ, List, [], None, Option, Some, true}
 use Rattle.std.specs.Borrow.{Bor}
-use Rattle.std.specs.List.{after_first, before_first, position_or_len}
 use Rattle.roster_model.specs.Calendar.{instant_of}
-use Rattle.roster_model.specs.Problem.{Problem}
+use Rattle.roster_model.specs.Answer.{records_of}
+use Rattle.roster_model.specs.Problem.{Problem, problem_of}
 use Rattle.roster_model.specs.declared.limits.TheConstants.{MOST_UNITS}
 use Rattle.roster_desk_arguments.specs.Line.{number_spelled}
 use Rattle.roster_desk_arguments.specs.declared.line.RepairLine.{RepairLine}
 use Rattle.roster_desk_repair.specs.Made.{IsMade}
 use Rattle.roster_desk_repair.specs.declared.repairing.RepairedBook.{RepairedBook}
 use Rattle.roster_desk_repair_judged.specs.declared.terms.Terms.{Terms}
+use Rattle.roster_desk_answers.specs.Broken.{BreakBy, parts_at}
 use Rattle.roster_desk_answers.specs.Pages.{IsFaultless}
 use Rattle.roster_desk_answers.specs.Told.{IsRosterOf}
-
--- what stands before the first such byte of the text, and behind it, if there is one
-abbrev pub parts_at : ℕ → List ℕ → Option (List ℕ × List ℕ)
-parts_at byte text =
-    if nat_lt (position_or_len (λ b. b == byte) text) (length text)
-    then Some (before_first (λ b. b == byte) text, after_first (λ b. b == byte) text) else None
 
 -- ---- what the line says
 
@@ -61,15 +56,16 @@ pub record IsRepaired (book : Problem) (terms : Terms) (report text : List ℕ) 
   pub is : IsMade book published terms made
   pub written : text ≡ made.text.items
 
--- so it is of some book
-pub record Mends (terms : Terms) (report text : List ℕ) : Type 0 where
+-- so it is once pairings of the book have broken off as these words say
+pub record Mends (broken : List (Bor (List ℕ))) (terms : Terms) (book : Problem) (report text : List ℕ) : Type 0 where
   pub last : Problem
+  pub breaks : BreakBy terms.from book broken last
   pub repaired : IsRepaired last terms report text
 
--- The book has no fault, and the text is the repair of a book on the terms of the line. How that book comes of this one,
--- by pairings that break off, isn't said.
+-- The book has no fault, and the text is its repair on the terms of the line, once each pairing has broken off that the
+-- line names.
 pub record IsMended (line : RepairLine) (book report text : List ℕ) : Type 0 where
   pub faultless : IsFaultless book
   pub terms : Terms
   pub are : AreTerms line terms
-  pub mends : Mends terms report text
+  pub mends : Mends line.broken.items terms (problem_of (records_of book)) report text

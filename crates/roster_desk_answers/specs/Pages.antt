@@ -3,10 +3,11 @@ use Rattle.std.specs.Prelude.{◌≡◌, ⊤, ℕ, List, None}
 use Rattle.roster_model.specs.Answer.{IsRefusal, records_of}
 use Rattle.roster_model.specs.Faults.{first_fault}
 use Rattle.roster_model.specs.Problem.{problem_of}
-use Rattle.roster_model.specs.Record.{Check}
+use Rattle.roster_model.specs.Record.{Check, Record}
 use Rattle.roster_desk_arguments.specs.declared.line.Page.{Page}
 use Rattle.roster_desk_arguments.specs.declared.line.Page.TheVariants as pages
 use Rattle.roster_desk_fair.specs.Fair.{IsFair}
+use Rattle.roster_desk_fault.specs.Told.{IsFaultText, IsFaultyBook, IsWarnText}
 use Rattle.roster_desk_answers.specs.declared.untold.Untold.{Untold}
 use Rattle.roster_desk_answers.specs.declared.untold.Untold.TheVariants as untolds
 
@@ -20,10 +21,15 @@ pub record IsFairBook (book text : List ℕ) : Type 0 where
   pub good : IsFaultless text
   pub fair : IsFair (problem_of (records_of book)) (problem_of (records_of text))
 
--- The text is what is to be told of the book. No words are promised of faults and warnings.
+-- the text tells what is likely a mistake in the book, which has no fault
+pub record AreWarnings (book text : List ℕ) : Type 0 where
+  pub faultless : IsFaultless book
+  pub warns : IsWarnText text
+
+-- the text is what is to be told of the book
 abbrev pub IsPage : Page → List ℕ → List ℕ → Type 0
-IsPage pages.Fault book text = ⊤
-IsPage pages.Warn book text = IsFaultless book
+IsPage pages.Fault book text = IsFaultText (records_of book) text
+IsPage pages.Warn book text = AreWarnings book text
 IsPage pages.Fair book text = IsFairBook book text
 
 -- the line is that of the first fault of the book, unless all faults are to be told
@@ -36,12 +42,17 @@ IsPageRefused pages.Fair book line = IsRefusal Check (records_of book) line
 abbrev pub IsForgotten : Untold → Type 0
 IsForgotten untold = untold ≡ untolds.Memory
 
--- no book was made
+-- the text begins with the line of the first fault of some records
+pub record IsFaultOfSome (text : List ℕ) : Type 0 where
+  pub records : List Record
+  pub faulty : IsFaultyBook records text
+
+-- no book was made: it would have a fault, which is told, or not ask for what is meant, or memory ran out
 abbrev pub IsUnmade : Untold → Type 0
 IsUnmade (untolds.Unknown unknown) = ⊥
 IsUnmade (untolds.Report path fault) = ⊥
 IsUnmade (untolds.Words sentence) = ⊥
-IsUnmade (untolds.Faulty text) = ⊤
+IsUnmade (untolds.Faulty text) = IsFaultOfSome text.items
 IsUnmade untolds.Unlike = ⊤
 IsUnmade (untolds.Names text) = ⊥
 IsUnmade untolds.Memory = ⊤

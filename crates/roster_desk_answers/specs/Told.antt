@@ -1,5 +1,5 @@
 -- What is told of a roster of a book.
-use Rattle.std.specs.Prelude.{◌≡◌, ◌≤◌, ◌<◌, ◌⊎◌, ◌++◌, ⊤, ℕ, Bool, true, false, List, [], Option, Some, None, All, Err, if◌then◌else◌, is_ok, is_some, length, option_map, slice_get}
+use Rattle.std.specs.Prelude.{◌≡◌, ◌≤◌, ◌<◌, ◌⊎◌, ◌++◌, ⊤, ℕ, Bool, true, false, List, [], Option, Some, None, All, Err, Ok, if◌then◌else◌, is_ok, is_some, length, option_map, slice_get}
 use Rattle.std.specs.Borrow.{Bor}
 use Rattle.std.specs.List.{flat_map}
 use Rattle.roster_model.specs.Answer.{records_of}
@@ -18,9 +18,11 @@ use Rattle.roster_desk_reports.specs.Faults.{Told, fault_of_report}
 use Rattle.roster_desk_reports.specs.Given.{HasAll, IsGiven}
 use Rattle.roster_desk_reports.specs.Known.{fault_of_known, known_by_text, unknown_of}
 use Rattle.roster_desk_reports.specs.Text.{Given, given_by_text}
+use Rattle.roster_desk_tables.specs.Changed.{IsChange}
 use Rattle.roster_desk_tables.specs.Differences.{IsDifference}
 use Rattle.roster_desk_tables.specs.Rows.{IsPersonsTable}
 use Rattle.roster_desk_tables.specs.declared.writing.Sheet.{Sheet}
+use Rattle.roster_desk_words.specs.Limits.{IsLimitsText}
 use Rattle.roster_desk_answers.specs.Refusing.{RefusesReport}
 use Rattle.roster_desk_answers.specs.declared.telling.FileRead.{FileRead}
 use Rattle.roster_desk_answers.specs.declared.telling.Inputs.{Inputs}
@@ -93,20 +95,28 @@ pub record DiffersBy (problem : Problem) (before other text : List ℕ) : Type 0
   pub roster : IsRosterOf true problem other after
   pub difference : IsDifference problem before after text
 
--- the other report gives a roster
-pub record HasOther (problem : Problem) (other : List ℕ) : Type 0 where
+-- The text tells how near to each limit the person of the name is, or each person if there is no name. The book has the
+-- name.
+pub record TellsLimits (problem : Problem) (places : List ℕ) (name : Option (Bor (List ℕ))) (text : List ℕ) : Type 0 where
+  pub named : Option ℕ
+  pub is : person_asked problem (option_map (λ s. s.now) name) ≡ Ok named
+  pub limits : IsLimitsText problem places named text
+
+-- whose month differs between them, and on which days
+pub record ChangesBy (problem : Problem) (before other text : List ℕ) : Type 0 where
   pub after : List ℕ
   pub roster : IsRosterOf true problem other after
+  pub change : IsChange problem before after text
 
 -- The text tells what the question asks of the roster. Few words are promised of some texts.
 abbrev pub Tells : Problem → List ℕ → Inputs → Question → List ℕ → Type 0
 Tells problem places inputs (questions.Why pairing person all) text = HasPairing problem pairing × HasPerson problem person
-Tells problem places inputs (questions.Limits person) text = HasPerson problem person
+Tells problem places inputs (questions.Limits person) text = TellsLimits problem places person text
 Tells problem places inputs (questions.Table line) text =
     line.persons ≡ true → IsPersonsPage problem places line (is_some inputs.names) text
 Tells problem places inputs (questions.Chart names) text = ⊤
 Tells problem places inputs (questions.Differences other) text = DiffersBy problem places inputs.other.items text
-Tells problem places inputs (questions.Changed other) text = HasOther problem inputs.other.items
+Tells problem places inputs (questions.Changed other) text = ChangesBy problem places inputs.other.items text
 
 -- so it is of the roster among the inputs, or the book's own
 pub record IsTold (question : Question) (inputs : Inputs) (problem : Problem) (assigned text : List ℕ) : Type 0 where

@@ -1,7 +1,8 @@
 //! The book in which pairings break off, as a command line says.
 
 ghost use Rattle.std.specs.Prelude.{◌<◌, ◌≡◌, IfOk, length, option_map};
-ghost use Rattle.roster_desk_answers.specs.Mended.{parts_at};
+ghost use Rattle.roster_desk_made.specs.Made.{TellsFault};
+ghost use Rattle.roster_desk_answers.specs.Broken.{parts_at, BreakBy, IsBreak, IsRest};
 ghost use Rattle.roster_desk_answers.specs.Pages.{IsUnmade};
 
 use crate::unmade::unmade;
@@ -36,6 +37,7 @@ fn remedy(code: u8) -> &'static str {
 
 /// Why the rest has no book. An option is named that may help.
 pub(crate) fn unrepaired<'a>(alloc: Global, why: Unmade) -> Untold<'a>
+    requires { TellsFault why }
     ensures { IsUnmade result }
 {
     let said = match &why {
@@ -46,7 +48,10 @@ pub(crate) fn unrepaired<'a>(alloc: Global, why: Unmade) -> Untold<'a>
 }
 
 /// Why there is no book in which a pairing breaks off as the words of the option say. The option is named.
-fn unbroken<'a>(alloc: Global, why: Unmade, words: &str) -> Untold<'a> {
+fn unbroken<'a>(alloc: Global, why: Unmade, words: &str) -> Untold<'a>
+    requires { TellsFault why }
+    ensures { IsUnmade result }
+{
     match format!(in alloc; "this book comes of --broken {words}\n") {
         Ok(said) => unmade(alloc, why, said.as_str()),
         Err(_) => Untold::Memory,
@@ -60,9 +65,18 @@ pub(crate) fn at_colon(text: &str) -> Option<(&str, &str)>
     text.split_once(':')
 }
 
+/// The texts before the first slash and behind it, if there is one.
+fn at_slash(text: &str) -> Option<(&str, &str)>
+    ensures { option_map (λ parts. (parts.0.now, parts.1.now)) result ≡ parts_at 47 text.now }
+{
+    text.split_once('/')
+}
+
 /// What the words say becomes of the rest: the name of a person, or two instants.
-fn rest_in<'a>(book: &Problem, words: &str) -> Result<Rest, Untold<'a>> {
-    let Some((report, release)) = words.split_once('/') else {
+fn rest_in<'a>(book: &Problem, words: &str) -> Result<Rest, Untold<'a>>
+    ensures { IfOk result (IsRest book.now words.now) }
+{
+    let Some((report, release)) = at_slash(words) else {
         return match person_named(book, words.as_bytes()) {
             Some(person) => Ok(Rest::Stays { person }),
             None => Err(Untold::Unknown(Unknown::Person)),
@@ -79,7 +93,8 @@ fn rest_in<'a>(book: &Problem, words: &str) -> Result<Rest, Untold<'a>> {
 
 /// The pairing that breaks off at the instant, and its rest, by the words.
 fn break_in<'a>(book: &Problem, at: Minute, words: &str) -> Result<Break, Untold<'a>>
-    ensures { IfOk result (λ off. off.pairing < length book.now.pairings) }
+    ensures is { IfOk result (IsBreak book.now at words.now) }
+    ensures within { IfOk result (λ off. off.pairing < length book.now.pairings) }
 {
     let Some((name, rest)) = at_colon(words) else {
         return Err(Untold::Words(NO_REST));
@@ -96,14 +111,16 @@ fn break_in<'a>(book: &Problem, at: Minute, words: &str) -> Result<Break, Untold
 }
 
 /// The text and the tables of the book, whose bytes are the text, once each pairing that the line names
-/// breaks off at the instant.
+/// breaks off at the instant, one after another.
 pub(crate) fn broken_off<'a>(
     alloc: Global,
     line: &RepairLine<'a>,
     at: Minute,
     text: &[u8],
     mut book: Problem,
-) -> Result<(Vec<u8>, Problem), Untold<'a>> {
+) -> Result<(Vec<u8>, Problem), Untold<'a>>
+    ensures { IfOk result (λ broken. BreakBy at book line.now.broken.items broken.1) }
+{
     let mut text = Vec::from_slice(alloc, text)?;
     for words in &line.broken {
         let off = break_in(&book, at, *words)?;

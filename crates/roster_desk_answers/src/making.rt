@@ -1,7 +1,7 @@
 //! The book of the tables of a folder, and what standard error is told of it.
 
 ghost use Rattle.std.specs.Prelude.{◌≡◌, [], IfErr, IfOk, IfSome, None, OnErr, OnOk, Some, true};
-ghost use Rattle.roster_desk_answers.specs.Made.{HasRoster, IsBook, IsMade, IsUnmade, StartsWith};
+ghost use Rattle.roster_desk_answers.specs.Made.{HasRoster, IsBook, IsMade, IsBookUnmade, StartsWith};
 ghost use Rattle.roster_desk_answers.specs.Pages.{IsFaultless};
 ghost use Rattle.roster_desk_answers.specs.Told.{IsRosterOf};
 
@@ -47,7 +47,7 @@ fn start_of<'a>(
     notes: &mut Vec<u8>,
 ) -> Result<Places, Untold<'a>>
     ensures roster { IfOk result (IsRosterOf true problem.now report.now) }
-    ensures refused { IfErr result (IsUnmade (Some path.entry)) }
+    ensures refused { IfErr result (IsBookUnmade (Some path.entry)) }
 {
     match read_known_roster(alloc, problem, report) {
         Ok(places) => {
@@ -68,7 +68,7 @@ fn push_assigns<'a>(
     notes: &mut Vec<u8>,
 ) -> Result<(), Untold<'a>>
     ensures start { OnOk result (HasRoster book.now report.now) }
-    ensures unmade { IfErr result (IsUnmade (Some path.entry)) }
+    ensures unmade { IfErr result (IsBookUnmade (Some path.entry)) }
 {
     let problem = match read(alloc, book) {
         Ok(book) => book.problem,
@@ -89,7 +89,7 @@ fn added<'a>(
     notes: &mut Vec<u8>,
 ) -> Result<Vec<u8>, Untold<'a>>
     ensures start { OnOk result (StartsWith line.now.start book.now report.now) }
-    ensures unmade { IfErr result (IsUnmade line.now.start) }
+    ensures unmade { IfErr result (IsBookUnmade line.now.start) }
 {
     let mut records = Records::new(alloc);
     if let Some(weight) = line.weight {
@@ -106,7 +106,7 @@ fn added<'a>(
 fn faultless<'a>(alloc: Global, text: Vec<u8>) -> Result<Vec<u8>, Untold<'a>>
     ensures good { IfOk result (λ text. IsFaultless text.items) }
     ensures same { IfOk result (λ same. same ≡ text) }
-    ensures unlike { IfErr result (IsUnmade None) }
+    ensures unlike { IfErr result (IsBookUnmade None) }
 {
     match judge(alloc, text.as_slice(), 1)? {
         Judged::Good => Ok(text),
@@ -124,7 +124,7 @@ fn made<'a>(
     notes: &mut Vec<u8>,
 ) -> Result<Option<Vec<u8>>, Untold<'a>>
     ensures book { IfOk result (λ book. IfSome book (λ text. IsBook line.now report.now text.items)) }
-    ensures unmade { IfErr result (IsUnmade line.now.start) }
+    ensures unmade { IfErr result (IsBookUnmade line.now.start) }
 {
     let Some(asked) = Asked::new(line.month, line.bases.as_slice(), line.rank) else {
         return Err(Untold::Words(NO_MONTH));
@@ -158,7 +158,7 @@ pub fn write_book<'a, W: Write>(
     ensures made { IfOk result (λ noted. IsMade W.contents line.now report.now
         writer.old writer.new noted.status) }
     // The line or the report is refused, or the book wouldn't ask for what is meant: nothing was written.
-    ensures unmade { IfErr result (IsUnmade line.now.start) }
+    ensures unmade { IfErr result (IsBookUnmade line.now.start) }
     ensures unwritten { OnErr result (writer.new ≡ writer.old) }
 {
     let mut notes = Vec::new(alloc);

@@ -199,7 +199,7 @@ fn rest_of<'a>(
     book: Problem,
     report: &[u8],
 ) -> Result<(Vec<u8>, Vec<u8>), Untold<'a>>
-    ensures { IfOk result (λ told. Mends terms.now report.now told.0.items) }
+    ensures { IfOk result (λ told. Mends line.now.broken.items terms.now book report.now told.0.items) }
 {
     let (text, book) = broken_off(alloc, line, terms.from, text, book)?;
     let made = repaired(alloc, line, terms, &text, &book, report)?;

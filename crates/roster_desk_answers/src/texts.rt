@@ -3,9 +3,9 @@
 ghost use Rattle.std.specs.Prelude.{◌≡◌, [], IfErr, IfOk, is_some, length, None, Some, true};
 ghost use Rattle.roster_desk_reports.specs.Known.{fault_of_known};
 ghost use Rattle.roster_desk_answers.specs.Refusing.{MayTell, RefusesReport};
-ghost use Rattle.roster_desk_answers.specs.Told.{DiffersBy, HasOther, HasPairing, HasPerson};
+ghost use Rattle.roster_desk_answers.specs.Told.{ChangesBy, DiffersBy, HasPairing, HasPerson};
 ghost use Rattle.roster_desk_answers.specs.Told.{IsPersonsPage, IsRosterOf};
-ghost use Rattle.roster_desk_answers.specs.Told.{IsTold, IsUntold, MisreadsNames, MissesName, Tells};
+ghost use Rattle.roster_desk_answers.specs.Told.{IsTold, IsUntold, MisreadsNames, MissesName, Tells, TellsLimits};
 ghost use Rattle.roster_desk_answers.specs.Told.{Withholds, fault_in};
 
 use crate::telling::{Inputs, is_difference};
@@ -159,7 +159,8 @@ fn limits_of<'a>(
     person: Option<&str>,
 ) -> Result<Vec<u8>, Untold<'a>>
     requires { length places.now ≡ length problem.now.pairings }
-    ensures person { IfOk result (λ _. HasPerson problem.now person.entry) }
+    ensures limits { IfOk result (λ text.
+        TellsLimits problem.now places.now person.entry text.items) }
     ensures untold { IfErr result (MissesName problem.now None person.entry) }
 {
     let found = find(problem, None, person)?;
@@ -260,11 +261,11 @@ fn changed<'a>(
     other: &'a str,
 ) -> Result<Vec<u8>, Untold<'a>>
     requires { length places.now ≡ length problem.now.pairings }
-    ensures other { IfOk result (λ _. HasOther problem.now inputs.now.other.items) }
+    ensures change { IfOk result (λ text.
+        ChangesBy problem.now places.now inputs.now.other.items text.items) }
     ensures refused { IfErr result (RefusesReport other.now
         (λ told. fault_of_known problem.now inputs.now.other.items ≡ Some told)) }
 {
     let after = given(alloc, true, problem, other, &inputs.other)?;
-    let zones = read_zones(alloc, inputs.book.as_slice())?;
-    Ok(changed_text(alloc, problem, places, after.as_slice(), &zones)?)
+    Ok(changed_text(alloc, problem, places, after.as_slice())?)
 }

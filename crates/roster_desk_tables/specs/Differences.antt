@@ -1,11 +1,12 @@
 -- What differs between two rosters, line by line.
-use Rattle.std.specs.Prelude.{◌≡◌, ◌==◌, ◌++◌, ◌∷◌, ℕ, ℤ, Bool, List, [], codes, if◌then◌else◌, length, not, option_map, slice_get, slice_index, suc, unsigned_abs, unwrap_or, zero}
+use Rattle.std.specs.Prelude.{◌≡◌, ◌==◌, ◌++◌, ◌∷◌, ℕ, ℤ, Bool, List, [], codes, if◌then◌else◌, length, not, option_map, slice_get, slice_index, unsigned_abs, unwrap_or}
 use Rattle.std.specs.Fmt.{decimal, signed_decimal}
 use Rattle.std.specs.Ordering.{int_eq}
 use Rattle.std.specs.List.{count_by, flat_map, list_any, range_with_len}
 use Rattle.roster_model.specs.Costs.{cost_of}
 use Rattle.roster_model.specs.Problem.{Problem}
 use Rattle.roster_desk_words.specs.Words.{name_at, time_text}
+use Rattle.roster_desk_tables.specs.Having.{Have}
 use Rattle.roster_desk_tables.specs.Sums.{AreSums}
 use Rattle.roster_desk_tables.specs.declared.sums.Sums.{Sums}
 
@@ -84,10 +85,8 @@ pub record HasPerson (problem : Problem) (before after : List ℕ) (k : ℕ) (ol
   pub text : new ≡ with_sums old (holder_name problem k) first second
 
 -- and those of the first n persons
-unfoldable pub HavePersons : Problem → List ℕ → List ℕ → ℕ → List ℕ → List ℕ → Type 0
-HavePersons problem before after zero old new = new ≡ old
-HavePersons problem before after (suc k) old new =
-    (mid : List ℕ) × HavePersons problem before after k old mid × HasPerson problem before after k mid new
+abbrev pub HavePersons : Problem → List ℕ → List ℕ → ℕ → List ℕ → List ℕ → Type 0
+HavePersons problem before after n old new = Have (HasPerson problem before after) n old new
 
 -- what both rosters cost
 abbrev pub costs_line : Problem → List ℕ → List ℕ → List ℕ

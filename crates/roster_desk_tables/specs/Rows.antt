@@ -1,5 +1,5 @@
 -- The row of a person.
-use Rattle.std.specs.Prelude.{◌≡◌, ◌==◌, ◌++◌, ◌∷◌, ℕ, List, [], Some, codes, length, option_map, slice_get, suc, zero}
+use Rattle.std.specs.Prelude.{◌≡◌, ◌==◌, ◌++◌, ◌∷◌, ℕ, List, [], Some, codes, length, option_map, slice_get}
 use Rattle.csv.specs.Writing.{row_text}
 use Rattle.std.specs.Fmt.{decimal, signed_decimal}
 use Rattle.std.specs.List.{count_by}
@@ -12,6 +12,7 @@ use Rattle.roster_problem.specs.Duties.{positions_where}
 use Rattle.roster_desk_sheets.specs.Written.{HasRow, mark_of, parted, setup_of, text_of}
 use Rattle.roster_desk_tables.specs.Cells.{cells_with, columns_with}
 use Rattle.roster_desk_tables.specs.Days.{AreMonthDays}
+use Rattle.roster_desk_tables.specs.Having.{Have}
 use Rattle.roster_desk_tables.specs.Sums.{AreSums}
 use Rattle.roster_desk_tables.specs.declared.month.MonthDays.{MonthDays}
 use Rattle.roster_desk_tables.specs.declared.sums.Sums.{Sums}
@@ -62,10 +63,8 @@ person_columns =
     ∷ codes "DUTY14" ∷ codes "DUTY28" ∷ codes "FLIGHT28" ∷ codes "TARGET" ∷ codes "COST" ∷ []
 
 -- the new rows are the old ones and those of the first n persons
-unfoldable pub HavePersonRows : Problem → List ℕ → ℕ → TableRows → TableRows → Type 0
-HavePersonRows problem places zero old new = new ≡ old
-HavePersonRows problem places (suc k) old new =
-    (mid : TableRows) × HavePersonRows problem places k old mid × HasPersonRow problem places k mid new
+abbrev pub HavePersonRows : Problem → List ℕ → ℕ → TableRows → TableRows → Type 0
+HavePersonRows problem places n old new = Have (HasPersonRow problem places) n old new
 
 -- The text has the names of the columns, and below them the rows of all persons.
 pub record IsPersonsTable (problem : Problem) (places : List ℕ) (sheet : Sheet) (text : List ℕ) : Type 0 where

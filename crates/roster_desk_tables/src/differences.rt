@@ -75,7 +75,7 @@ fn push_moves(
 }
 
 /// Whether person `k` has the pairing at place `p` by one of the rosters only.
-fn is_moved_at(before: &[u16], after: &[u16], k: usize, p: usize) -> bool
+pub(crate) fn is_moved_at(before: &[u16], after: &[u16], k: usize, p: usize) -> bool
     requires before { p < length before.now }
     requires after { p < length after.now }
     ensures { result ≡ spec.is_moved_at before.now after.now k p }

@@ -1,7 +1,7 @@
 //! A roster as a table for a spreadsheet, and what differs between two rosters.
 //!
 //! The sums are those of `roster_cumulative` and `roster_cost`, which are proved, and so are the rows of
-//! persons and the lines of what differs; the other rows, free weekends, and whose month differs, are only
+//! persons, the lines of what differs, and whose month differs; the other rows and free weekends are only
 //! tested. In reading order:
 //!
 //! - `sums`: what a person's pairings cost, and the minutes of a report

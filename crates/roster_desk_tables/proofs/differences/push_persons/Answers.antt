@@ -5,11 +5,11 @@ use Rattle.roster_desk_tables.proofs.differences.push_persons.Goals as goal
 
 -- src/differences.rt:274:5
 pub loop-k-init : goal.loop-k-init
-loop-k-init c = have_none _ _ _ _
+loop-k-init c = have_none _ _
 
 -- src/differences.rt:274:5
 pub loop-k-preserved : goal.loop-k-preserved
-loop-k-preserved c = have_more _ _ _ _ _ _ _ c.loop-k.invariant c.in_ok-push_person.ensures
+loop-k-preserved c = have_more _ _ _ _ _ c.loop-k.invariant c.in_ok-push_person.ensures
 
 -- src/differences.rt:262:1
 pub returns : goal.returns

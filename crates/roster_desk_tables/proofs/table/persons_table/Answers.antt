@@ -1,15 +1,15 @@
 use Rattle.std.proofs.Common.{◌≡◌, ap, arith, length, subst}
 use Rattle.roster_desk_tables.specs.Rows.{HavePersonRows}
-use Rattle.roster_desk_tables.proofs.Having.{have_no_row, have_row_more}
+use Rattle.roster_desk_tables.proofs.Having.{have_more, have_none}
 use Rattle.roster_desk_tables.proofs.table.persons_table.Goals as goal
 
 pub loop-k-init : goal.loop-k-init
-loop-k-init c = record { whole = c.in_ok-table.ensures.whole; rows = have_no_row _ _ _ }
+loop-k-init c = record { whole = c.in_ok-table.ensures.whole; rows = have_none _ _ }
 
 pub loop-k-preserved : goal.loop-k-preserved
 loop-k-preserved c =
     let here = c.in_ok-push_person.ensures c.loop-k.invariant.whole in
-    record { whole = here.row.whole; rows = have_row_more _ _ _ _ _ _ c.loop-k.invariant.rows here }
+    record { whole = here.row.whole; rows = have_more _ _ _ _ _ c.loop-k.invariant.rows here }
 
 pub returns : goal.returns
 returns c =
