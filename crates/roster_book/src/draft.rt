@@ -41,7 +41,7 @@ pub(crate) struct Draft {
     pub(crate) steps: Steps,
 }
 
-// Whether it is a duty of the pairing at the place.
+/// Whether it is a duty of the pairing at the place.
 fn is_of_pairing(duty: &Duty, place: usize) -> bool
     ensures { result ≡ is_held_by_pairing place duty.now.holder }
 {
@@ -94,7 +94,7 @@ impl Draft {
         Ok(self.with_roster(alloc, assigned)?)
     }
 
-    // The book with this roster. Its records have no fault.
+    /// The book with this roster. Its records have no fault.
     fn with_roster(self, alloc: Global, assigned: Places) -> Result<Book, AllocError>
         requires sound { IsSound (problem_of_draft self) }
         requires faultless { IsFaultless (problem_of_draft self) }
@@ -144,7 +144,7 @@ impl Draft {
         last
     }
 
-    // Whether the pairing at the place has a duty.
+    /// Whether the pairing at the place has a duty.
     fn has_duty_of(&self, place: usize) -> bool
         ensures { result
             ≡ list_any (λ duty. is_held_by_pairing place duty.holder) self.now.duties }
@@ -155,7 +155,7 @@ impl Draft {
             .any(|duty| is_of_pairing(duty, place))
     }
 
-    // The row of the first pairing without a duty.
+    /// The row of the first pairing without a duty.
     fn row_without_duty(&self) -> Option<usize>
         ensures { result ≡ option_map (λ (entry : ℕ × pairings.Pairing). entry.1.row)
             (pairing_without_duty (tables_of_draft self.now)) }

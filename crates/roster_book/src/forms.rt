@@ -28,7 +28,7 @@ fn has_digits(text: &[u8]) -> bool
     text.iter().all(|c| c.is_ascii_digit())
 }
 
-// What follows a minus, or the whole text.
+/// What follows a minus, or the whole text.
 fn unsigned_part(text: &[u8]) -> &[u8]
     ensures { result.now ≡ form.unsigned_part text.now }
 {
@@ -48,7 +48,7 @@ pub(crate) fn is_number(text: &[u8]) -> bool
     (1..=MOST_DIGITS).contains(&digits.len()) && has_digits(digits)
 }
 
-// The bytes as text, which ASCII is.
+/// The bytes as text, which ASCII is.
 fn ascii(bytes: &[u8]) -> &str
     requires { IsAscii bytes.now }
     ensures { result.now ≡ bytes.now }
@@ -56,7 +56,7 @@ fn ascii(bytes: &[u8]) -> &str
     str::from_utf8(bytes).unwrap()
 }
 
-// The number that the text spells, if it is of the form.
+/// The number that the text spells, if it is of the form.
 fn number(text: &[u8]) -> Option<i64>
     ensures { result ≡ (if form.is_number text.now then Some (form.number_of text.now) else None) }
 {

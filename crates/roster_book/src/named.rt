@@ -51,8 +51,8 @@ impl Named for Duty {
     }
 }
 
-// Whether the text is the name. The names of a table mostly begin alike, so the last bytes are
-// compared before the others.
+/// Whether the text is the name. The names of a table mostly begin alike, so the last bytes are
+/// compared before the others.
 #[tactic(auto, using(crate::proofs::Names::last_tells))]
 fn is_name(name: &Name, text: &[u8]) -> bool
     ensures { result ≡ bytes_eq name.now text.now }

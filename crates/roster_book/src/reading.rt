@@ -41,7 +41,7 @@ pub fn read_book<R: Read>(
     outcome
 }
 
-// Lends the reader to csv. `Memory` stands for a failed reader too: its flag tells.
+/// Lends the reader to csv. `Memory` stands for a failed reader too: its flag tells.
 fn read_records<R: Read>(alloc: Global, reader: &mut R, command: Command) -> Result<Book, BookFault>
     ensures told { MatchResult result
         (λ book. OfTold (λ records. IsBookOf (command_of command) records book)
@@ -57,7 +57,7 @@ fn read_records<R: Read>(alloc: Global, reader: &mut R, command: Command) -> Res
     read_all(alloc, &mut reader, command)
 }
 
-// The book of all records, or their first fault.
+/// The book of all records, or their first fault.
 fn read_all<R: Read>(
     alloc: Global,
     reader: &mut Reader<R>,
@@ -92,7 +92,7 @@ fn read_all<R: Read>(
     unreachable!()
 }
 
-// The next record into `fields`, and whether there was one. Only the reader or memory can fail.
+/// The next record into `fields`, and whether there was one. Only the reader or memory can fail.
 fn next_record<R: Read>(reader: &mut Reader<R>, fields: &mut ByteRecord) -> Result<bool, AllocError>
     requires { IsOpen reader.old }
     ensures record { IfOk result (λ found. found ≡ true → IsOpen reader.new

@@ -63,7 +63,7 @@ impl Kind {
         Kind::Step,
     ];
 
-    // The word with which its records begin.
+    /// The word with which its records begin.
     fn word(self) -> &'static str
         ensures { result.now ≡ word_of (kind_of self) }
     {
@@ -82,7 +82,7 @@ impl Kind {
         }
     }
 
-    // Whether a book for the command may have its records.
+    /// Whether a book for the command may have its records.
     fn is_for(self, command: Command) -> bool
         ensures { result ≡ is_for (kind_of self) (command_of command) }
     {
@@ -94,7 +94,7 @@ impl Kind {
     }
 }
 
-// Whether the record is of the kind.
+/// Whether the record is of the kind.
 fn is_of(kind: Kind, fields: &ByteRecord) -> bool
     ensures { result ≡ is_of (kind_of kind) (fields_of fields.now) }
 {

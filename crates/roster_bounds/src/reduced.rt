@@ -50,6 +50,7 @@ fn reduced_by(
     ensures bound { AreReduced 1 result }
 {
     saved_at_most(problem);
+    // There are no more pairings than a book may have, and as many prices.
     let _ = problem.pairings();
     let _ = prices.len();
     difference(table.cost(k, i), sum)
@@ -68,6 +69,7 @@ pub(crate) fn least_reduced(
     ensures least { IfOk result (IsLeastReduced problem.now prices.now k) }
     ensures bound { IfOk result (AreReduced 1) }
 {
+    // There are no more pairings than a book may have, and as many prices.
     let _ = problem.pairings();
     let _ = prices.len();
     let sums = price_sums(alloc, problem, table, prices, k)?;
@@ -84,6 +86,7 @@ pub(crate) fn least_of_any(problem: &Problem, prices: &Prices) -> i128
     ensures bound { AreReduced 1 result }
 {
     saved_at_most(problem);
+    // There are no more pairings than a book may have, and as many prices.
     let _ = problem.pairings();
     let _ = prices.len();
     LEAST_REDUCED
@@ -128,6 +131,7 @@ fn saved_at_most(problem: &Problem)
         → neg_ℤ (pos most_units) ≤ℤ line_cost problem.now k set }
 {
     units_of_set();
+    // There are no more pairings than a book may have.
     let _ = problem.pairings();
 }
 
@@ -177,6 +181,7 @@ fn price_sum(
     if i == 0 {
         return prices.sum(&table.set(k, i));
     }
+    // There are no more pairings than a book may have, and as many prices.
     let _ = problem.pairings();
     let _ = prices.len();
     let (parent, last) = table.lines(k).parent_and_last(i);

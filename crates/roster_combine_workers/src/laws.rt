@@ -21,5 +21,6 @@ pub fn least_handed_in_is_best(closed: &Closed)
         → All (AreSettled problem table) lists → IsHeld problem known
         → IsLeastOfAll lists (length lists) known best → IsBestKey problem best }
 {
+    // Each list lies in a finished span.
     let _ = closed.finished();
 }

@@ -120,7 +120,7 @@ impl Mistakes {
         self.text_in(alloc, folder, Some((table, path)))
     }
 
-    // The lines, with the path of the table that isn't in the folder, if there is one.
+    /// The lines, with the path of the table that isn't in the folder, if there is one.
     fn text_in(
         &self,
         alloc: Global,

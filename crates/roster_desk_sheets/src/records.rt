@@ -50,7 +50,7 @@ impl Records {
         Ok(Records::behind(text, separator))
     }
 
-    // No record behind the text.
+    /// No record behind the text.
     fn behind(text: Vec<u8>, separator: u8) -> Records
         ensures whole { IsWhole result }
         ensures setup { setup_of result ≡ with_delimiter (with_flexible default_writer true) separator }

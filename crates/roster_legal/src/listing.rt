@@ -46,8 +46,8 @@ pub(crate) fn merge_in<'a>(
     Ok(DutyList::new(duties, positions))
 }
 
-// The positions of the fixed duties of person k, and of those of the pairings in the set, one pairing
-// after another.
+/// The positions of the fixed duties of person k, and of those of the pairings in the set, one pairing
+/// after another.
 fn positions_in(
     memory: Vec<u16>,
     problem: &Problem,

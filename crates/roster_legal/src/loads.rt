@@ -117,7 +117,7 @@ impl<'a> Loads<'a> {
     }
 }
 
-// What each pairing of the set takes.
+/// What each pairing of the set takes.
 fn all_loads(
     alloc: Global,
     problem: &Problem,
@@ -136,7 +136,7 @@ fn all_loads(
     Ok(loads)
 }
 
-// What the pairing takes, if it is wanted.
+/// What the pairing takes, if it is wanted.
 fn load_if(
     alloc: Global,
     problem: &Problem,
@@ -158,7 +158,7 @@ fn load_if(
     Ok(load)
 }
 
-// What the pairing takes.
+/// What the pairing takes.
 fn load_of(alloc: Global, problem: &Problem, k: usize, p: usize) -> Result<Load, AllocError>
     requires person { k < length problem.now.persons }
     requires place { p < length problem.now.pairings }

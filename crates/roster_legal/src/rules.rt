@@ -95,6 +95,7 @@ impl<'a> JudgedSet<'a> {
         ensures no { result ≡ false → ¬ IsLegalNext self.now p }
     {
         let loads = self.loads;
+        // The loads are those of the problem that the contract speaks of.
         let _ = loads.problem();
         if !self.has_days_off_with(p, busy) {
             return false;

@@ -131,7 +131,7 @@ impl<'a> JudgedSet<'a> {
     }
 }
 
-// The positions of the fixed duties.
+/// The positions of the fixed duties.
 fn fixed_positions(alloc: Global, loads: &Loads<'_>) -> Result<Vec<u16>, AllocError>
     ensures { IfOk result
         (λ positions. AreDutiesOf loads.now.problem loads.now.person [] positions.items) }
@@ -141,7 +141,7 @@ fn fixed_positions(alloc: Global, loads: &Loads<'_>) -> Result<Vec<u16>, AllocEr
     Ok(positions)
 }
 
-// What the fixed duties of person k, which are the list, leave of the judged sums.
+/// What the fixed duties of person k, which are the list, leave of the judged sums.
 fn fixed_rooms(
     alloc: Global,
     problem: &Problem,
@@ -157,7 +157,7 @@ fn fixed_rooms(
     Ok(rooms)
 }
 
-// The positions of both, in order.
+/// The positions of both, in order.
 fn joined(memory: Vec<u16>, old: &[u16], more: &[u16]) -> Result<Vec<u16>, AllocError>
     requires empty { memory.items ≡ [] }
     requires old { IsStrictlyIncreasing old.now }
@@ -174,7 +174,7 @@ fn joined(memory: Vec<u16>, old: &[u16], more: &[u16]) -> Result<Vec<u16>, Alloc
     Ok(positions)
 }
 
-// What the loads leave of the rooms.
+/// What the loads leave of the rooms.
 fn left(memory: Vec<u16>, rooms: &[u16], loads: &[u16]) -> Result<Vec<u16>, AllocError>
     requires empty { memory.items ≡ [] }
     requires same { length loads.now ≡ length rooms.now }

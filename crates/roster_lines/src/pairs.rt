@@ -47,7 +47,7 @@ pub(crate) fn pairs_of(
     })
 }
 
-// The flight of each pairing.
+/// The flight of each pairing.
 fn flights_of(alloc: Global, problem: &Problem, k: usize) -> Result<Vec<u64>, AllocError>
     requires { k < length problem.now.persons }
     ensures { IfOk result (λ flights. AreFlights problem.now k flights.items) }
@@ -59,7 +59,7 @@ fn flights_of(alloc: Global, problem: &Problem, k: usize) -> Result<Vec<u64>, Al
     Ok(flights)
 }
 
-// The pairings that are legal alone.
+/// The pairings that are legal alone.
 fn alone_of(judge: &mut Judge<'_>, problem: &Problem, k: usize) -> Result<Set, AllocError>
     requires judge { judge.old ≡ problem.now }
     requires person { k < length problem.now.persons }
@@ -76,7 +76,7 @@ fn alone_of(judge: &mut Judge<'_>, problem: &Problem, k: usize) -> Result<Set, A
     Ok(alone)
 }
 
-// The pairings after the one at place `p` that are legal with it.
+/// The pairings after the one at place `p` that are legal with it.
 fn row_of(
     judge: &mut Judge<'_>,
     problem: &Problem,

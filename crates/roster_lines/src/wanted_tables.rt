@@ -43,7 +43,7 @@ pub fn wanted_table<W: Wanted>(
     Ok(table)
 }
 
-// The fault of the table, where the lines of person k have one.
+/// The fault of the table, where the lines of person k have one.
 fn fault_at(k: usize, fault: LinesFault) -> TableFault
     ensures { (problem : Book) (most : ℕ) → k < length problem.persons
         → IsFaultWithin problem k most fault → IsTableFaultWithin problem most result }

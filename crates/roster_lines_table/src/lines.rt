@@ -140,7 +140,7 @@ impl Lines {
         (self.start_of(p), self.start_of(p + 1))
     }
 
-    // How many lines stand before those whose least pairing is `p` or later.
+    /// How many lines stand before those whose least pairing is `p` or later.
     fn start_of(&self, p: usize) -> usize
         requires { p ≤ MOST_PAIRINGS }
         ensures { IsCut (sets_of self.now) (p ∷ []) result }
@@ -151,7 +151,7 @@ impl Lines {
         self.count_before(&Set::empty().with(p).unwrap())
     }
 
-    // How many lines stand before the set.
+    /// How many lines stand before the set.
     fn count_before(&self, set: &Set) -> usize
         ensures { IsCut (sets_of self.now) set.now result }
     {

@@ -33,7 +33,7 @@ const HUNDREDTHS: [usize; 2] = [15, 5];
 /// A dive of a base may look at so much less than looks at prices may.
 const DIVES_A_LOOK: u64 = 2;
 
-/// So many dives of a few persons begin with the same roster. What a plan comes to hangs on this number, and
+/// So many dives of a few persons begin with the same roster. What a plan comes to depends on this number, and
 /// not on how many threads share them.
 const DIVES_AT_ONCE: usize = 4;
 

@@ -263,7 +263,7 @@ fn with_more(bound: i128, more: i128, base: usize) -> i128
     bound + more
 }
 
-/// Whether both are true.
+/// Whether both are true: a call, so that a proof can name what it answers.
 fn are_both(first: bool, second: bool) -> bool
     ensures { result ≡ (first && second) }
 {

@@ -17,7 +17,7 @@ use roster_values::Roster;
 use std::alloc::{AllocError, Global};
 use std::thread::{Threads, for_each_mut};
 
-/// So many runs begin with the same roster. What a plan comes to hangs on this number, and not on how many
+/// So many runs begin with the same roster. What a plan comes to depends on this number, and not on how many
 /// threads share the runs.
 const RUNS: u64 = 4;
 

@@ -25,7 +25,7 @@ use roster_values::Roster;
 use std::alloc::{AllocError, Global};
 use std::thread::{Threads, for_each_mut};
 
-/// So many neighbourhoods of a roster are searched at once. What a plan comes to hangs on this number, and
+/// So many neighbourhoods of a roster are searched at once. What a plan comes to depends on this number, and
 /// not on how many threads share the searches.
 const SEARCHES_AT_ONCE: usize = 4;
 

@@ -102,7 +102,7 @@ impl Columns {
         self.end(cost)
     }
 
-    // Ends the one whose pairings stand behind those of the others.
+    /// Ends the one whose pairings stand behind those of the others.
     fn end(&mut self, cost: i64) -> Result<(), AllocError> {
         self.ends.push(self.places.len())?;
         self.costs.push(cost)?;
@@ -120,12 +120,12 @@ impl Columns {
         self.beyond(i, amount_at(&self.costs, i), prices)
     }
 
-    // The same for prices in finer steps than parts.
+    /// The same for prices in finer steps than parts.
     fn fine_value(&self, i: usize, prices: &[i64]) -> i64 {
         self.beyond(i, amount_at(&self.costs, i).wrapping_mul(FINE), prices)
     }
 
-    // What is left of the cost of column i without the prices of its pairings.
+    /// What is left of the cost of column i without the prices of its pairings.
     fn beyond(&self, i: usize, cost: i64, prices: &[i64]) -> i64 {
         let (start, end) = self.range(i);
         let mut value = cost;
@@ -162,7 +162,7 @@ impl Columns {
         least
     }
 
-    // Whether it has the column.
+    /// Whether it has the column.
     fn has(&self, places: &[u16], cost: i64) -> bool {
         (0..self.len()).any(|i| amount_at(&self.costs, i) == cost && self.places(i) == places)
     }
@@ -204,7 +204,7 @@ impl Columns {
         Ok(near)
     }
 
-    // What the one costs behind so many that cost less.
+    /// What the one costs behind so many that cost less.
     fn value_behind(&self, alloc: Global, prices: &[i64], many: usize) -> Result<i64, AllocError> {
         let mut values = Vec::new(alloc);
         for i in 0..self.len() {
@@ -271,7 +271,7 @@ impl Columns {
         Ok(copy)
     }
 
-    // The value of each column, and the least.
+    /// The value of each column, and the least.
     fn values(&self, values: &mut Vec<i64>, prices: &[i64]) -> Result<i64, AllocError> {
         values.clear();
         let mut least = i64::MAX;
@@ -283,7 +283,7 @@ impl Columns {
         Ok(least)
     }
 
-    // Adds the share to the covers of the pairings of column i.
+    /// Adds the share to the covers of the pairings of column i.
     fn add(&self, i: usize, share: i64, covers: &mut [i64]) {
         let (start, end) = self.range(i);
         for j in start..end {
@@ -295,7 +295,7 @@ impl Columns {
     }
 }
 
-// The values become weights; their sum.
+/// The values become weights; their sum.
 fn weighed(values: &mut [i64], least: i64, softness: i64) -> i64 {
     let mut sum: i64 = 0;
     for i in 0..values.len() {
@@ -306,7 +306,7 @@ fn weighed(values: &mut [i64], least: i64, softness: i64) -> i64 {
     sum
 }
 
-// Adds the pairings of the set.
+/// Adds the pairings of the set.
 fn add_places(places: &mut Vec<u16>, set: &Set) -> Result<(), AllocError> {
     let mut from = 0;
     while let Some(p) = set.first_from(from) {

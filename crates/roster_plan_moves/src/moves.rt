@@ -43,7 +43,7 @@ impl<'a> Search<'a> {
         self.place(p)
     }
 
-    // A random pairing, more often than not an open one, if there is one.
+    /// A random pairing, more often than not an open one, if there is one.
     fn next_pairing(&mut self) -> usize {
         let p = self.some_pairing();
         if self.random.below(2) == 0 {
@@ -55,7 +55,7 @@ impl<'a> Search<'a> {
         }
     }
 
-    // A random person who can fly the pairing and hasn't got it; past all, if there is none.
+    /// A random person who can fly the pairing and hasn't got it; past all, if there is none.
     fn taker(&mut self, p: usize, holder: usize) -> usize {
         let count = self.tables.persons();
         let first = self.random.below(count);
@@ -68,13 +68,13 @@ impl<'a> Search<'a> {
         count
     }
 
-    // Person `k` loses the pairing.
+    /// Person `k` loses the pairing.
     fn leave(&mut self, p: usize, k: usize) -> Result<(), AllocError> {
         let rest = without(&self.set(k), &only(p));
         self.changes.put(k, rest)
     }
 
-    // Person `k` gets the pairing, and what they can't fly with it goes to others, if somebody takes it.
+    /// Person `k` gets the pairing, and what they can't fly with it goes to others, if somebody takes it.
     fn give(&mut self, p: usize, k: usize) -> Result<(), AllocError> {
         if k >= self.tables.persons() {
             return Ok(());
@@ -90,7 +90,7 @@ impl<'a> Search<'a> {
         Ok(())
     }
 
-    // Gives the pairing, which nobody has, to whom it costs least and less than to leave it open.
+    /// Gives the pairing, which nobody has, to whom it costs least and less than to leave it open.
     fn place(&mut self, p: usize) -> Result<(), AllocError> {
         let rivals = self.tables.rivals(p);
         let mut least = self.tables.penalty(p);
@@ -112,7 +112,7 @@ impl<'a> Search<'a> {
         Ok(())
     }
 
-    // Two persons exchange a pairing, or what begins in some days from it on, and what that hinders.
+    /// Two persons exchange a pairing, or what begins in some days from it on, and what that hinders.
     fn exchange(&mut self, p: usize, holder: usize, k: usize) -> Result<(), AllocError> {
         if k >= self.tables.persons() {
             return Ok(());
@@ -129,7 +129,7 @@ impl<'a> Search<'a> {
             .put(k, without(&second, &from_second).or(&from_first))
     }
 
-    // How many days two persons exchange; 0 for a single pairing.
+    /// How many days two persons exchange; 0 for a single pairing.
     fn days(&mut self) -> i64 {
         match self.random.below(4) {
             0 | 1 => 0,
@@ -139,8 +139,8 @@ impl<'a> Search<'a> {
     }
 }
 
-// What two persons give each other of their sets: the pairing, or what begins in so many days from it on, and
-// what that hinders.
+/// What two persons give each other of their sets: the pairing, or what begins in so many days from it on, and
+/// what that hinders.
 fn exchanged(tables: &Tables<'_>, first: &Set, second: &Set, p: usize, days: i64) -> (Set, Set) {
     if days > 0 {
         let begin = tables.begin(p);
@@ -152,7 +152,7 @@ fn exchanged(tables: &Tables<'_>, first: &Set, second: &Set, p: usize, days: i64
     with_hindered(tables, first, second, &only(p), &Set::empty())
 }
 
-// These, and what of each set can't be flown with what comes from the other.
+/// These, and what of each set can't be flown with what comes from the other.
 fn with_hindered(
     tables: &Tables<'_>,
     first: &Set,
@@ -175,7 +175,7 @@ fn with_hindered(
     (from_first, from_second)
 }
 
-// Whether person `k` can fly each pairing of the set alone.
+/// Whether person `k` can fly each pairing of the set alone.
 fn can_fly(tables: &Tables<'_>, k: usize, set: &Set) -> bool {
     without(set, &tables.able(k)).is_empty()
 }

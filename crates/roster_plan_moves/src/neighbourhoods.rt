@@ -179,7 +179,7 @@ impl Neighbourhoods {
         }
     }
 
-    // How large the last neighbourhood is, in parts.
+    /// How large the last neighbourhood is, in parts.
     fn size(&self) -> u32 {
         match self.sizes.get(self.kind) {
             Some(size) => *size,
@@ -187,7 +187,7 @@ impl Neighbourhoods {
         }
     }
 
-    // Some persons of one base: a few, half of them, or all.
+    /// Some persons of one base: a few, half of them, or all.
     fn persons(&mut self, alloc: Global, problem: &Problem) -> Result<Vec<usize>, AllocError> {
         let mut left = self.mates(alloc, problem)?;
         let count = match self.kind {
@@ -198,7 +198,7 @@ impl Neighbourhoods {
         self.chosen(alloc, &mut left, count)
     }
 
-    // In a neighbourhood round a wish: the first one from a pairing by chance on.
+    /// In a neighbourhood round a wish: the first one from a pairing by chance on.
     fn wish(&mut self, problem: &Problem, places: &[u16]) -> Option<Wish> {
         if self.kind != WISHES {
             return None;
@@ -219,8 +219,8 @@ impl Neighbourhoods {
         None
     }
 
-    // The first of those sought, from one of them on, who would fly the pairing for fewer units than who has
-    // it.
+    /// The first of those sought, from one of them on, who would fly the pairing for fewer units than who has
+    /// it.
     fn taker(
         &self,
         problem: &Problem,
@@ -243,7 +243,7 @@ impl Neighbourhoods {
         None
     }
 
-    // Who has the pairing of a wish, who would fly it, and some others of the base by chance.
+    /// Who has the pairing of a wish, who would fly it, and some others of the base by chance.
     fn round(
         &mut self,
         alloc: Global,
@@ -257,14 +257,14 @@ impl Neighbourhoods {
         Ok(persons)
     }
 
-    // All persons of one base, which is that of a person by chance.
+    /// All persons of one base, which is that of a person by chance.
     fn mates(&mut self, alloc: Global, problem: &Problem) -> Result<Vec<usize>, AllocError> {
         let i = self.random.below(self.persons.len());
         let k = self.persons.get(i).copied().unwrap_or(0);
         mates_of(alloc, problem, k)
     }
 
-    // So many of those that are left, by chance.
+    /// So many of those that are left, by chance.
     fn chosen(
         &mut self,
         alloc: Global,
@@ -281,7 +281,7 @@ impl Neighbourhoods {
         Ok(chosen)
     }
 
-    // The pairings that these persons have or that are open, all of them or those of some days.
+    /// The pairings that these persons have or that are open, all of them or those of some days.
     fn free(
         &mut self,
         problem: &Problem,
@@ -314,7 +314,7 @@ impl Neighbourhoods {
         free
     }
 
-    // From when to when the pairings begin: some days by chance, or those round a wish.
+    /// From when to when the pairings begin: some days by chance, or those round a wish.
     fn days(&mut self, wish: Option<Wish>) -> (i64, i64) {
         if self.kind == 0 || self.begins.is_empty() {
             return (i64::MIN, i64::MAX);
@@ -330,15 +330,15 @@ impl Neighbourhoods {
     }
 }
 
-// Whether the places give somebody of these a pairing.
+/// Whether the places give somebody of these a pairing.
 fn has_some(places: &[u16], persons: &[usize]) -> bool {
     places
         .iter()
         .any(|number| persons.contains(&usize::from(*number)))
 }
 
-// How large the kinds of neighbourhoods are at first, those round a wish too if there is a roster to stay
-// near.
+/// How large the kinds of neighbourhoods are at first, those round a wish too if there is a roster to stay
+/// near.
 fn first_sizes(alloc: Global, is_near: bool) -> Result<Vec<u32>, AllocError> {
     let mut sizes = Vec::new(alloc);
     for size in FIRST_SIZES {
@@ -350,7 +350,7 @@ fn first_sizes(alloc: Global, is_near: bool) -> Result<Vec<u32>, AllocError> {
     Ok(sizes)
 }
 
-// What everybody keeps and may have beside: these persons lose and may have what is free.
+/// What everybody keeps and may have beside: these persons lose and may have what is free.
 fn wanted_of(
     alloc: Global,
     problem: &Problem,

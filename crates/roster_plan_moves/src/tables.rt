@@ -154,7 +154,7 @@ impl<'a> Tables<'a> {
         missed.wrapping_add(self.problem.units(k, p))
     }
 
-    // What it costs that person `k` flies so much.
+    /// What it costs that person `k` flies so much.
     fn missed(&self, k: usize, flight: i64) -> i64 {
         flight
             .wrapping_sub(amount_at(&self.crew.targets, k))
@@ -190,12 +190,12 @@ impl<'a> Tables<'a> {
     }
 }
 
-// Minutes as a signed number.
+/// Minutes as a signed number.
 fn signed(minutes: u64) -> i64 {
     i64::try_from(minutes).unwrap_or(i64::MAX)
 }
 
-// For each person the pairings that are legal alone.
+/// For each person the pairings that are legal alone.
 fn all_able(alloc: Global, problem: &Problem) -> Result<Vec<Set>, AllocError> {
     let mut able = Vec::new(alloc);
     for k in 0..problem.persons().len() {
@@ -215,7 +215,7 @@ fn able_of(alloc: Global, problem: &Problem, k: usize) -> Result<Set, AllocError
     Ok(able)
 }
 
-// Whether the set is legal for person `k`, if there are this person and these pairings.
+/// Whether the set is legal for person `k`, if there are this person and these pairings.
 fn fits(judge: &mut Judge<'_>, problem: &Problem, k: usize, set: &Set) -> Result<bool, AllocError>
     requires { judge.old ≡ problem.now }
     ensures { judge.new ≡ problem.now }
@@ -255,7 +255,7 @@ fn time_of(problem: &Problem, p: usize, ends: bool) -> i64
     }
 }
 
-// For each pairing those that can't be flown with it.
+/// For each pairing those that can't be flown with it.
 fn all_rivals(
     alloc: Global,
     problem: &Problem,
@@ -294,7 +294,7 @@ fn rivals_of(
     Ok(rivals)
 }
 
-// Whether both pairings are legal together for one of the first persons who can fly each.
+/// Whether both pairings are legal together for one of the first persons who can fly each.
 fn go_together(
     judge: &mut Judge<'_>,
     problem: &Problem,
@@ -318,7 +318,7 @@ fn go_together(
     Ok(false)
 }
 
-// The minutes of flight of the fixed duties of each person.
+/// The minutes of flight of the fixed duties of each person.
 fn fixed_minutes(alloc: Global, problem: &Problem) -> Result<Vec<i64>, AllocError> {
     let mut fixed = Vec::new(alloc);
     for k in 0..problem.persons().len() {
@@ -344,7 +344,7 @@ pub fn penalties(alloc: Global, problem: &Problem) -> Result<Vec<i64>, AllocErro
     Ok(penalties)
 }
 
-// The minutes of flight of each pairing, by the days of its base.
+/// The minutes of flight of each pairing, by the days of its base.
 fn minutes(alloc: Global, problem: &Problem) -> Result<Vec<i64>, AllocError> {
     let mut minutes = Vec::new(alloc);
     for p in 0..problem.pairings().len() {

@@ -79,7 +79,7 @@ impl Costs {
     }
 }
 
-// Makes the table long enough to have the place. What it has doesn't change.
+/// Makes the table long enough to have the place. What it has doesn't change.
 fn make_room(table: &mut Vec<Option<i32>>, place: usize) -> Result<(), AllocError>
     requires { place < MOST_PERSONS * MOST_PAIRINGS }
     ensures same { (i : ℕ) → slice_index_or table.new.items i None

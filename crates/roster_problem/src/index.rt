@@ -23,7 +23,7 @@ impl Model for Lists {
 }
 
 impl Lists {
-    // Empty lists.
+    /// Empty lists.
     fn new(alloc: Global, places: usize) -> Result<Lists, AllocError>
         ensures { IfOk result (λ lists. lists ≡ replicate places []) }
     {
@@ -34,7 +34,7 @@ impl Lists {
         Ok(Lists { lists })
     }
 
-    // Puts a position at the end of the list of a place.
+    /// Puts a position at the end of the list of a place.
     fn push(&mut self, place: usize, position: u16) -> Result<(), AllocError>
         requires { place < length self.old }
         ensures { OnOk result (self.new

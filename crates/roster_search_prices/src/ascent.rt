@@ -22,7 +22,7 @@ pub(crate) struct Reached {
 }
 
 impl Reached {
-    // No bound is known yet.
+    /// No bound is known yet.
     fn nothing(alloc: Global, prices: &DualPrices) -> Result<Reached, AllocError> {
         Ok(Reached {
             prices: prices.copy(alloc)?,
@@ -196,7 +196,7 @@ impl Ascent {
         self.now.sharpen_to(softness);
     }
 
-    // The softness for the gap: what each person may add to it counts for half, or less.
+    /// The softness for the gap: what each person may add to it counts for half, or less.
     fn softness_for(&self, room: i64) -> u32 {
         let gap = room.saturating_sub(self.best.bound).max(1) as u64;
         let share = gap / self.scope.persons().len().max(1) as u64;
@@ -233,7 +233,7 @@ impl Ascent {
         Ok(())
     }
 
-    // How often the pairing at place `p` is held or left open.
+    /// How often the pairing at place `p` is held or left open.
     fn cover(&self, problem: &Problem, region: &Region, p: usize) -> u64 {
         let cover = self.look.cover(p);
         if region.is_flown(p) {
@@ -244,7 +244,7 @@ impl Ascent {
         cover.saturating_add(share_of_open(price, penalty, self.now.softness()))
     }
 
-    // How far the price of a pairing with this cover is to move.
+    /// How far the price of a pairing with this cover is to move.
     fn amount(&self, cover: u64) -> i64 {
         let softness = self.now.softness();
         let strength = if softness < 36 {

@@ -110,7 +110,7 @@ impl Look {
         }
     }
 
-    // Looks at the lines of person `k`.
+    /// Looks at the lines of person `k`.
     fn at_person(
         &mut self,
         alloc: Global,
@@ -220,7 +220,7 @@ impl Look {
         }
     }
 
-    // Adds what the lines of a list hold.
+    /// Adds what the lines of a list hold.
     fn add_list<L: ChoiceList>(
         &mut self,
         choices: &L,
@@ -237,7 +237,7 @@ impl Look {
         Ok(least)
     }
 
-    // Adds the parts that the masses of these pairings are of the total.
+    /// Adds the parts that the masses of these pairings are of the total.
     fn share(&mut self, total: u64, pairings: &[usize]) {
         let part = total / WHOLE + 1;
         for p in pairings {

@@ -15,7 +15,7 @@ struct Picker {
 }
 
 impl Picker {
-    // Nothing is picked yet.
+    /// Nothing is picked yet.
     fn new(alloc: Global) -> Result<Picker, AllocError> {
         Ok(Picker {
             picked: Vec::new(alloc),
@@ -24,7 +24,7 @@ impl Picker {
         })
     }
 
-    // Goes on to the next choice.
+    /// Goes on to the next choice.
     #[inline]
     fn pass(&mut self, choice: &Choice) {
         let above = usize::from(choice.depth.saturating_sub(1));
@@ -36,7 +36,7 @@ impl Picker {
         }
     }
 
-    // Writes the choice, and what is missing on the way to it.
+    /// Writes the choice, and what is missing on the way to it.
     fn pick(&mut self, choice: &Choice) -> Result<(), AllocError> {
         let depth = usize::from(choice.depth);
         for at in self.shared..depth.saturating_sub(1) {

@@ -91,7 +91,7 @@ fn in_turn(turn: usize, step: usize, count: usize) -> usize
 }
 
 impl Rounding {
-    // Nobody has anything.
+    /// Nobody has anything.
     fn new(alloc: Global, problem: &Problem) -> Result<Rounding, AllocError> {
         Ok(Rounding {
             chosen: vec![in alloc; 0; problem.persons().len()]?,
@@ -100,7 +100,7 @@ impl Rounding {
         })
     }
 
-    // What the places cost, in parts of a cost unit, without what empty lines cost.
+    /// What the places cost, in parts of a cost unit, without what empty lines cost.
     fn cost(&self, problem: &Problem, region: &Region, near: &NearLines, places: &[u16]) -> i64
         requires { IsRegion problem.now region.now }
     {
@@ -120,7 +120,7 @@ impl Rounding {
         cost
     }
 
-    // Each person takes a line of what is left, those with one line first. False if there is none.
+    /// Each person takes a line of what is left, those with one line first. False if there is none.
     fn choose_all(
         &mut self,
         problem: &Problem,
@@ -147,7 +147,7 @@ impl Rounding {
         true
     }
 
-    // Person `k` takes the line of least value of what is left. False if there is none.
+    /// Person `k` takes the line of least value of what is left. False if there is none.
     fn choose(
         &mut self,
         region: &Region,
@@ -168,7 +168,7 @@ impl Rounding {
         }
     }
 
-    // The choice that person `k` has taken.
+    /// The choice that person `k` has taken.
     fn chosen_by(&self, k: usize) -> usize {
         if k < self.chosen.len() {
             self.chosen[k]
@@ -177,7 +177,7 @@ impl Rounding {
         }
     }
 
-    // Persons choose again, until nobody saves anything by it.
+    /// Persons choose again, until nobody saves anything by it.
     fn improve(
         &mut self,
         problem: &Problem,
@@ -196,7 +196,7 @@ impl Rounding {
         }
     }
 
-    // Each person chooses again. Whether somebody saved something.
+    /// Each person chooses again. Whether somebody saved something.
     fn improve_once(
         &mut self,
         problem: &Problem,
@@ -219,7 +219,7 @@ impl Rounding {
         saved
     }
 
-    // Person `k` chooses again. Whether something is saved by it.
+    /// Person `k` chooses again. Whether something is saved by it.
     fn choose_again(
         &mut self,
         region: &Region,
@@ -243,7 +243,7 @@ impl Rounding {
         true
     }
 
-    // Person `k` takes the line of choice `i`.
+    /// Person `k` takes the line of choice `i`.
     fn take(&mut self, choices: &PersonLines<'_>, i: usize, k: usize, places: &mut [u16]) {
         if k < self.chosen.len() {
             self.chosen[k] = i;
@@ -252,7 +252,7 @@ impl Rounding {
         put(choices, i, number, places);
     }
 
-    // The choice of least value among those whose pairings nobody else has.
+    /// The choice of least value among those whose pairings nobody else has.
     fn best_choice(
         &mut self,
         choices: &PersonLines<'_>,
@@ -266,7 +266,7 @@ impl Rounding {
         }
     }
 
-    // The choice of least value in a list.
+    /// The choice of least value in a list.
     fn best_in<L: ChoiceList>(
         &mut self,
         choices: &L,

@@ -67,7 +67,7 @@ fn greatest(numbers: &[i64]) -> u64 {
 }
 
 impl DualPrices {
-    // Nothing for any of so many pairings.
+    /// Nothing for any of so many pairings.
     fn nothing(alloc: Global, pairings: usize) -> Result<DualPrices, AllocError> {
         Ok(DualPrices {
             prices: vec![in alloc; 0; pairings]?,
@@ -111,7 +111,7 @@ impl DualPrices {
         Ok(dual)
     }
 
-    // Sets the price of the pairing at place `p`.
+    /// Sets the price of the pairing at place `p`.
     fn put(&mut self, p: usize, amount: i64) {
         if p < self.prices.len() {
             self.prices[p] = limited(amount);
@@ -242,7 +242,7 @@ impl DualPrices {
         farthest
     }
 
-    // Moves the price of the pairing at place `p`, and gives how far.
+    /// Moves the price of the pairing at place `p`, and gives how far.
     fn go_one(&mut self, p: usize, amount: i64) -> i64 {
         let pace = i64::from(self.pace);
         let kept = self.velocity(p).wrapping_mul(pace) / (pace + 3);

@@ -54,7 +54,7 @@ impl Marker {
         self.mark_dead()
     }
 
-    // Marks the choice to which the path has come as one that isn't live.
+    /// Marks the choice to which the path has come as one that isn't live.
     fn mark_dead(&mut self) -> Result<(), AllocError>
         ensures { OnOk result ((choices : List PlainChoice) (lines : List AllowedLine)
             (choice : PlainChoice) → IsMarking self.old choices lines
@@ -64,7 +64,7 @@ impl Marker {
         Ok(())
     }
 
-    // Marks the choice to which the path has come as live.
+    /// Marks the choice to which the path has come as live.
     fn mark_live(&mut self, path: &Path) -> Result<(), AllocError>
         requires known { (choices : List PlainChoice) × (lines : List AllowedLine)
             × IsMarking self.old choices lines }
@@ -83,7 +83,7 @@ impl Marker {
         Ok(())
     }
 
-    // What all lines have, with one more that has the set.
+    /// What all lines have, with one more that has the set.
     fn certain_with(&self, set: &Set) -> Set
         ensures { (choices : List PlainChoice) (lines : List AllowedLine) (line : AllowedLine)
             → IsMarking self.now choices lines → HasJust set.now line

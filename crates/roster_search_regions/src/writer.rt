@@ -51,7 +51,7 @@ impl Writer {
         }
     }
 
-    // Writes the line of the path.
+    /// Writes the line of the path.
     fn write(&mut self, path: &Path, extra: i64) -> Result<(), AllocError>
         requires extra { IsWithin MOST_EXTRA extra }
         requires known { (lines : List AllowedLine) × IsWriting self.old path.now lines }
@@ -95,7 +95,7 @@ impl Writer {
         Ok(())
     }
 
-    // What all lines have, with one more that has the set.
+    /// What all lines have, with one more that has the set.
     fn certain_with(&self, set: &Set) -> Set
         ensures { (path : List ℕ) (lines : List AllowedLine) (line : AllowedLine)
             → IsWriting self.now path lines → HasJust set.now line
@@ -108,7 +108,7 @@ impl Writer {
         }
     }
 
-    // Writes what is missing of the way to the line of the path.
+    /// Writes what is missing of the way to the line of the path.
     fn reach(&mut self, path: &Path) -> Result<(), AllocError>
         ensures same { OnOk result ((lines : List AllowedLine)
             → IsWriting self.old path.now lines → IsWriting self.new path.now lines) }

@@ -33,7 +33,7 @@ impl Relaxation {
         Ok(!self.is_near())
     }
 
-    // Whether no cost that a roster may have lies between the bound and what the last solution costs.
+    /// Whether no cost that a roster may have lies between the bound and what the last solution costs.
     fn is_near(&self) -> bool {
         let little = self.grain / NEAR_PART_OF_GRAIN;
         let cost = self.master.value().saturating_add(self.apart);

@@ -27,13 +27,13 @@ struct Gain {
 const NO_GAIN: Gain = Gain { sum: 0, times: 0 };
 
 impl Gain {
-    // One more.
+    /// One more.
     fn add(&mut self, gain: u64) {
         self.sum = self.sum.saturating_add(gain);
         self.times = self.times.saturating_add(1);
     }
 
-    // What it brings, likely: the mean, where `expected` was brought a few times before.
+    /// What it brings, likely: the mean, where `expected` was brought a few times before.
     fn likely(&self, expected: u64) -> u64 {
         let sum = self
             .sum
@@ -81,7 +81,7 @@ impl Gains {
         self.nodes >= NODES_TO_LEARN
     }
 
-    // Takes note of what a side brought.
+    /// Takes note of what a side brought.
     fn add(&mut self, place: usize, is_first: bool, gain: u64) {
         if place >= self.first.len() || place >= self.other.len() {
             return;
@@ -121,7 +121,7 @@ impl Relaxation {
         }
     }
 
-    // The place of person `k` and the pairing at place `p`, if they have rows.
+    /// The place of person `k` and the pairing at place `p`, if they have rows.
     fn place_of(&self, k: usize, p: usize) -> Option<usize> {
         let column = self.row_of(p)?;
         for (row, person) in self.persons.iter().enumerate() {

@@ -61,7 +61,7 @@ impl Relaxation {
         Relaxation::of(alloc, problem, region, persons, pairings)
     }
 
-    // That of these persons and pairings.
+    /// That of these persons and pairings.
     fn of(
         alloc: Global,
         problem: &Problem,
@@ -145,7 +145,7 @@ impl Relaxation {
         Ok(())
     }
 
-    // The price of the pairing at place `p`. One without a row has its penalty, less what open ones are paid.
+    /// The price of the pairing at place `p`. One without a row has its penalty, less what open ones are paid.
     fn price_of(&self, problem: &Problem, region: &Region, p: usize) -> i64 {
         let penalty = scaled_penalty(problem, self.scale, p).saturating_sub(
             self.master.count_dual(),
@@ -161,7 +161,7 @@ impl Relaxation {
         }
     }
 
-    // The row of the pairing at place `p`, if it has one.
+    /// The row of the pairing at place `p`, if it has one.
     pub(crate) fn row_of(&self, p: usize) -> Option<usize> {
         match self.rows.get(p) {
             Some(row) if *row != NO_ROW => Some(*row),
@@ -214,7 +214,7 @@ impl Relaxation {
         Ok(())
     }
 
-    // A line is worth to be added if its value is below its person's dual price by more than a little.
+    /// A line is worth to be added if its value is below its person's dual price by more than a little.
     pub(crate) fn put_limits(&mut self) -> Result<(), AllocError> {
         self.limits.clear();
         for row in 0..self.persons.len() {
@@ -225,7 +225,7 @@ impl Relaxation {
         Ok(())
     }
 
-    // Adds what so many seekers found, row by row.
+    /// Adds what so many seekers found, row by row.
     pub(crate) fn gather(&mut self, seekers: usize) -> Result<(), AllocError> {
         self.is_new = false;
         self.bound = 0;
@@ -242,7 +242,7 @@ impl Relaxation {
         Ok(())
     }
 
-    // Adds what one of the seekers found of the person of a row.
+    /// Adds what one of the seekers found of the person of a row.
     fn add_lines(&mut self, seeker: usize, row: usize) -> Result<(), AllocError> {
         if seeker >= self.seekers.len() {
             return Ok(());
@@ -257,7 +257,7 @@ impl Relaxation {
         Ok(())
     }
 
-    // Takes note of the bound, if persons add so much as seekers say.
+    /// Takes note of the bound, if persons add so much as seekers say.
     pub(crate) fn note_bound(&mut self, problem: &Problem, region: &Region) {
         let paid = self.now.paid();
         let mut bound = self.bound.saturating_add(paid_for_open(region, paid));

@@ -101,7 +101,7 @@ impl Seeker {
         }
     }
 
-    // Looks at the lines of person `k`, who has this row.
+    /// Looks at the lines of person `k`, who has this row.
     fn at_person(
         &mut self,
         region: &Region,
@@ -127,7 +127,7 @@ impl Seeker {
         }
     }
 
-    // Looks at the lines of a list, and gives the least value of one.
+    /// Looks at the lines of a list, and gives the least value of one.
     fn seek<L: ChoiceList>(
         &mut self,
         choices: &L,
@@ -154,8 +154,8 @@ impl Seeker {
         Ok(least)
     }
 
-    // Keeps the line of the choice to which the path leads. It gives what the value of the next one is to be
-    // below.
+    /// Keeps the line of the choice to which the path leads. It gives what the value of the next one is to be
+    /// below.
     fn keep(
         &mut self,
         choice: &Choice,

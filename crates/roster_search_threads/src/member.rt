@@ -71,7 +71,7 @@ impl<'a, R: Wait> Stop for Member<'a, R> {
         self.best.look(self.rt)
     }
 
-    // Without memory the others don't see it. It is handed in all the same.
+    /// Without memory the others don't see it. It is handed in all the same.
     fn found(&mut self, roster: &Roster) {
         let Ok(roster) = roster.copy(self.alloc) else {
             return;

@@ -17,7 +17,7 @@ fn the_earliest_roster_is_shown(rt: HostRuntime) -> Result<(), Fail> {
     Ok(())
 }
 
-// No place and no cost is too bad for an incumbent, so a search has to look at both.
+/// No place and no cost is too bad for an incumbent, so a search has to look at both.
 #[test]
 fn a_sight_shows_what_was_raised_meanwhile(rt: HostRuntime) -> Result<(), Fail> {
     let incumbent = Incumbent::new(shared(rt.alloc(), BEST, 0)?);

@@ -208,7 +208,7 @@ fn spans_without_rosters(rt: HostRuntime) -> Result<(), Fail> {
     Ok(())
 }
 
-// The path leads past the last person, so the span's own node is the only one.
+/// The path leads past the last person, so the span's own node is the only one.
 #[test]
 fn the_first_node_is_the_span_s_own(rt: HostRuntime) -> Result<(), Fail> {
     for (every, places, cost) in [(1, [0, 1], 100), (2, [1, 1], 200)] {

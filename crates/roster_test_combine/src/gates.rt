@@ -81,8 +81,8 @@ fn meet<R: Threads + Wait + Sync>(
     Ok(is(&solved, best, 0) && meeting.took_place())
 }
 
-// One after the other, each would look in vain. Here, who looks is in the search of a base, of which no two
-// threads take the same.
+/// One after the other, each would look in vain. Here, who looks is in the search of a base, of which no two
+/// threads take the same.
 #[test]
 fn two_workers_search_two_bases_at_one_time(rt: HostRuntime) -> Result<(), Fail> {
     assert!(rt; meet(&rt, rt.alloc(), TWO_BASES, &[0, 1], Point::Base)?);

@@ -70,7 +70,7 @@ impl Exact {
         })
     }
 
-    // The first column that costs less than its rows pay.
+    /// The first column that costs less than its rows pay.
     fn entering(&self) -> Option<usize> {
         let last = self.costs.len().saturating_sub(1);
         for (column, cost) in self.costs.iter().enumerate() {
@@ -81,7 +81,7 @@ impl Exact {
         None
     }
 
-    // The row that is used up first, and of several that of the first column.
+    /// The row that is used up first, and of several that of the first column.
     fn leaving(&self, column: usize) -> Option<usize> {
         let mut best = None;
         let mut least = (0, 0, 0);
@@ -99,7 +99,7 @@ impl Exact {
         best
     }
 
-    // The column becomes basic in the row.
+    /// The column becomes basic in the row.
     fn pivot(&mut self, alloc: Global, row: usize, column: usize) -> Result<(), AllocError> {
         if row >= self.rows.len() || row >= self.basis.len() {
             return Ok(());

@@ -155,8 +155,8 @@ impl Small {
         Exact::new(alloc, by_row(alloc, &columns, &right)?, &costs)?.least(alloc)
     }
 
-    // The column of a line: ones in the rows of its person and its pairings. The rows of counts say that so
-    // many aren't open as are flown and as are missing from the count.
+    /// The column of a line: ones in the rows of its person and its pairings. The rows of counts say that so
+    /// many aren't open as are flown and as are missing from the count.
     fn line(&self, alloc: Global, line: &Line) -> Result<Vec<i128>, AllocError> {
         let mut column = unit(alloc, self.rows(), line.k, 1)?;
         let mut flown: i128 = 0;
@@ -172,7 +172,7 @@ impl Small {
         Ok(column)
     }
 
-    // What the rows need.
+    /// What the rows need.
     fn right(&self, alloc: Global, marks: &Marks) -> Result<Vec<i128>, AllocError> {
         let pairings = self.penalties.len();
         let mut right = vec![in alloc; 1; self.rows()]?;

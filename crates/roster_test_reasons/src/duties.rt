@@ -158,7 +158,7 @@ fn a_block_a_minute_too_long(rt: HostRuntime) -> Result<(), Fail> {
     )
 }
 
-// Both duties beside a rest are told of, and all of a block, but no duty beyond; a pairing is no duty.
+/// Both duties beside a rest are told of, and all of a block, but no duty beyond; a pairing is no duty.
 #[test]
 fn the_duties_that_a_reason_tells_of(rt: HostRuntime) -> Result<(), Fail> {
     let rest = Reason::Rest(ShortRest {

@@ -207,7 +207,7 @@ fn tells_a_failed_writer(rt: HostRuntime) {
     }
 }
 
-// Else a body that asks whether all is flushed before it flushes would pass a new device over.
+/// Else a body that asks whether all is flushed before it flushes would pass a new device over.
 #[test]
 fn a_new_device_is_flushed_once_for_each_call(rt: HostRuntime) -> Result<(), Fail> {
     let mut writer = Watched::new(FailingWriter {

@@ -76,7 +76,7 @@ fn laws_can_be_called() {
     has_answer();
 }
 
-// No other test compares outcomes by `==`, since a wrong one would take any for any.
+/// No other test compares outcomes by `==`, since a wrong one would take any for any.
 #[test]
 fn outcomes_are_told_apart(rt: HostRuntime) {
     let all = [

@@ -10,7 +10,7 @@ use roster_problem::{Duty, Person, Sector};
 use roster_values::Limit;
 use std::process::Abort;
 
-// The list has these minutes of duty on these days.
+/// The list has these minutes of duty on these days.
 fn has_duty(rt: &impl Abort, days: &BaseDays, list: &DutyList<'_>, rows: &[(usize, i64)]) {
     for (day, minutes) in rows {
         assert!(rt; *day < days.days());
@@ -53,7 +53,7 @@ fn a_duty_is_divided_by_the_minute(rt: HostRuntime) {
     );
 }
 
-// The greatest duty of the list in 7, 14 and 28 days in a row.
+/// The greatest duty of the list in 7, 14 and 28 days in a row.
 fn has_greatest_duty(rt: &impl Abort, days: &BaseDays, list: &DutyList<'_>, minutes: [i64; 3]) {
     let [seven, fourteen, twenty_eight] = minutes;
     assert!(rt; greatest_duty(days, list, 7) == seven);
@@ -103,7 +103,7 @@ enum Flown {
     Positioned,
 }
 
-// A duty of at most one sector, which is as long as the duty.
+/// A duty of at most one sector, which is as long as the duty.
 fn flight<R: Abort + AllocGlobal>(rt: &R, flown: Flown, off: &str, on: &str) -> Duty {
     let mut duty = duty(rt, "AMS", off, on);
     let operates = match flown {
@@ -121,7 +121,7 @@ fn flight<R: Abort + AllocGlobal>(rt: &R, flown: Flown, off: &str, on: &str) -> 
     duty
 }
 
-// Such duties.
+/// Such duties.
 fn flights<R: Abort + AllocGlobal>(rt: &R, rows: &[(Flown, &str, &str)]) -> Vec<Duty> {
     let mut duties = Vec::new(rt.alloc());
     for (flown, off, on) in rows {
@@ -132,7 +132,7 @@ fn flights<R: Abort + AllocGlobal>(rt: &R, rows: &[(Flown, &str, &str)]) -> Vec<
     duties
 }
 
-// The list has these minutes of flight on these days.
+/// The list has these minutes of flight on these days.
 fn has_flight(rt: &impl Abort, days: &BaseDays, list: &DutyList<'_>, rows: &[(usize, i64)]) {
     for (day, minutes) in rows {
         assert!(rt; *day < days.days());
@@ -140,7 +140,7 @@ fn has_flight(rt: &impl Abort, days: &BaseDays, list: &DutyList<'_>, rows: &[(us
     }
 }
 
-// The duties at these positions have these minutes of flight in the month.
+/// The duties at these positions have these minutes of flight in the month.
 fn have_flight(rt: &impl Abort, days: &BaseDays, duties: &[Duty], rows: &[(usize, i64)]) {
     for (k, minutes) in rows {
         assert!(rt; *k < duties.len());
@@ -189,7 +189,7 @@ fn flight_is_that_of_operated_sectors(rt: HostRuntime) {
     );
 }
 
-// A person who has flown so much in the year and in the eleven months before the month.
+/// A person who has flown so much in the year and in the eleven months before the month.
 fn person(rt: &impl Abort, year: u32, eleven: u32) -> Person {
     Person {
         id: name(rt, "A"),
@@ -201,7 +201,7 @@ fn person(rt: &impl Abort, year: u32, eleven: u32) -> Person {
     }
 }
 
-// The first limit that such a person breaks with the duties at the positions.
+/// The first limit that such a person breaks with the duties at the positions.
 fn first_broken<R: Abort + AllocGlobal>(
     rt: &R,
     days: &BaseDays,
@@ -257,7 +257,7 @@ fn the_first_limit_that_is_broken(rt: HostRuntime) {
     }
 }
 
-// Asks for limits one after another.
+/// Asks for limits one after another.
 fn are_judged(rt: &impl Abort, mut limits: ListLimits<'_>) {
     for &(limit, holds) in &[
         (Limit::Flight12, false),

@@ -6,7 +6,7 @@ use roster_problem::{Base, Duty, DutyList};
 use roster_restrules::{Times, days_ok, is_recurrent, recovery_ok, rest_needed, rest_ok};
 use std::process::Abort;
 
-// A base in March 2024.
+/// A base in March 2024.
 fn ams<R: Abort + AllocGlobal>(rt: &R) -> Base {
     Base {
         id: name(rt, "AMS"),
@@ -14,7 +14,7 @@ fn ams<R: Abort + AllocGlobal>(rt: &R) -> Base {
     }
 }
 
-// The rest that is needed between a duty at home with this release and the next one, at this station.
+/// The rest that is needed between a duty at home with this release and the next one, at this station.
 fn rest_before<R: Abort + AllocGlobal>(rt: &R, home: &Base, release: &str, station: &str) -> i64 {
     let prev = duty(rt, "AMS", "2024-03-04T06:00Z", release);
     let next = duty(rt, station, "2024-03-05T06:00Z", "2024-03-05T14:00Z");
@@ -42,7 +42,7 @@ fn the_rest_needed_is_the_greater(rt: HostRuntime) {
     }
 }
 
-// Whether the list of the duties at the positions keeps the rest between neighbours.
+/// Whether the list of the duties at the positions keeps the rest between neighbours.
 fn keeps_rest<R: Abort + AllocGlobal>(
     rt: &R,
     home: &Base,
@@ -111,7 +111,7 @@ fn recurrent_rests_have_their_length_and_nights(rt: HostRuntime) {
     }
 }
 
-// Whether the duty at the position alone keeps recovery, judged by its list, and by the times of all duties.
+/// Whether the duty at the position alone keeps recovery, judged by its list, and by the times of all duties.
 fn keeps_recovery<R: Abort + AllocGlobal>(
     rt: &R,
     days: &BaseDays,
@@ -146,7 +146,7 @@ fn a_recurrent_rest_comes_each_week(rt: HostRuntime) {
     }
 }
 
-// Whether the list of the duties at the positions leaves two days off, twice.
+/// Whether the list of the duties at the positions leaves two days off, twice.
 fn has_days_off<R: Abort + AllocGlobal>(
     rt: &R,
     days: &BaseDays,

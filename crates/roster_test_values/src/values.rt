@@ -44,7 +44,7 @@ fn rules_have_words(rt: HostRuntime) {
 /// The last place that a set may have.
 const LAST: usize = MOST_PAIRINGS - 1;
 
-// The set of these places.
+/// The set of these places.
 fn set_of(places: &[usize]) -> Set {
     let mut set = Set::empty();
     for place in places {
@@ -131,7 +131,7 @@ fn a_set_is_read_off_the_list_of_places(rt: HostRuntime) {
     assert!(rt; Set::of_places(&places, 4).is_empty());
 }
 
-// The list has the duties at AMS and at CPH.
+/// The list has the duties at AMS and at CPH.
 fn has_two_duties(rt: &impl Abort, list: &DutyList<'_>) {
     assert!(rt; list.len() == 2);
     assert!(rt; !list.is_empty());
@@ -154,7 +154,7 @@ fn a_duty_list_has_the_duties_at_its_positions(rt: HostRuntime) {
     assert!(rt; no_duty.is_empty());
 }
 
-// Gives a duty of 4 March from 06:00 to 14:00 the sectors that it takes.
+/// Gives a duty of 4 March from 06:00 to 14:00 the sectors that it takes.
 fn takes_sectors(rt: &impl Abort, duty: &mut Duty) -> Result<(), Fail> {
     for &(operates, off, on, is_taken) in &[
         (false, "2024-03-04T05:59Z", "2024-03-04T07:00Z", false),

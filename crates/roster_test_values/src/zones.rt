@@ -43,7 +43,7 @@ const DUBLIN: &str = "IST-1GMT0,M10.5.0,M3.5.0/1";
 
 const GODTHAB: &str = "WGT3WGST,M3.5.0/-2,M10.5.0/-1";
 
-// The instants of the ordinary rules are those of the C library.
+/// The instants of the ordinary rules are those of the C library.
 #[test]
 fn clocks_that_change_at_night(rt: HostRuntime) {
     check(
@@ -122,8 +122,8 @@ fn clocks_that_change_at_night(rt: HostRuntime) {
     );
 }
 
-// An hour that the clocks skip stands for the later instant, one that they show twice for the
-// earlier. If the C library has the hour at all, these are its instants.
+/// An hour that the clocks skip stands for the later instant, one that they show twice for the
+/// earlier. If the C library has the hour at all, these are its instants.
 #[test]
 fn hours_in_a_gap_or_a_fold(rt: HostRuntime) {
     let midnight = "XXX3YYY,M10.3.0/0,M2.3.0/1";
@@ -164,7 +164,7 @@ fn hours_in_a_gap_or_a_fold(rt: HostRuntime) {
     );
 }
 
-// A day by its number, without and with 29 February: the clocks skip its first hour.
+/// A day by its number, without and with 29 February: the clocks skip its first hour.
 #[test]
 fn rules_by_the_day_of_the_year(rt: HostRuntime) {
     let uncounted = "AAA-2BBB,J60/0,J305/0";
@@ -194,8 +194,8 @@ fn rules_by_the_day_of_the_year(rt: HostRuntime) {
     );
 }
 
-// A rule is judged year by year: daylight time that holds from the year's first moment begins with
-// a gap, and there midnight has the standard offset.
+/// A rule is judged year by year: daylight time that holds from the year's first moment begins with
+/// a gap, and there midnight has the standard offset.
 #[test]
 fn daylight_time_all_year(rt: HostRuntime) {
     let zone = "EST5EDT,0/0,J365/25";
@@ -211,7 +211,7 @@ fn daylight_time_all_year(rt: HostRuntime) {
     );
 }
 
-// The first and the last window, at the offsets farthest from UTC.
+/// The first and the last window, at the offsets farthest from UTC.
 #[test]
 fn the_first_and_the_last_month(rt: HostRuntime) {
     for &(zone, month, i, midnight) in &[

@@ -37,14 +37,14 @@ impl Model for Assign {
     ghost view = { λ a. record { pairing = a.pairing; person = a.person } };
 }
 
-// Whether the text stands for nobody.
+/// Whether the text stands for nobody.
 fn is_nobody(text: &[u8]) -> bool
     ensures { result ≡ model.is_nobody text.now }
 {
     text == b"-".as_slice()
 }
 
-// Whether all fields are of their forms.
+/// Whether all fields are of their forms.
 fn is_formed(fields: &ByteRecord) -> bool
     ensures { result ≡ model.is_formed (fields_of fields.now) }
 {
@@ -52,21 +52,21 @@ fn is_formed(fields: &ByteRecord) -> bool
     is_identifier(field(fields, 1)) && (is_identifier(crew) || is_nobody(crew))
 }
 
-// Whether it is one of the pairing at the place.
+/// Whether it is one of the pairing at the place.
 fn is_of(assign: &Assign, place: usize) -> bool
     ensures { result ≡ is_assign_of place assign.now }
 {
     assign.pairing == place
 }
 
-// Where the first one of the pairing at place `p` stands.
+/// Where the first one of the pairing at place `p` stands.
 fn first_of(assigns: &[Assign], p: usize) -> Option<usize>
     ensures { result ≡ position (is_assign_of p) assigns.now }
 {
     assigns.iter().position(|assign| is_of(assign, p))
 }
 
-// The number of the pairing at place `p` in a roster, where `nobody` stands for open.
+/// The number of the pairing at place `p` in a roster, where `nobody` stands for open.
 fn number_of(assigns: &[Assign], nobody: u16, p: usize) -> u16
     ensures { result ≡ assigned_number nobody assigns.now p }
 {
@@ -79,7 +79,7 @@ fn number_of(assigns: &[Assign], nobody: u16, p: usize) -> u16
     }
 }
 
-// The numbers of so many pairings in a roster, where `nobody` stands for open.
+/// The numbers of so many pairings in a roster, where `nobody` stands for open.
 fn numbers(
     alloc: Global,
     assigns: &[Assign],
@@ -95,14 +95,14 @@ fn numbers(
 }
 
 impl Draft {
-    // Whether the pairing at the place is assigned already.
+    /// Whether the pairing at the place is assigned already.
     fn is_assigned(&self, place: usize) -> bool
         ensures { result ≡ list_any (is_assign_of place) self.now.assigns.items }
     {
         self.assigns.iter().any(|assign| is_of(assign, place))
     }
 
-    // The place of the person whom the text names, if it names one who was given.
+    /// The place of the person whom the text names, if it names one who was given.
     fn assignee(&self, text: &[u8]) -> Option<u16>
         requires { HasRecords (contents_of self.now) }
         ensures { result ≡ (if model.is_nobody text.now then None
@@ -117,7 +117,7 @@ impl Draft {
         }
     }
 
-    // The assignment that a record of one gives, or what is wrong with it.
+    /// The assignment that a record of one gives, or what is wrong with it.
     #[tactic(auto, unfolding(roster_model::specs::Faults::code_of_kind, roster_model::specs::records::Assign::assign_of))]
     fn judge_assign(&self, fields: &ByteRecord) -> Result<Assign, Code>
         requires { HasRecords (contents_of self.now) }

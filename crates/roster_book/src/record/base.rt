@@ -20,7 +20,7 @@ use roster_problem::Base;
 use roster_values::Name;
 use std::alloc::Global;
 
-// The days of the month's window at a base with this zone text.
+/// The days of the month's window at a base with this zone text.
 fn days_of(alloc: Global, zone: &str, period: Period) -> Result<BaseDays, Refusal>
     ensures { FindsDays (days_of_zone period zone.now) result }
 {

@@ -13,14 +13,14 @@ use crate::draft::Draft;
 use roster_instants::Minute;
 use roster_problem::{Duty, Holder, Leave};
 
-// Whether the time from `start` to `end` shares a minute with that from `from` to `to`.
+/// Whether the time from `start` to `end` shares a minute with that from `from` to `to`.
 fn share_minute(start: Minute, end: Minute, from: Minute, to: Minute) -> bool
     ensures { result ≡ nat_lt 0 (common start end from to) }
 {
     start < end && from < to && start < to && from < end
 }
 
-// Whether it is a fixed duty of the person, and shares a minute with the time.
+/// Whether it is a fixed duty of the person, and shares a minute with the time.
 fn is_duty_at(duty: &Duty, person: usize, from: Minute, to: Minute) -> bool
     ensures { result ≡ (is_held_by_person person duty.now.holder
         && busy.shares_minute from to (time_of_duty duty.now)) }
@@ -28,7 +28,7 @@ fn is_duty_at(duty: &Duty, person: usize, from: Minute, to: Minute) -> bool
     duty.holder == Holder::Person(person) && share_minute(duty.report, duty.release, from, to)
 }
 
-// Whether it is a leave of the person, and shares a minute with the time.
+/// Whether it is a leave of the person, and shares a minute with the time.
 fn is_leave_at(leave: &Leave, person: usize, from: Minute, to: Minute) -> bool
     ensures { result ≡ (is_leave_of person leave.now
         && busy.shares_minute from to (time_of_leave leave.now)) }
@@ -37,7 +37,7 @@ fn is_leave_at(leave: &Leave, person: usize, from: Minute, to: Minute) -> bool
 }
 
 impl Draft {
-    // Whether the person has a fixed duty in a minute of the time.
+    /// Whether the person has a fixed duty in a minute of the time.
     fn is_on_duty(&self, person: usize, from: Minute, to: Minute) -> bool
         ensures { result ≡ list_any (λ duty. is_held_by_person person duty.holder
             && busy.shares_minute from to (time_of_duty duty)) self.now.duties }
@@ -48,7 +48,7 @@ impl Draft {
             .any(|duty| is_duty_at(duty, person, from, to))
     }
 
-    // Whether the person has a leave in a minute of the time.
+    /// Whether the person has a leave in a minute of the time.
     fn is_on_leave(&self, person: usize, from: Minute, to: Minute) -> bool
         ensures { result ≡ list_any (λ leave. is_leave_of person leave
             && busy.shares_minute from to (time_of_leave leave)) self.now.tables.leaves.items }

@@ -18,7 +18,7 @@ use roster_model::limits::MOST_COSTS;
 use roster_problem::Cost;
 use roster_values::is_identifier;
 
-// Whether all fields are of their forms.
+/// Whether all fields are of their forms.
 fn is_formed(fields: &ByteRecord) -> bool
     ensures { result ≡ model.is_formed (fields_of fields.now) }
 {
@@ -28,7 +28,7 @@ fn is_formed(fields: &ByteRecord) -> bool
 }
 
 impl Draft {
-    // The cost that a record of one gives, or what is wrong with it.
+    /// The cost that a record of one gives, or what is wrong with it.
     #[tactic(auto, unfolding(roster_model::specs::Faults::code_of_kind, roster_model::specs::records::Cost::cost_of))]
     fn judge_cost(&self, fields: &ByteRecord) -> Result<Cost, Code>
         ensures judged { (command : Command) (row : ℕ) (before : List Record)

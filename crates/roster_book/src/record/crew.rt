@@ -17,7 +17,7 @@ use roster_model::limits::{MOST_MINUTES, MOST_PERSONS};
 use roster_problem::Person;
 use roster_values::{Name, is_identifier};
 
-// The person's name, if all fields are of their forms.
+/// The person's name, if all fields are of their forms.
 fn formed(fields: &ByteRecord) -> Option<Name>
     ensures { MatchOption result (is_formed (fields_of fields.now) ≡ false)
         (λ id. (is_formed (fields_of fields.now) ≡ true) × (id ≡ id_in (fields_of fields.now))) }
@@ -30,7 +30,7 @@ fn formed(fields: &ByteRecord) -> Option<Name>
     if others { Some(id) } else { None }
 }
 
-// Target, year and eleven months, if they are within their limits.
+/// Target, year and eleven months, if they are within their limits.
 fn limited(fields: &ByteRecord) -> Option<(u32, u32, u32)>
     ensures { is_formed (fields_of fields.now) ≡ true
         → MatchOption result (is_limited (fields_of fields.now) ≡ false) (λ m.

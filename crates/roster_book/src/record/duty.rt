@@ -37,14 +37,14 @@ struct Form {
     release: Minute,
 }
 
-// Whether it is the letter of a pairing's duties.
+/// Whether it is the letter of a pairing's duties.
 fn is_pairing_letter(letter: &[u8]) -> bool
     ensures { result ≡ model.is_pairing_letter letter.now }
 {
     letter == b"P".as_slice()
 }
 
-// Whether it is the letter of a person's fixed duties.
+/// Whether it is the letter of a person's fixed duties.
 fn is_person_letter(letter: &[u8]) -> bool
     ensures { result ≡ model.is_person_letter letter.now }
 {
@@ -71,7 +71,7 @@ fn formed(fields: &ByteRecord) -> Option<Form>
     })
 }
 
-// Whether it is released after it reports, no earlier than the last duty was released.
+/// Whether it is released after it reports, no earlier than the last duty was released.
 fn is_in_sequence(last: Option<&Duty>, report: Minute, release: Minute) -> bool
     ensures value { result
         ≡ model.is_in_sequence (option_map (λ duty. duty.now) last.entry) report release }
@@ -80,14 +80,14 @@ fn is_in_sequence(last: Option<&Duty>, report: Minute, release: Minute) -> bool
     report < release && last.is_none_or(|duty| duty.release <= report)
 }
 
-// Whether the instant lies in the month.
+/// Whether the instant lies in the month.
 fn is_in_month(days: &BaseDays, minute: Minute) -> bool
     ensures { result ≡ model.is_in_month days.now minute }
 {
     days.month_start() <= minute && minute < days.month_end()
 }
 
-// Whether it isn't the first duty of its pairing, or reports at the pairing's base in the month there.
+/// Whether it isn't the first duty of its pairing, or reports at the pairing's base in the month there.
 fn starts_well(last: Option<&Duty>, base: &Base, station: &Name, report: Minute) -> bool
     ensures { result
         ≡ model.starts_well (option_map (λ duty. duty.now) last.entry) base.now station.now report }
@@ -96,7 +96,7 @@ fn starts_well(last: Option<&Duty>, base: &Base, station: &Name, report: Minute)
 }
 
 impl Draft {
-    // Whose duty a record of one tells, if that was given before.
+    /// Whose duty a record of one tells, if that was given before.
     fn holder_in(&self, fields: &ByteRecord) -> Option<Holder>
         ensures told { (before : List Record) → tables_of_draft self.now ≡ tables_in before
             → option_map holder_of result ≡ model.holder_in before (fields_of fields.now) }
@@ -111,7 +111,7 @@ impl Draft {
         }
     }
 
-    // What is wrong with it as a duty of the pairing at the place.
+    /// What is wrong with it as a duty of the pairing at the place.
     #[tactic(auto, using(crate::proofs::SectorTable::flown_in_sequence, crate::proofs::SectorTable::flown_starts_well, crate::proofs::SectorTable::flown_count))]
     fn judge_of_pairing(&self, p: usize, duty: &Form) -> Result<(), Code>
         requires known { p < length self.now.tables.pairings.items }
@@ -138,7 +138,7 @@ impl Draft {
         Ok(())
     }
 
-    // What is wrong with it as a fixed duty of the person at the place.
+    /// What is wrong with it as a fixed duty of the person at the place.
     #[tactic(auto, using(crate::proofs::SectorTable::flown_count))]
     fn judge_of_person(&self, k: usize, duty: &Form) -> Result<(), Code>
         requires known { k < length self.now.tables.persons.items }
@@ -163,7 +163,7 @@ impl Draft {
         Ok(())
     }
 
-    // What is wrong with it as a duty of the holder.
+    /// What is wrong with it as a duty of the holder.
     fn judge_held(&self, holder: Holder, duty: &Form) -> Result<(), Code>
         requires known { IsHolder (length self.now.tables.pairings.items)
             (length self.now.tables.persons.items) (holder_of holder) }

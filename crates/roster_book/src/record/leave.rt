@@ -18,7 +18,7 @@ use roster_model::limits::MOST_LEAVES;
 use roster_problem::Leave;
 use roster_values::is_identifier;
 
-// Where the leave begins and ends, if all fields are of their forms.
+/// Where the leave begins and ends, if all fields are of their forms.
 fn formed(fields: &ByteRecord) -> Option<(Minute, Minute)>
     ensures { MatchOption result (is_formed (fields_of fields.now) ≡ false) (λ times.
         (is_formed (fields_of fields.now) ≡ true)

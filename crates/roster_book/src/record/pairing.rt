@@ -16,7 +16,7 @@ use roster_model::limits::{MOST_PAIRINGS, MOST_PENALTY};
 use roster_problem::Pairing;
 use roster_values::{Name, is_identifier};
 
-// The pairing's name, if all fields are of their forms.
+/// The pairing's name, if all fields are of their forms.
 fn formed(fields: &ByteRecord) -> Option<Name>
     ensures { MatchOption result (is_formed (fields_of fields.now) ≡ false)
         (λ id. (is_formed (fields_of fields.now) ≡ true) × (id ≡ id_in (fields_of fields.now))) }

@@ -18,7 +18,7 @@ use csv::ByteRecord;
 use roster_instants::Period;
 use roster_values::Command;
 
-// The month, or what is wrong with the record besides being given again.
+/// The month, or what is wrong with the record besides being given again.
 fn judge(fields: &ByteRecord) -> Result<Period, Code>
     ensures { Judges (first_unmet (own_conditions (fields_of fields.now)))
         (month_in (fields_of fields.now)) result }

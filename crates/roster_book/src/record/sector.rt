@@ -22,7 +22,7 @@ use roster_model::limits::MOST_SECTORS;
 use roster_problem::Sector;
 use roster_values::is_identifier;
 
-// Whether the letter is that of an operated sector, if it is that of a sector.
+/// Whether the letter is that of an operated sector, if it is that of a sector.
 fn operates(letter: &[u8]) -> Option<bool>
     ensures { result ≡ (if is_operated letter.now then Some true
         else if is_positioning letter.now then Some false else None) }
@@ -34,7 +34,7 @@ fn operates(letter: &[u8]) -> Option<bool>
     }
 }
 
-// The sector, if all fields are of their forms.
+/// The sector, if all fields are of their forms.
 fn formed(fields: &ByteRecord) -> Option<Sector>
     ensures { MatchOption result (is_formed (fields_of fields.now) ≡ false) (λ s.
         (is_formed (fields_of fields.now) ≡ true)
@@ -53,7 +53,7 @@ fn formed(fields: &ByteRecord) -> Option<Sector>
 }
 
 impl Draft {
-    // The sector that a record of one gives with the place of its duty, or what is wrong with it.
+    /// The sector that a record of one gives with the place of its duty, or what is wrong with it.
     #[tactic(auto, using(crate::proofs::SectorTable::flown_position, crate::proofs::Sound::sectors_draft), unfolding(roster_model::specs::Faults::code_of_kind, roster_model::specs::records::Sector::sector_of))]
     fn judge_sector(&self, fields: &ByteRecord) -> Result<(usize, Sector), Code>
         ensures judged { (command : Command) (row : ℕ) (before : List Record)

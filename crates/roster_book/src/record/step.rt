@@ -31,7 +31,7 @@ pub(crate) enum Move {
     Search,
 }
 
-// What the word in the second field stands for.
+/// What the word in the second field stands for.
 fn move_in(fields: &ByteRecord) -> Option<Move>
     ensures { option_map move_of result ≡ model.move_in (fields_of fields.now) }
 {
@@ -54,7 +54,7 @@ fn move_in(fields: &ByteRecord) -> Option<Move>
     None
 }
 
-// Whether it has a number besides that of its worker.
+/// Whether it has a number besides that of its worker.
 fn is_numbered(named: Move) -> bool
     ensures { result ≡ model.is_numbered (move_of named) }
 {
@@ -64,7 +64,7 @@ fn is_numbered(named: Move) -> bool
     }
 }
 
-// Whether the record has to have the fourth field.
+/// Whether the record has to have the fourth field.
 fn has_number(fields: &ByteRecord) -> bool
     ensures { result ≡ model.has_number (fields_of fields.now) }
 {
@@ -74,14 +74,14 @@ fn has_number(fields: &ByteRecord) -> bool
     }
 }
 
-// The fields that the record has to have.
+/// The fields that the record has to have.
 fn columns(fields: &ByteRecord) -> usize
     ensures { result ≡ model.columns (fields_of fields.now) }
 {
     if has_number(fields) { 4 } else { 3 }
 }
 
-// Whether the fourth field is of its form, if the record has to have it.
+/// Whether the fourth field is of its form, if the record has to have it.
 fn is_number_formed(fields: &ByteRecord) -> bool
     ensures { result ≡ (not (model.has_number (fields_of fields.now))
         || form.is_number (model.number_in (fields_of fields.now))) }
@@ -89,7 +89,7 @@ fn is_number_formed(fields: &ByteRecord) -> bool
     !has_number(fields) || is_number(field(fields, 3))
 }
 
-// The number besides the worker's, if it is within its limits; 0 if there is none.
+/// The number besides the worker's, if it is within its limits; 0 if there is none.
 fn number_besides(fields: &ByteRecord) -> Option<u32>
     ensures { result ≡ (if model.has_number (fields_of fields.now)
         then (if form.is_number (model.number_in (fields_of fields.now))
@@ -104,7 +104,7 @@ fn number_besides(fields: &ByteRecord) -> Option<u32>
     }
 }
 
-// The step with these numbers.
+/// The step with these numbers.
 fn step_by(named: Move, worker: usize, number: usize) -> Step
     ensures { step_of result ≡ model.step_by (move_of named) worker number }
 {
@@ -124,7 +124,7 @@ fn step_by(named: Move, worker: usize, number: usize) -> Step
 }
 
 impl Draft {
-    // The step that a record of one gives, or what is wrong with it.
+    /// The step that a record of one gives, or what is wrong with it.
     #[tactic(auto, unfolding(roster_model::specs::Faults::code_of_kind, roster_model::specs::records::Step::step_of))]
     fn judge_step(&self, fields: &ByteRecord) -> Result<Step, Code>
         ensures { (command : Command) (row : ℕ) (before : List Record)

@@ -15,7 +15,7 @@ use csv::ByteRecord;
 use roster_model::limits::MOST_WEIGHT;
 
 impl Draft {
-    // The weight that a record of one gives, or what is wrong with it.
+    /// The weight that a record of one gives, or what is wrong with it.
     #[tactic(auto, unfolding(roster_model::specs::Faults::code_of_kind, roster_model::specs::records::Weight::weight_of))]
     fn judge_weight(&self, fields: &ByteRecord) -> Result<u32, Code>
         ensures judged { (command : Command) (row : ℕ) (before : List Record)

@@ -5,7 +5,7 @@ ghost use Rattle.roster_model.specs.Window as window;
 
 use roster_instants::{BaseDays, Minute};
 
-// The instant at which the local day begins; after the last day, the end of the window.
+/// The instant at which the local day begins; after the last day, the end of the window.
 fn midnight(days: &BaseDays, day: usize) -> Minute
     requires { day ≤ length days.now.eight }
     ensures { result ≡ window.midnight days.now day }

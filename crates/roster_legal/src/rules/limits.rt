@@ -20,6 +20,7 @@ impl<'a> JudgedSet<'a> {
         ensures no { result ≡ false → ¬ IsLegalNext self.now p }
     {
         let loads = self.loads;
+        // The loads are those of the problem that the contract speaks of.
         let _ = loads.problem();
         self.depth < 2 || have_room(&self.rooms, loads.load(p))
     }
