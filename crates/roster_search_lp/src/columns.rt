@@ -1,52 +1,11 @@
 //! Columns of a linear program.
 
+use crate::column::{Column, Count, Kind, NOWHERE};
 use crate::inverse::number_at;
 use crate::marking::{Allowed, Marks};
 use roster_model::limits::MOST_PAIRINGS;
 use roster_values::Set;
 use std::alloc::{AllocError, Global};
-
-/// The row of a column that isn't basic.
-pub(crate) const NOWHERE: usize = usize::MAX;
-
-/// What it is to use a column.
-#[derive(Clone, Copy)]
-pub(crate) enum Kind {
-    /// This person has the line.
-    Line(usize),
-    /// The pairing at this place is left open.
-    Open(usize),
-    /// Fewer pairings are open than a row counts.
-    Fewer(Count),
-    /// More pairings are open than a row counts.
-    More(Count),
-}
-
-/// Which count of open pairings a row has.
-#[derive(Clone, Copy)]
-pub(crate) enum Count {
-    /// How many are open at least.
-    Least,
-    /// How many are open at most.
-    Most,
-}
-
-/// A column of ones, or of minus ones.
-#[derive(Clone, Copy)]
-pub(crate) struct Column {
-    pub(crate) kind: Kind,
-    /// In parts of a cost unit.
-    pub(crate) cost: i64,
-    /// The row where it is basic, or `NOWHERE`.
-    pub(crate) row: usize,
-    /// Whether it may not be used.
-    pub(crate) is_forbidden: bool,
-    // Whether it has minus ones.
-    is_negative: bool,
-    // Where its rows stand in the list of all columns' rows.
-    first: usize,
-    end: usize,
-}
 
 /// A column that may be used, and where its ones or minus ones stand in the list of all columns' rows: to
 /// look at many takes little memory.
@@ -56,24 +15,6 @@ pub(crate) struct Usable {
     pub(crate) is_negative: bool,
     first: usize,
     end: usize,
-}
-
-impl Column {
-    /// The person whose line it is, if it is one.
-    pub(crate) fn person(&self) -> Option<usize> {
-        match self.kind {
-            Kind::Line(k) => Some(k),
-            _ => None,
-        }
-    }
-
-    /// Whether it is a line of person `k`.
-    pub(crate) fn is_line_of(&self, k: usize) -> bool {
-        match self.kind {
-            Kind::Line(person) => person == k,
-            _ => false,
-        }
-    }
 }
 
 /// Columns, and the rows in which they have ones. What each step looks at takes little memory.
@@ -90,7 +31,7 @@ pub(crate) struct Columns {
 }
 
 impl Columns {
-    // No columns.
+    /// No columns.
     fn new(alloc: Global) -> Columns {
         Columns {
             list: Vec::new(alloc),
@@ -146,7 +87,7 @@ impl Columns {
         self.add(Kind::Line(k), *set, first, cost, false)
     }
 
-    // Adds the column of an open pairing, which has ones in these rows.
+    /// Adds the column of an open pairing, which has ones in these rows.
     fn add_open(&mut self, p: usize, rows: [usize; 3], penalty: i64) -> Result<(), AllocError> {
         let first = self.ones.len();
         for row in rows {
@@ -155,7 +96,7 @@ impl Columns {
         self.add(Kind::Open(p), Set::empty(), first, penalty, false)
     }
 
-    // Adds the column of fewer open pairings than a row counts, or that of more.
+    /// Adds the column of fewer open pairings than a row counts, or that of more.
     fn add_slack(&mut self, count: Count, row: usize, is_more: bool) -> Result<(), AllocError> {
         let first = self.ones.len();
         self.ones.push(short(row))?;
@@ -167,7 +108,7 @@ impl Columns {
         self.add(kind, Set::empty(), first, 0, is_more)
     }
 
-    // Adds a column whose ones are the last ones from a place on.
+    /// Adds a column whose ones are the last ones from a place on.
     fn add(
         &mut self,
         kind: Kind,
@@ -342,7 +283,7 @@ impl Columns {
         Ok(columns)
     }
 
-    // Takes over a column of these pairings, with these ones.
+    /// Takes over a column of these pairings, with these ones.
     fn take(&mut self, column: &Column, set: &Set, ones: &[u16]) -> Result<(), AllocError> {
         let first = self.ones.len();
         self.ones.extend_from_slice(ones)?;

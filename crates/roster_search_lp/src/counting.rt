@@ -1,6 +1,6 @@
 //! How many pairings are open.
 
-use crate::columns::{Count, NOWHERE};
+use crate::column::{Count, NOWHERE};
 use crate::right::whole_number;
 use crate::simplex::Simplex;
 use std::alloc::AllocError;
@@ -15,7 +15,7 @@ impl Simplex {
         }
     }
 
-    // The column of fewer open pairings than a count, or of more.
+    /// The column of fewer open pairings than a count, or of more.
     fn slack(&self, count: Count, is_more: bool) -> usize {
         let fewer = self.count_row(count);
         if is_more {
@@ -50,7 +50,7 @@ impl Simplex {
         Ok(())
     }
 
-    // Has a row count so many open pairings.
+    /// Has a row count so many open pairings.
     fn put_count(&mut self, count: Count, number: usize) -> Result<(), AllocError> {
         let number = number.min(self.pairings);
         let old = self.count(count);
@@ -80,7 +80,7 @@ impl Simplex {
         self.mend_count(count, row)
     }
 
-    // The number of a count.
+    /// The number of a count.
     fn count(&self, count: Count) -> usize {
         match count {
             Count::Least => self.counts[0],
@@ -88,7 +88,7 @@ impl Simplex {
         }
     }
 
-    // The row in which one of the columns of a count is basic; if none is, one enters.
+    /// The row in which one of the columns of a count is basic; if none is, one enters.
     fn free_row(&mut self, count: Count) -> Result<Option<usize>, AllocError> {
         for is_more in [true, false] {
             let row = self.row_of_column(self.slack(count, is_more));
@@ -106,7 +106,7 @@ impl Simplex {
         Ok(None)
     }
 
-    // The row in which column `c` is basic, or `NOWHERE`.
+    /// The row in which column `c` is basic, or `NOWHERE`.
     fn row_of_column(&self, c: usize) -> usize {
         match self.columns.column(c) {
             Some(column) => column.row,

@@ -1,6 +1,7 @@
 //! Steps of the dual simplex method, by which columns leave the basis that may not be used.
 
-use crate::columns::{NOWHERE, Usable};
+use crate::column::NOWHERE;
+use crate::columns::Usable;
 use crate::fixed::{WHOLE, part_of, times};
 use crate::inverse::{entry, is_less, number_at};
 use crate::simplex::{Simplex, place_at};
@@ -108,7 +109,7 @@ impl Simplex {
         Ok(true)
     }
 
-    // Takes note of the basis, with an inverse of few pivots.
+    /// Takes note of the basis, with an inverse of few pivots.
     fn keep(&mut self) -> Result<(), AllocError> {
         if self.pivots > MOST_PIVOTS_KEPT {
             self.renew()?;
@@ -141,7 +142,7 @@ impl Simplex {
         Ok(())
     }
 
-    // Steps until what is used may be used.
+    /// Steps until what is used may be used.
     fn drive(&mut self, most: usize) -> Result<Driven, AllocError> {
         self.dual.weights.fill(ONE_WEIGHT);
         self.columns.put_usable(&mut self.dual.usable)?;
@@ -160,7 +161,7 @@ impl Simplex {
         Ok(Driven::Long)
     }
 
-    // The row that is best put right first: where much is wrong, and little moves with it.
+    /// The row that is best put right first: where much is wrong, and little moves with it.
     fn worst(&self) -> Option<Wrong> {
         let mut worst = None;
         let mut most = 0;
@@ -181,7 +182,7 @@ impl Simplex {
         worst
     }
 
-    // The column of the row leaves the basis. False if no other can take its place.
+    /// The column of the row leaves the basis. False if no other can take its place.
     fn drive_out(&mut self, wrong: Wrong) -> Result<bool, AllocError> {
         let Some(c) = self.entering(wrong) else {
             return Ok(false);
@@ -198,9 +199,9 @@ impl Simplex {
         Ok(true)
     }
 
-    // Has nothing used of the row's column, if that is as little as the sides of rows differ by chance. Then
-    // the same columns fill several rows, which can't all have a little more than a whole. False if it is
-    // much.
+    /// Has nothing used of the row's column, if that is as little as the sides of rows differ by chance. Then
+    /// the same columns fill several rows, which can't all have a little more than a whole. False if it is
+    /// much.
     fn excuse(&mut self, wrong: Wrong) -> bool {
         let amount = self.inverse.amount(wrong.row);
         if amount.unsigned_abs() > LEAST_USED.unsigned_abs() {
@@ -210,7 +211,7 @@ impl Simplex {
         true
     }
 
-    // The column that takes the place of the one of a row, if there is one: with it the duals move least.
+    /// The column that takes the place of the one of a row, if there is one: with it the duals move least.
     fn entering(&self, wrong: Wrong) -> Option<usize> {
         let cells = self.inverse.row(wrong.row);
         let mut best = None;
@@ -234,7 +235,7 @@ impl Simplex {
         best.filter(|c| !self.columns.is_basic(*c))
     }
 
-    // Weighs the rows anew, as the column that was looked at enters in one of them.
+    /// Weighs the rows anew, as the column that was looked at enters in one of them.
     fn weigh(&mut self, row: usize) {
         let factor = part_of(WHOLE, self.inverse.image_at(row));
         let own = weight_at(&self.dual.weights, row);
@@ -249,8 +250,8 @@ impl Simplex {
         }
     }
 
-    // Moves the duals so far along a row that what they pay is as much as a solution may cost: nothing that
-    // may be used takes the place of the row's column, so they pay for nothing too much.
+    /// Moves the duals so far along a row that what they pay is as much as a solution may cost: nothing that
+    /// may be used takes the place of the row's column, so they pay for nothing too much.
     fn lean(&mut self, wrong: Wrong) {
         let far = self.columns.greatest().saturating_mul(FORBIDDEN_FACTOR);
         let lack = self.dual.limit.saturating_sub(self.value());

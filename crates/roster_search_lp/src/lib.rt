@@ -16,7 +16,8 @@
 //! - `right`: right-hand sides
 //! - `inverse`: the inverse of a basis
 //! - `person_sets`: which lines of a person there are
-//! - `columns`: columns
+//! - `column`: a column
+//! - `columns`: all columns, and the rows in which they have ones
 //! - `simplex`: from one basis to the next
 //! - `dual_steps`: how columns leave the basis that may not be used
 //! - `renewing`: the inverse of a basis made anew
@@ -26,6 +27,7 @@
 //! - `master`: the program, as other crates see it
 #![tactic(auto)]
 
+mod column;
 mod columns;
 mod counting;
 mod dual_steps;

@@ -2,7 +2,7 @@
 
 ghost use Rattle.std.specs.Prelude.{◌≡◌};
 
-use crate::columns::{Column, Kind};
+use crate::column::{Column, Kind};
 use crate::master::Master;
 use roster_model::limits::MOST_PAIRINGS;
 use roster_values::Set;
@@ -130,7 +130,7 @@ impl Marks {
 }
 
 impl PersonMarks {
-    // What these sets say, in a program of so many pairings.
+    /// What these sets say, in a program of so many pairings.
     fn new(allowed: &Allowed, left_open: &Set, pairings: usize) -> PersonMarks {
         let mut barred = *left_open;
         for p in 0..pairings.min(MOST_PAIRINGS) {
@@ -146,12 +146,12 @@ impl PersonMarks {
         }
     }
 
-    // Whether they are what these sets say.
+    /// Whether they are what these sets say.
     fn are_of(&self, allowed: &Allowed) -> bool {
         self.allowed.possible == allowed.possible && self.allowed.certain == allowed.certain
     }
 
-    // Whether the person may have the line of these pairings.
+    /// Whether the person may have the line of these pairings.
     fn allow(&self, set: &Set) -> bool {
         let certain = &self.allowed.certain;
         !set.meets(&self.barred) && (!self.has_certain || set.and(certain) == *certain)

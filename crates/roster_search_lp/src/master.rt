@@ -171,7 +171,7 @@ impl Master {
         Ok(())
     }
 
-    // Takes over the dual prices of the pairings' rows.
+    /// Takes over the dual prices of the pairings' rows.
     fn take_prices(&mut self)
         ensures lines { self.new.lines ≡ self.old.lines }
         ensures prices { length self.new.prices ≡ length self.old.prices }

@@ -1,6 +1,6 @@
 //! The inverse of a basis made anew.
 
-use crate::columns::{Count, NOWHERE};
+use crate::column::{Count, NOWHERE};
 use crate::simplex::{Simplex, place_at};
 use crate::tuning::LEAST_USED;
 use std::alloc::AllocError;
@@ -33,7 +33,7 @@ impl Simplex {
         Ok(())
     }
 
-    // Begins with unit columns, none of which is one of the program's yet.
+    /// Begins with unit columns, none of which is one of the program's yet.
     fn clear(&mut self) {
         self.inverse.begin(&self.right);
         self.pivots = 0;
@@ -43,7 +43,7 @@ impl Simplex {
         }
     }
 
-    // Column `c` is basic in a row, which is taken.
+    /// Column `c` is basic in a row, which is taken.
     fn settle(&mut self, row: usize, c: usize) {
         if row < self.basis.len() && row < self.taken.len() {
             self.basis[row] = c;
@@ -52,7 +52,7 @@ impl Simplex {
         }
     }
 
-    // Makes column `c` basic in a row that isn't taken.
+    /// Makes column `c` basic in a row that isn't taken.
     fn put_back(&mut self, c: usize) -> Result<(), AllocError> {
         self.look(c);
         let Some(row) = self.inverse.strongest(&self.taken) else {

@@ -1,6 +1,7 @@
 //! The simplex method, from one basis to the next.
 
-use crate::columns::{Columns, Count, NOWHERE};
+use crate::column::{Count, NOWHERE};
+use crate::columns::Columns;
 use crate::dual_steps::DualSteps;
 use crate::inverse::{Inverse, number_at};
 use crate::marking::Allowed;
@@ -213,7 +214,7 @@ impl Simplex {
         }
     }
 
-    // What it costs more to use a forbidden column.
+    /// What it costs more to use a forbidden column.
     fn forbidden_cost(&self) -> i64 {
         let Some(raises) = self.raises.checked_sub(1) else {
             return 0;
@@ -223,7 +224,7 @@ impl Simplex {
         raised.min(1 << 62) as i64
     }
 
-    // How much cheaper than its price a column must be to enter.
+    /// How much cheaper than its price a column must be to enter.
     fn tolerance(&self) -> i64 {
         let least = i64::from(self.scale) / TOLERANCE_PART;
         least.max(self.forbidden_cost() >> 34).max(1)
@@ -284,7 +285,7 @@ impl Simplex {
             .saturating_add(more.saturating_mul(2))
     }
 
-    // Chooses the columns that cost least beside what is paid for them.
+    /// Chooses the columns that cost least beside what is paid for them.
     fn choose(&mut self) -> Result<(), AllocError> {
         let tolerance = self.tolerance();
         self.columns
@@ -297,8 +298,8 @@ impl Simplex {
         Ok(())
     }
 
-    // Enters the chosen columns that still cost less than is paid for them, but so many at most. It tells how
-    // many it entered.
+    /// Enters the chosen columns that still cost less than is paid for them, but so many at most. It tells how
+    /// many it entered.
     fn enter_candidates(&mut self, most: usize) -> Result<usize, AllocError> {
         let tolerance = self.tolerance();
         let mut made: usize = 0;

@@ -68,7 +68,7 @@ impl Ascent {
         Ok(self.noted(problem, region, room, turn))
     }
 
-    // Looks at all lines by so many threads, and lists those within the reach if there is one.
+    /// Looks at all lines by so many threads, and lists those within the reach if there is one.
     fn look_whole_by_threads<R: Threads + Sync>(
         &mut self,
         rt: &R,
@@ -94,7 +94,7 @@ impl Ascent {
         self.gather()
     }
 
-    // Puts together what threads have looked at.
+    /// Puts together what threads have looked at.
     fn gather(&mut self) -> Result<(), AllocError> {
         self.look.clear(self.scope.pairings());
         for i in 0..self.looks.len() {
@@ -106,7 +106,7 @@ impl Ascent {
         self.look.whole()
     }
 
-    // Looks at all lines, and lists those within the reach if there is one.
+    /// Looks at all lines, and lists those within the reach if there is one.
     fn look_whole(
         &mut self,
         alloc: Global,
@@ -125,7 +125,7 @@ impl Ascent {
         self.look.whole()
     }
 
-    // Looks at a sample or at near lines, if it isn't time to look at all.
+    /// Looks at a sample or at near lines, if it isn't time to look at all.
     fn looks_near(
         &mut self,
         alloc: Global,
@@ -151,11 +151,11 @@ impl Ascent {
         self.near.count_look();
         let bound = self.near_bound(problem, region)?;
         let bound = self.bound_with(problem, region, bound);
-        let _worth = self.is_worth_fixing(bound, room);
+        self.note(bound, room);
         Ok(true)
     }
 
-    // Looks at lines that are listed, and tells what persons add.
+    /// Looks at lines that are listed, and tells what persons add.
     fn near_bound(&mut self, problem: &Problem, region: &Region) -> Result<i64, AllocError>
         requires { IsRegion problem.now region.now }
     {
@@ -165,12 +165,12 @@ impl Ascent {
         Ok(self.look.bound())
     }
 
-    // The bound, if persons add so much.
+    /// The bound, if persons add so much.
     fn bound_with(&self, problem: &Problem, region: &Region, values: i64) -> i64 {
         self.scope.bound(problem, region, self.now.prices(), values)
     }
 
-    // Begins a look at all lines.
+    /// Begins a look at all lines.
     fn turn(
         &mut self,
         alloc: Global,
@@ -204,7 +204,7 @@ impl Ascent {
         Ok(turn)
     }
 
-    // Takes note of a look at all lines, and says whether it is worth to fix.
+    /// Takes note of a look at all lines, and says whether it is worth to fix.
     fn noted(&mut self, problem: &Problem, region: &Region, room: i64, turn: Turn) -> bool {
         self.full = true;
         if turn.reach.is_some() {
@@ -229,10 +229,12 @@ impl Ascent {
             self.go_back();
             return false;
         }
-        self.is_worth_fixing(bound, room)
+        let is_worth = self.is_worth_fixing(bound, room);
+        self.note(bound, room);
+        is_worth
     }
 
-    // Goes back to where it was before steps that led astray.
+    /// Goes back to where it was before steps that led astray.
     fn go_back(&mut self) {
         self.now.take(&self.sure.prices);
         self.sure.forget();
@@ -240,29 +242,30 @@ impl Ascent {
         self.stays = true;
     }
 
-    // Takes note of the bound at the prices.
-    fn is_worth_fixing(&mut self, bound: i64, room: i64) -> bool {
-        if bound <= self.best.bound {
-            self.stalled = self.stalled.saturating_add(1);
-            return false;
+    /// Whether lines are left out at the prices: their bound is the best, and is beyond the room or rose well.
+    fn is_worth_fixing(&self, bound: i64, room: i64) -> bool {
+        bound > self.best.bound && (bound > room || self.rose_well(bound, room))
+    }
+
+    /// Takes note of the bound at the prices.
+    fn note(&mut self, bound: i64, room: i64) {
+        if self.is_worth_fixing(bound, room) {
+            self.fixed = Some(bound);
         }
         let rise = bound.saturating_sub(self.best.bound);
         let fair = rise.saturating_mul(FAIR_RISE) >= room.saturating_sub(self.best.bound);
-        self.stalled = if fair {
+        self.stalled = if rise > 0 && fair {
             0
         } else {
             self.stalled.saturating_add(1)
         };
-        self.best.take(&self.now, bound);
-        if bound <= room && !self.rose_well(bound, room) {
-            return false;
+        if rise > 0 {
+            self.best.take(&self.now, bound);
         }
-        self.fixed = Some(bound);
-        true
     }
 
-    // Whether the bound has risen well since lines were left out. If none were yet, prices at a node tell
-    // enough, since they are those of the node above; at a root they tell little.
+    /// Whether the bound has risen well since lines were left out. If none were yet, prices at a node tell
+    /// enough, since they are those of the node above; at a root they tell little.
     fn rose_well(&self, bound: i64, room: i64) -> bool {
         let Some(fixed) = self.fixed else {
             return !self.is_root && self.is_some_line_beyond(room.saturating_sub(bound));
@@ -271,8 +274,8 @@ impl Ascent {
         rise.saturating_mul(FIXING_RISE) > room.saturating_sub(fixed)
     }
 
-    // Whether some line is further from the least of its person than the gap, or lines are so few that it
-    // doesn't matter.
+    /// Whether some line is further from the least of its person than the gap, or lines are so few that it
+    /// doesn't matter.
     fn is_some_line_beyond(&self, gap: i64) -> bool {
         self.scope.lines() < FEW_LINES_AT_A_NODE || self.look.spread() > gap
     }

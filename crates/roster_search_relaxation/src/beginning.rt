@@ -57,7 +57,7 @@ impl Relaxation {
         Ok(())
     }
 
-    // The person of a row, or nobody past the last.
+    /// The person of a row, or nobody past the last.
     fn person(&self, row: usize) -> usize {
         if row < self.persons.len() {
             self.persons[row]
@@ -66,7 +66,7 @@ impl Relaxation {
         }
     }
 
-    // Takes and uses person `k`'s line of these pairings, if the region has it. The person has this row.
+    /// Takes and uses person `k`'s line of these pairings, if the region has it. The person has this row.
     fn take_line(
         &mut self,
         region: &Region,
@@ -87,7 +87,7 @@ impl Relaxation {
         Ok(())
     }
 
-    // The rows of the pairings of a set, as far as they have rows.
+    /// The rows of the pairings of a set, as far as they have rows.
     fn set_in_rows(&self, set: &Set) -> Set {
         let mut mapped = Set::empty();
         for p in &self.pairings {
@@ -122,7 +122,7 @@ impl Relaxation {
     }
 
     /// Takes note of which lines the region allows.
-    pub fn mark(&mut self, problem: &Problem, region: &Region) -> Result<(), AllocError>
+    pub(crate) fn mark(&mut self, problem: &Problem, region: &Region) -> Result<(), AllocError>
         requires { IsRegion problem.now region.now }
     {
         self.allowed.clear();

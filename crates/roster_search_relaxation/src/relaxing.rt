@@ -47,7 +47,7 @@ impl Relaxation {
         Ok(())
     }
 
-    // How many lines the region has, those on the way to others included.
+    /// How many lines the region has, those on the way to others included.
     fn lines(&self, problem: &Problem, region: &Region) -> usize
         requires { IsRegion problem.now region.now }
     {
@@ -80,7 +80,7 @@ impl Relaxation {
 
     /// How large a part of the last solution it is to leave the pairing at place `p` open, in thousandths;
     /// all of it if the pairing has no row, since nobody can have it.
-    pub fn open_share(&self, p: usize) -> u32 {
+    pub(crate) fn open_share(&self, p: usize) -> u32 {
         match self.row_of(p) {
             Some(row) => self.master.open_share(row),
             None => 1000,
@@ -88,24 +88,13 @@ impl Relaxation {
     }
 
     /// How many pairings with rows the last solution leaves open, in thousandths.
-    pub fn open_count(&self) -> u64 {
+    pub(crate) fn open_count(&self) -> u64 {
         self.master.open_count()
     }
 
     /// How many pairings have no row: all of them are open.
-    pub fn never_held(&self) -> usize {
+    pub(crate) fn never_held(&self) -> usize {
         self.rows.len().saturating_sub(self.pairings.len())
-    }
-
-    /// Has at least so many of the pairings with rows open, and at most so many, from the next solution on.
-    pub fn count_open(&mut self, least: usize, most: usize) -> Result<(), AllocError> {
-        self.master.count_open(least, most)
-    }
-
-    /// What one open pairing more is paid by the last solution, since so many must be open, or costs, since
-    /// no more may be: in parts of a cost unit.
-    pub fn count_dual(&self) -> i64 {
-        self.master.count_dual()
     }
 
     /// How much work it was: how many columns have entered the basis.
