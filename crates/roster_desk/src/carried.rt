@@ -1,10 +1,10 @@
 //! What is carried into the next month: the files that it takes, and those that get it.
 
-use crate::inputs::STANDARD_INPUT;
 use crate::tables::{Found, find_table};
 use roster_desk_answers::CarryFiles;
 use roster_desk_arguments::CarryLine;
 use roster_desk_folder::TableFile;
+use roster_desk_program::STANDARD_INPUT;
 use roster_desk_sheets::Table;
 use std::alloc::AllocError;
 use std::fs;

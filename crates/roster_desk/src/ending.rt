@@ -1,8 +1,9 @@
 //! How a run ends: what standard error is told, and the exit status.
 
-use crate::inputs::{InputFault, STANDARD_INPUT};
+use crate::inputs::InputFault;
 use roster_desk_answers::Untold;
 use roster_desk_given::Unknown;
+use roster_desk_program::STANDARD_INPUT;
 use roster_desk_run::Status;
 use std::process::ExitCode;
 use std::str;

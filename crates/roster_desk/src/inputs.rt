@@ -2,16 +2,11 @@
 
 use roster_desk_answers::{FileRead, Inputs};
 use roster_desk_arguments::{Question, TellLine};
+use roster_desk_program::{MOST_REPORT_BYTES, STANDARD_INPUT};
 use std::alloc::Global;
 use std::fs::File;
 use std::io;
 use std::io::Read;
-
-/// The path that stands for standard input.
-pub(crate) const STANDARD_INPUT: &str = "-";
-
-/// No report has so many bytes.
-const MOST_REPORT_BYTES: u64 = 1 << 20;
 
 /// Why an input wasn't read.
 #[derive(Clone, Copy)]

@@ -2,11 +2,12 @@
 
 use crate::carried::{carry_shares_input, is_into_nothing, put_files, read_carry_files};
 use crate::ending::{LINE_REFUSED, ended, inputs_shared, tell_text, unread_input, untold_ended};
-use crate::inputs::{STANDARD_INPUT, read_book_at, read_report_at};
+use crate::inputs::{read_book_at, read_report_at};
 use crate::tables::read_files;
 use roster_desk_answers::{CarryFiles, carry_on, mend, write_book};
 use roster_desk_arguments::{BookLine, CarryLine, RepairLine};
 use roster_desk_folder::TableFile;
+use roster_desk_program::STANDARD_INPUT;
 use roster_desk_run::Status;
 use roster_watched::Watched;
 use std::io;

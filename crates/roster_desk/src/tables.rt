@@ -16,7 +16,7 @@ const ZONES: &str = "/usr/share/zoneinfo";
 const END: &[u8] = b".csv";
 
 /// No zone file has so many bytes.
-const MOST_ZONE_BYTES: u64 = 1 << 20;
+const MOST_ZONE_FILE_BYTES: u64 = 1 << 20;
 
 /// What has come of reading the file of a table.
 #[derive(Drop)]
@@ -75,7 +75,7 @@ fn read_zone_file(rt: &HostRuntime, name: &str) -> Result<Option<Vec<u8>>, Alloc
         Err(error) if error.kind() == io::ErrorKind::OutOfMemory => return Err(AllocError),
         Err(_) => return Ok(None),
     };
-    match all_of(rt.alloc(), file.take(MOST_ZONE_BYTES), path.as_str()) {
+    match all_of(rt.alloc(), file.take(MOST_ZONE_FILE_BYTES), path.as_str()) {
         Ok(bytes) => Ok(Some(bytes)),
         Err(InputFault::Memory) => Err(AllocError),
         Err(_) => Ok(None),

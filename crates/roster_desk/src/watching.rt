@@ -37,7 +37,7 @@ impl<'a> Companion<'a> {
         }
     }
 
-    // The whole seconds since the plan was begun.
+    /// The whole seconds since the plan was begun.
     fn seconds(&self) -> u64 {
         match &self.begun {
             Some(begun) => begun.elapsed(self.rt).map_or(0, |time| time.as_secs()),
@@ -45,7 +45,7 @@ impl<'a> Companion<'a> {
         }
     }
 
-    // A line, if its numbers are new. One of a new cost is told at once, and others at most once a second.
+    /// A line, if its numbers are new. One of a new cost is told at once, and others at most once a second.
     fn line(&mut self, text: String, seconds: u64, cost: i64, bound: i64) {
         if self.known == Some((cost, bound)) {
             return;
@@ -58,7 +58,7 @@ impl<'a> Companion<'a> {
         }
     }
 
-    // Tells the line that isn't told yet, if one isn't.
+    /// Tells the line that isn't told yet, if one isn't.
     fn tell_waiting(&mut self) {
         if let Some(text) = self.waiting.take() {
             let rt = self.rt;

@@ -6,13 +6,10 @@ ghost use Rattle.roster_model.specs.Faults.{first_fault};
 ghost use Rattle.roster_model.specs.Record.{Check};
 
 use crate::draft::{Drafted, Origin};
-use roster_desk_fault::{Fault, Judged, judge};
+use roster_desk_fault::{Fault, Judged, MOST_TOLD, judge};
 use roster_desk_folder::Sheets;
 use roster_desk_sheets::{Column, Mistakes, Place, Table};
 use std::alloc::{AllocError, Global};
-
-/// How many faults of records are told, at most.
-const MOST_TOLD: usize = 20;
 
 /// The codes that a record may have for want of another one, whose row has a mistake, or since there are
 /// too many.

@@ -79,11 +79,21 @@ fn find_unknown_kind(alloc: Global, seen: Seen<'_>) -> Result<Finding, AllocErro
     if word == b"step".as_slice() {
         return Finding::plain(alloc, 0, "no step: only a replay reads one");
     }
-    Finding::plain(
-        alloc,
-        0,
-        "period, weight, base, crew, pairing, duty, sector, leave, cost or assign",
-    )
+    Finding::plain(alloc, 0, all_words(alloc)?.as_str())
+}
+
+/// The words of all kinds of a check: `period, weight, .. or assign`.
+fn all_words(alloc: Global) -> Result<String, AllocError> {
+    let mut words = String::new(alloc);
+    for (at, kind) in Kind::ALL.iter().enumerate() {
+        if at + 1 == Kind::ALL.len() {
+            words.push_str(" or ")?;
+        } else if at > 0 {
+            words.push_str(", ")?;
+        }
+        words.push_str(kind.word())?;
+    }
+    Ok(words)
 }
 
 /// What is asked of a field by itself.

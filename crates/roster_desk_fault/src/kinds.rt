@@ -1,8 +1,9 @@
 //! The kinds of records, and the names and forms of their fields.
 
-ghost use Rattle.std.specs.Prelude.{◌≡◌};
-ghost use Rattle.roster_model.specs.Record.{word_of};
+ghost use Rattle.std.specs.Prelude.{◌≡◌, map};
+ghost use Rattle.roster_model.specs.Record.{kinds_of, word_of, Check};
 ghost use Rattle.roster_desk_fault.specs.Kinds.{kind_of, most_of};
+ghost use Rattle.roster_desk_fault.specs.declared.kinds.TheConstants.Kind.{ALL};
 
 use roster_model::limits::{
     MOST_BASES, MOST_COSTS, MOST_DUTIES, MOST_LEAVES, MOST_MINUTES, MOST_PAIRINGS, MOST_PENALTY,
@@ -175,7 +176,7 @@ const ASSIGN: Shape = Shape {
 
 impl Kind {
     /// All kinds that a book for a check may have, in the order in which a book is told.
-    pub(crate) const ALL: [Kind; 10] = [
+    pub const ALL: [Kind; 10] = [
         Kind::Period,
         Kind::Weight,
         Kind::Base,
@@ -256,3 +257,8 @@ impl Kind {
         Some(self.field(i)?.1)
     }
 }
+
+/// `Kind::ALL` has each kind that a book for a check may have once, in the order of the definitions.
+pub fn kinds_in_order()
+    ensures { map kind_of ALL ≡ kinds_of Check }
+{}

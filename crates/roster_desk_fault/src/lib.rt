@@ -49,6 +49,6 @@ mod warning_text;
 mod zones;
 
 pub use judging::{Fault, Judged, judge};
-pub use kinds::Kind;
-pub use telling::fault_text;
+pub use kinds::{Kind, kinds_in_order};
+pub use telling::{MOST_TOLD, fault_text};
 pub use warning_text::warn_text;

@@ -25,7 +25,7 @@ use roster_problem::Problem;
 use std::alloc::{AllocError, Global};
 
 /// How many faults are told, at most.
-pub(crate) const MOST_TOLD: usize = 20;
+pub const MOST_TOLD: usize = 20;
 
 /// Appends a line of a label and a text.
 fn push_line(out: &mut Vec<u8>, label: &[u8], text: &[u8]) -> Result<(), AllocError> {

@@ -24,7 +24,7 @@ mod telling;
 pub use asking::{asked, unread_words};
 pub use commanding::program;
 pub use ending::Ending;
-pub use files::{Files, STANDARD_INPUT, Shelf};
+pub use files::{Files, MOST_REPORT_BYTES, STANDARD_INPUT, Shelf};
 pub use keeping::Keeping;
 pub use means::means_of;
 pub use planning::plan_line;

@@ -2,8 +2,8 @@
 
 use crate::parts::PARTS;
 use crate::tuning::{
-    DIVE_SOFTNESS, DIVE_STEPS, DIVE_STRIDE, FEWEST_STEPS, FIRST_SOFTNESS, FIRST_STRIDE,
-    LEAST_STRIDE, MOST_LACKING, MOST_STEPS, MOST_STRIDE, SOFTEST_LATE, STRIDES_OF_UNITS,
+    DIVE_SOFTNESS, DIVE_STEPS, DIVE_STRIDE, FEWEST_PRICE_STEPS, FIRST_SOFTNESS, FIRST_STRIDE,
+    LEAST_STRIDE, MOST_LACKING, MOST_PRICE_STEPS, MOST_STRIDE, SOFTEST_LATE, STRIDES_OF_UNITS,
 };
 
 /// So much more is little, in parts of a cost unit.
@@ -27,7 +27,7 @@ impl Pace {
         Pace {
             stride: FIRST_STRIDE.wrapping_mul(dear),
             softness: FIRST_SOFTNESS.wrapping_mul(dear),
-            steps: FEWEST_STEPS,
+            steps: FEWEST_PRICE_STEPS,
             dear,
             run: 0,
         }
@@ -70,7 +70,7 @@ impl Pace {
         let most = FIRST_SOFTNESS.wrapping_mul(self.dear);
         Pace {
             softness: (self.softness.wrapping_mul(3) / 2).min(most),
-            steps: (self.steps.wrapping_mul(2) / 3).max(FEWEST_STEPS),
+            steps: (self.steps.wrapping_mul(2) / 3).max(FEWEST_PRICE_STEPS),
             ..self
         }
     }
@@ -79,7 +79,7 @@ impl Pace {
     fn harder(self) -> Pace {
         Pace {
             softness: (self.softness.wrapping_mul(3) / 10).max(SOFTEST_LATE),
-            steps: (self.steps.wrapping_mul(3) / 2).min(MOST_STEPS),
+            steps: (self.steps.wrapping_mul(3) / 2).min(MOST_PRICE_STEPS),
             ..self
         }
     }

@@ -26,9 +26,9 @@ pub(crate) const COLUMNS_FOR_A_THREAD: usize = 2000;
 
 /// How often prices move by the columns before they are looked at again, at least and at most: more often if
 /// the looks before said little.
-pub(crate) const FEWEST_STEPS: u32 = 300;
+pub(crate) const FEWEST_PRICE_STEPS: u32 = 300;
 
-pub(crate) const MOST_STEPS: u32 = 1600;
+pub(crate) const MOST_PRICE_STEPS: u32 = 1600;
 
 /// How often columns are chosen anew that are near enough to the least to move prices.
 pub(crate) const STEPS_A_CHOICE: u32 = 30;
