@@ -1,6 +1,6 @@
 //! What is answered to a book: its first fault, or its best roster of all, or what a check says of its own.
 
-ghost use Rattle.std.specs.Prelude.{◌≡◌, ◌≤◌, [], All, IfErr, IfOk, length};
+ghost use Rattle.std.specs.Prelude.{◌≡◌, ◌≤◌, ℕ, List, [], All, IfErr, IfOk, length};
 ghost use Rattle.roster_model.specs.Answer.{IsAnswer, records_of};
 ghost use Rattle.roster_model.specs.Costs.{cost_of};
 ghost use Rattle.roster_model.specs.Record.{Solve};
@@ -10,6 +10,7 @@ ghost use Rattle.roster_book.specs.Reading.{IsBookOf, TellsFirst};
 ghost use Rattle.roster_cli_run.specs.Run.{IsProblemAnswer};
 
 use roster_book::{Book, BookFault, Code, read_book};
+use roster_cli_run::one_answer;
 use roster_lines::{TableFault, table_of};
 use roster_lines_table::nobody_is_crowded;
 use roster_problem::Problem;
@@ -19,11 +20,21 @@ use roster_values::{Command, Roster};
 use roster_watched::Watched;
 use std::alloc::Global;
 
-/// The text that answers the book in the bytes.
+/// The text that answers the book in the bytes, and the only one.
 ///
 /// It tries every roster in which each person has one of their legal sets, so it serves only small books.
-/// Where it answers, there is an answer, and it is this one.
 pub fn answer(alloc: Global, command: Command, bytes: &[u8]) -> Result<Vec<u8>, TextFault>
+    ensures is { IfOk result (λ text. IsAnswer (command_of command) (records_of bytes.now) text.items) }
+    ensures only { IfOk result (λ text. (other : List ℕ)
+        → IsAnswer (command_of command) (records_of bytes.now) other → other ≡ text.items) }
+{
+    one_answer();
+    let text = some_answer(alloc, command, bytes)?;
+    Ok(text)
+}
+
+/// A text that answers the book in the bytes.
+fn some_answer(alloc: Global, command: Command, bytes: &[u8]) -> Result<Vec<u8>, TextFault>
     ensures { IfOk result (λ text. IsAnswer (command_of command) (records_of bytes.now) text.items) }
 {
     match read(alloc, command, bytes) {
