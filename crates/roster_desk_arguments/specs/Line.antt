@@ -1,7 +1,8 @@
 -- What the words of the desk's command line ask for.
-use Rattle.std.specs.Prelude.{◌≡◌, ◌≢◌, ⊤, Bool, ℕ, List, [], Some, None, codes, map, option_map, true, false, unwrap_or}
+use Rattle.std.specs.Prelude.{◌≡◌, ◌≢◌, ◌||◌, ⊤, Bool, ℕ, List, [], Some, None, IsSomeAnd, bytes_eq, codes, find, is_some, map, not, option_map, true, false, unwrap_or}
+use Rattle.std.specs.List.{list_all}
 use Rattle.std.specs.Str.Parse.{digits_value, without_leading_plus}
-use Rattle.clap.specs.Words.{IsAmong, Kinds, Row, all_of, first_of, kind_of, one_of, subcommand_of}
+use Rattle.clap.specs.Words.{IsAmong, Kinds, Row, Shape, all_of, first_of, kind_of, one_of, subcommand_of}
 use Rattle.clap.specs.ValueTests.{is_unsigned_in}
 use Rattle.clap.specs.declared.error.kind.ErrorKind.TheVariants.{OutOfMemory}
 use Rattle.roster_model.specs.declared.limits.TheConstants.{MOST_LINES, MOST_UNITS, MOST_WORKERS}
@@ -129,6 +130,16 @@ pub record IsTellIn (rows : List Row) (tell : TellLine) : Type 0 where
   pub book : first_of (codes "book") rows ≡ Some tell.book.now
   pub report : first_of (codes "report") rows ≡ option_map (λ path. path.now) tell.report
   pub names : HasNames rows tell.question
+
+-- each argument that the command requires has a value
+abbrev pub has_required : List Row → Shape → Bool
+has_required rows command = list_all (λ rule. not rule.required || is_some (first_of rule.id rows)) command.rules
+
+-- the command of this name is one of the desk's, and what it requires has values
+unfoldable pub IsWhole : List ℕ → List Row → Type 0
+IsWhole name rows =
+    IsSomeAnd (find (λ command. bytes_eq command.name name) desk_app.subs)
+    (λ command. has_required rows command ≡ true)
 
 -- the line is what the words of its command say
 abbrev pub AsksIn : List Row → Line → Type 0

@@ -1,13 +1,13 @@
 //! What the matches of the command line ask for.
 
-ghost use Rattle.std.specs.Prelude.{◌≡◌, ℕ, [], codes, false, true, IfOk, IfSome, List, map, None, unwrap_or};
-ghost use Rattle.std.specs.Prelude.{Some, option_map};
+ghost use Rattle.std.specs.Prelude.{◌≡◌, ◌≢◌, ℕ, [], codes, false, true, IfOk, IfSome, IsSomeAnd, List, map, None};
+ghost use Rattle.std.specs.Prelude.{Some, is_some, option_map, unwrap_or};
 ghost use Rattle.clap.specs.ValueTests.{is_unsigned_in};
 ghost use Rattle.clap.specs.Words.{all_of, first_of, found_of, one_of, rows_of, subcommand_rows_of};
 ghost use Rattle.clap.specs.Words.{Row};
 ghost use Rattle.roster_desk_arguments.specs.Line.{number_spelled, spelling, spelling_of_page};
 ghost use Rattle.roster_desk_arguments.specs.Line.{spelling_of_question, AsksIn, HasNames, IsFlagIn};
-ghost use Rattle.roster_desk_arguments.specs.Line.{IsNumberIn};
+ghost use Rattle.roster_desk_arguments.specs.Line.{IsNumberIn, IsWhole};
 
 use crate::line::{
     BookLine, CarryLine, Line, Page, PageLine, PlanLine, Question, RepairLine, TableLine, TellLine,
@@ -27,8 +27,10 @@ pub(crate) fn asked<'a>(
     alloc: Global,
     matches: &ArgMatches<'a>,
 ) -> Result<Option<Line<'a>>, AllocError>
-    ensures { IfOk result (λ asked. IfSome asked (λ line. (rows : List Row)
+    ensures asks { IfOk result (λ asked. IfSome asked (λ line. (rows : List Row)
         × (subcommand_rows_of matches.now ≡ Some (spelling line, rows)) × AsksIn rows line)) }
+    ensures some { IsSomeAnd (subcommand_rows_of matches.now) (λ found. IsWhole found.0 found.1)
+        → IfOk result (λ asked. is_some asked ≡ true) }
 {
     let Some((command, found)) = matches.subcommand() else {
         return Ok(None);
@@ -44,6 +46,8 @@ pub(crate) fn asked<'a>(
 fn asked_of<'a>(command: &str, found: &ArgMatches<'a>) -> Option<Line<'a>>
     ensures named { IfSome result (λ line. spelling line ≡ command.now) }
     ensures asks { IfSome result (AsksIn (rows_of (found_of found.now))) }
+    ensures some { IsWhole command.now (rows_of (found_of found.now)) → command.now ≢ codes "book"
+        → command.now ≢ codes "repair" → is_some result ≡ true }
 {
     match command {
         "plan" => planned(found),
@@ -109,6 +113,8 @@ fn effort(found: &ArgMatches<'_>) -> u32
 fn planned<'a>(found: &ArgMatches<'a>) -> Option<Line<'a>>
     ensures named { IfSome result (λ line. spelling line ≡ codes "plan") }
     ensures asks { IfSome result (AsksIn (rows_of (found_of found.now))) }
+    ensures some { is_some (first_of (codes "book") (rows_of (found_of found.now))) ≡ true
+        → is_some result ≡ true }
 {
     let book = value(found, "book")?;
     let effort = effort(found);
@@ -132,6 +138,8 @@ fn planned<'a>(found: &ArgMatches<'a>) -> Option<Line<'a>>
 fn why<'a>(found: &ArgMatches<'a>) -> Option<Line<'a>>
     ensures named { IfSome result (λ line. spelling line ≡ codes "why") }
     ensures asks { IfSome result (AsksIn (rows_of (found_of found.now))) }
+    ensures some { is_some (first_of (codes "book") (rows_of (found_of found.now))) ≡ true
+        → is_some result ≡ true }
 {
     let pairing = value(found, "pairing");
     let person = value(found, "person");
@@ -150,6 +158,8 @@ fn why<'a>(found: &ArgMatches<'a>) -> Option<Line<'a>>
 fn limits<'a>(found: &ArgMatches<'a>) -> Option<Line<'a>>
     ensures named { IfSome result (λ line. spelling line ≡ codes "limits") }
     ensures asks { IfSome result (AsksIn (rows_of (found_of found.now))) }
+    ensures some { is_some (first_of (codes "book") (rows_of (found_of found.now))) ≡ true
+        → is_some result ≡ true }
 {
     let person = value(found, "person");
     told(found, Question::Limits { person })
@@ -159,6 +169,9 @@ fn limits<'a>(found: &ArgMatches<'a>) -> Option<Line<'a>>
 fn differences<'a>(found: &ArgMatches<'a>) -> Option<Line<'a>>
     ensures named { IfSome result (λ line. spelling line ≡ codes "diff") }
     ensures asks { IfSome result (AsksIn (rows_of (found_of found.now))) }
+    ensures some { is_some (first_of (codes "book") (rows_of (found_of found.now))) ≡ true
+        → is_some (first_of (codes "other") (rows_of (found_of found.now))) ≡ true
+        → is_some result ≡ true }
 {
     let other = value(found, "other")?;
     told(found, question_of_other(found, other))
@@ -181,6 +194,8 @@ fn question_of_other<'a>(found: &ArgMatches<'a>, other: &'a str) -> Question<'a>
 fn table<'a>(found: &ArgMatches<'a>) -> Option<Line<'a>>
     ensures named { IfSome result (λ line. spelling line ≡ codes "table") }
     ensures asks { IfSome result (AsksIn (rows_of (found_of found.now))) }
+    ensures some { is_some (first_of (codes "book") (rows_of (found_of found.now))) ≡ true
+        → is_some result ≡ true }
 {
     let persons = flag(found, "persons");
     let semicolon = flag(found, "semicolon");
@@ -201,6 +216,8 @@ fn table<'a>(found: &ArgMatches<'a>) -> Option<Line<'a>>
 fn chart<'a>(found: &ArgMatches<'a>) -> Option<Line<'a>>
     ensures named { IfSome result (λ line. spelling line ≡ codes "chart") }
     ensures asks { IfSome result (AsksIn (rows_of (found_of found.now))) }
+    ensures some { is_some (first_of (codes "book") (rows_of (found_of found.now))) ≡ true
+        → is_some result ≡ true }
 {
     let names = value(found, "names");
     told(found, Question::Chart { names })
@@ -211,6 +228,8 @@ fn told<'a>(found: &ArgMatches<'a>, question: Question<'a>) -> Option<Line<'a>>
     requires { HasNames (rows_of (found_of found.now)) question }
     ensures named { IfSome result (λ line. spelling line ≡ spelling_of_question question.entry) }
     ensures asks { IfSome result (AsksIn (rows_of (found_of found.now))) }
+    ensures some { is_some (first_of (codes "book") (rows_of (found_of found.now))) ≡ true
+        → is_some result ≡ true }
 {
     let book = value(found, "book")?;
     let report = value(found, "report");
@@ -225,6 +244,8 @@ fn told<'a>(found: &ArgMatches<'a>, question: Question<'a>) -> Option<Line<'a>>
 fn assigns<'a>(found: &ArgMatches<'a>) -> Option<Line<'a>>
     ensures named { IfSome result (λ line. spelling line ≡ codes "assigns") }
     ensures asks { IfSome result (AsksIn (rows_of (found_of found.now))) }
+    ensures some { is_some (first_of (codes "report") (rows_of (found_of found.now))) ≡ true
+        → is_some result ≡ true }
 {
     let report = value(found, "report")?;
     Some(Line::Assigns(report))
@@ -234,6 +255,8 @@ fn assigns<'a>(found: &ArgMatches<'a>) -> Option<Line<'a>>
 fn of_records<'a>(found: &ArgMatches<'a>, page: Page) -> Option<Line<'a>>
     ensures named { IfSome result (λ line. spelling line ≡ spelling_of_page page) }
     ensures asks { IfSome result (AsksIn (rows_of (found_of found.now))) }
+    ensures some { is_some (first_of (codes "book") (rows_of (found_of found.now))) ≡ true
+        → is_some result ≡ true }
 {
     let book = value(found, "book")?;
     Some(Line::Page(PageLine { book, page }))
@@ -250,6 +273,10 @@ fn change(found: &ArgMatches<'_>) -> usize
 fn repaired<'a>(alloc: Global, found: &ArgMatches<'a>) -> Result<Option<Line<'a>>, AllocError>
     ensures named { IfOk result (λ made. IfSome made (λ line. spelling line ≡ codes "repair")) }
     ensures asks { IfOk result (λ made. IfSome made (AsksIn (rows_of (found_of found.now)))) }
+    ensures some { is_some (first_of (codes "book") (rows_of (found_of found.now))) ≡ true
+        → is_some (first_of (codes "report") (rows_of (found_of found.now))) ≡ true
+        → is_some (first_of (codes "from") (rows_of (found_of found.now))) ≡ true
+        → IfOk result (λ made. is_some made ≡ true) }
 {
     let (Some(book), Some(report)) = (value(found, "book"), value(found, "report")) else {
         return Ok(None);
@@ -274,6 +301,9 @@ fn repaired<'a>(alloc: Global, found: &ArgMatches<'a>) -> Result<Option<Line<'a>
 fn made<'a>(alloc: Global, found: &ArgMatches<'a>) -> Result<Option<Line<'a>>, AllocError>
     ensures named { IfOk result (λ made. IfSome made (λ line. spelling line ≡ codes "book")) }
     ensures asks { IfOk result (λ made. IfSome made (AsksIn (rows_of (found_of found.now)))) }
+    ensures some { is_some (first_of (codes "folder") (rows_of (found_of found.now))) ≡ true
+        → is_some (first_of (codes "month") (rows_of (found_of found.now))) ≡ true
+        → IfOk result (λ made. is_some made ≡ true) }
 {
     let (Some(folder), Some(month)) = (value(found, "folder"), value(found, "month")) else {
         return Ok(None);
@@ -296,6 +326,9 @@ fn made<'a>(alloc: Global, found: &ArgMatches<'a>) -> Result<Option<Line<'a>>, A
 fn carried<'a>(found: &ArgMatches<'a>) -> Option<Line<'a>>
     ensures named { IfSome result (λ line. spelling line ≡ codes "carry") }
     ensures asks { IfSome result (AsksIn (rows_of (found_of found.now))) }
+    ensures some { is_some (first_of (codes "book") (rows_of (found_of found.now))) ≡ true
+        → is_some (first_of (codes "report") (rows_of (found_of found.now))) ≡ true
+        → is_some result ≡ true }
 {
     let book = value(found, "book")?;
     let report = value(found, "report")?;

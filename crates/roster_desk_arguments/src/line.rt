@@ -1,6 +1,6 @@
 //! What the words of the command line ask for.
 
-ghost use Rattle.std.specs.Prelude.{◌≡◌, ◌≢◌, ◌∷◌, [], IfErr, IfOk, map, string_bytes};
+ghost use Rattle.std.specs.Prelude.{◌≡◌, ◌≢◌, [], IfErr, IfOk, map, string_bytes};
 ghost use Rattle.clap.specs.Words.{fault_of, HasKind, Kinds};
 ghost use Rattle.roster_desk_arguments.specs.Commands.{desk_app};
 ghost use Rattle.roster_desk_arguments.specs.Line.{Asks, NamesMemory, TellsKind};
@@ -203,9 +203,9 @@ pub fn read_line<'a>(alloc: Global, words: &'a [String]) -> Result<Line<'a>, Lin
     // What clap refuses, it refuses for one of its own reasons.
     ensures kind { fault_of desk_app (map string_bytes words.entry.now) ≢ []
         → IfErr result (TellsKind (fault_of desk_app (map string_bytes words.entry.now))) }
-    // What clap takes isn't taken for a call for help.
+    // If it takes the words, only want of memory can come.
     ensures taken { fault_of desk_app (map string_bytes words.entry.now) ≡ []
-        → IfErr result (TellsKind (ErrorKind.InvalidSubcommand ∷ [])) }
+        → IfErr result (λ fault. fault ≡ LineFault.Memory) }
 {
     let mut command = desk(alloc)?;
     let matches = match command.try_get_matches_from_mut(words) {

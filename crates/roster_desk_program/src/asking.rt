@@ -1,6 +1,6 @@
 //! What the words of a command line ask for, and what is told if they ask for nothing.
 
-ghost use Rattle.std.specs.Prelude.{◌≡◌, ◌≢◌, ◌⊎◌, [], IfErr, IfOk, OnOk, Some, codes, map, string_bytes};
+ghost use Rattle.std.specs.Prelude.{◌≡◌, ◌≢◌, [], IfErr, IfOk, OnOk, Some, codes, map, string_bytes};
 ghost use Rattle.std.specs.IoError.{error_kind};
 ghost use Rattle.std.specs.Process.{exit_status};
 ghost use Rattle.std.specs.declared.io.ErrorKind.TheVariants.{OutOfMemory};
@@ -37,8 +37,9 @@ pub fn asked<'a, W: Write, E: Write>(
     ensures kind { fault_of desk_app (map string_bytes words.entry.now) ≢ []
         → IfErr result (λ code.
         EndsByKind (fault_of desk_app (map string_bytes words.entry.now)) (exit_status code)) }
+    // If it takes the words, only want of memory can come.
     ensures taken { fault_of desk_app (map string_bytes words.entry.now) ≡ []
-        → IfErr result (λ code. (exit_status code ≡ 2) ⊎ (exit_status code ≡ 3)) }
+        → IfErr result (λ code. exit_status code ≡ 3) }
     // Only one of them is told.
     ensures helped { IfErr result (λ code. exit_status code ≡ 0 → errors.new ≡ errors.old) }
     ensures refused { IfErr result (λ code. exit_status code ≢ 0 → writer.new ≡ writer.old) }
