@@ -101,19 +101,21 @@ fn is_written(rt: &HostRuntime, path: &str, bytes: &[u8]) -> bool {
 }
 
 /// Puts the files into the folder: each is written to a new file, and these take their places if all are
-/// whole. Whether that could be done.
+/// whole. Whether that could be done. If memory runs out, no file is made.
 pub(crate) fn put_files(
     rt: &HostRuntime,
     folder: &str,
     files: &[TableFile],
 ) -> Result<bool, AllocError> {
-    let mut done = true;
+    let mut paths = Vec::new(rt.alloc());
     for file in files {
-        let (_, part) = paths_of(rt, folder, file.table)?;
-        done = done && is_written(rt, part.as_str(), file.bytes.as_slice());
+        paths.push(paths_of(rt, folder, file.table)?)?;
     }
-    for file in files {
-        let (path, part) = paths_of(rt, folder, file.table)?;
+    let mut done = true;
+    for (file, paths) in files.iter().zip(&paths) {
+        done = done && is_written(rt, paths.1.as_str(), file.bytes.as_slice());
+    }
+    for (path, part) in &paths {
         done = done && fs::rename(rt, part.as_str(), path.as_str()).is_ok();
         if !done {
             let _ = fs::remove_file(rt, part.as_str());

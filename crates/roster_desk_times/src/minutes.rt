@@ -6,8 +6,10 @@ use jiff::civil::Date;
 use roster_model::limits::MOST_MINUTES;
 use std::str;
 
-/// The bytes of a month.
-const MONTH_BYTES: usize = 7;
+/// The digits of a year, and of a month in it.
+const YEAR_DIGITS: usize = 4;
+
+const MONTH_DIGITS: usize = 2;
 
 /// The number that digits alone spell.
 fn number(text: &str) -> Option<u32> {
@@ -50,10 +52,10 @@ pub fn read_minutes(text: &[u8]) -> Option<u32>
 /// The first date of the month that a text spells, as `2024-06`.
 pub fn read_month(text: &[u8]) -> Option<Date> {
     let text = str::from_utf8(text).ok()?;
-    if text.len() != MONTH_BYTES {
+    let (year, month) = text.split_once('-')?;
+    if year.len() != YEAR_DIGITS || month.len() != MONTH_DIGITS {
         return None;
     }
-    let (year, month) = text.split_once('-')?;
     let year = i16::try_from(number(year)?).ok()?;
     let month = i8::try_from(number(month)?).ok()?;
     Date::new(year, month, 1).ok()
