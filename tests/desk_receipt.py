@@ -2,8 +2,14 @@
 
 import hashlib
 import os
+import random
 import shutil
+import signal
 import subprocess
+import time
+
+# So often a plan with a receipt is broken off.
+BROKEN_OFF = 10
 
 
 def sum_of(data):
@@ -65,6 +71,8 @@ def receipts(tests, run, desk, root):
         tests.told(f"again {words} keeps nothing", "--keep" in words and read(f"{folder}/kept.txt") != b"kept" and "another file")
     changed_receipts(tests, ran, folder)
     refused_receipts(tests, ran, folder)
+    write(f"{folder}/month.csv", run(f"{root}/bench/month", "1,8,30", "1").stdout)
+    broken_off(tests, script, folder)
 
 
 def changed_receipts(tests, ran, folder):
@@ -89,6 +97,55 @@ def changed_receipts(tests, ran, folder):
     os.remove(f"{folder}/large.csv")
     ends(tests, "again without the book", ran("again", "plan.receipt"), 4, b"", b"error: large.csv can't be opened\n")
     write(f"{folder}/large.csv", book)
+
+
+def broken_off(tests, script, folder):
+    """Ctrl-C at moments of a plan with a receipt, which reaches all that it has started: the receipt is as it was or is
+    whole, of standard output there are the first bytes, and nothing else is left."""
+    room, words = f"{folder}/room", [script, "plan", "--effort", "0", "--workers", "1", "--receipt", "r", "month.csv"]
+    os.mkdir(room)
+
+    def begun():
+        write(f"{folder}/r", b"as it was")
+        return subprocess.Popen(
+            words,
+            cwd=folder,
+            env={**os.environ, "TMPDIR": room},
+            stdout=subprocess.PIPE,
+            stderr=subprocess.PIPE,
+            start_new_session=True,
+            preexec_fn=lambda: signal.signal(signal.SIGINT, signal.SIG_DFL),
+        )
+
+    begin = time.monotonic()
+    plan = begun().communicate()[0]
+    takes, receipt = time.monotonic() - begin, read(f"{folder}/r")
+    files = {*os.listdir(folder)}
+    tests.told("a receipt that is broken off: whole", not receipt.startswith(b"RECEIPT\n") and "no receipt", os.listdir(room) and "something is left")
+    dice, were_broken = random.Random(1), 0
+    for turn in range(BROKEN_OFF):
+        ran = begun()
+        # Not before the script has a folder to remove.
+        while not os.listdir(room) and ran.poll() is None:
+            time.sleep(0.001)
+        time.sleep(dice.uniform(0.05, 1.1 * takes))
+        try:
+            os.killpg(ran.pid, signal.SIGINT)
+        except ProcessLookupError:
+            pass  # it ended just now
+        stdout, stderr = ran.communicate()
+        were_broken += ran.returncode != 0
+        tests.told(
+            f"a receipt that is broken off in turn {turn}",
+            ran.returncode not in (0, -signal.SIGINT, 128 + signal.SIGINT) and f"status {ran.returncode}, {stderr}",
+            not plan.startswith(stdout) and "another plan",
+            ran.returncode == 0 and stdout != plan and "half a plan",
+            read(f"{folder}/r") not in (b"as it was", receipt) and "another receipt",
+            {*os.listdir(folder)} != files and f"{sorted(os.listdir(folder))} are there",
+            os.listdir(room) and "something is left",
+        )
+    tests.told("receipts that are broken off", not were_broken and "none was")
+    os.remove(f"{folder}/r")
 
 
 def without_room(tests, ran, folder):
